@@ -1,0 +1,94 @@
+-- Section 8: the lines marked P, as one table that is computed from the definitions.
+use mathlib.Core.Path.{_≡_, refl}
+use mathlib.Core.Bool.{Bool, true, false}
+use mathlib.Core.List.{List, [], _∷_, map}
+use Prim.Native.Nat.{ℕ}
+use lib.ListN.{length, replicate}
+use Rattle.quantity.specs.Ranges.{inRange}
+use Rattle.quantity.specs.Rounding.{roundUp}
+use Rattle.quantity.specs.Sums.{total, every, listOf}
+use Rattle.quantity.specs.Refusals.{numberOf, placeOf, firstOf}
+use Rattle.quantity.specs.declared.refusal.Refusal.{Refusal}
+use Rattle.operator.specs.Held.{keeps}
+use Rattle.operator.specs.Compactor.{compactorLeast, compactorAfter}
+use Rattle.operator.specs.Filter.{besideAfter, filterLeast, filterGreatest, filterAfter}
+use Rattle.operator.specs.Delayer.{ofAge, olderThan, staysOf, delayerLeast, delayerAfter}
+use Rattle.operator.specs.Operators.{leastOutput, greatestOutput, heldAfter, numberInRange, limiter, compactor, expander, filter, delayer}
+use Rattle.operator.specs.Flows.{flowOf, outputOn, heldOn, none}
+use Rattle.operator.specs.Classes.{burst, mostIn, changedTo}
+use Rattle.operator.specs.FilterPart.{slower}
+use Rattle.operator.specs.Single
+use Rattle.operator.specs.declared.Kind.{Kind}
+use Rattle.operator.specs.declared.Operator.{Operator}
+use Rattle.operator.specs.declared.single.Stepped.{Stepped}
+use Rattle.sheet.specs.declared.Place.{Place}
+use Rattle.sheet.specs.Paths.{Line}
+use Rattle.figures.specs.Progress.{behind, progressAt}
+use Rattle.figures.specs.Figures.{partCapacity, partDelay, capacity, ownDelay, pairs, isFramed, framedAfterFilter, changedQuota, figureTooLarge, rateTooLow}
+use Rattle.figures.specs.Answers.{operatorAt, before, pairedAt, capacityAt, delayAt, pathDelay, operatorsCases, lineCases}
+
+-- a path of smooth (m, Q), its delay wanted and its operators, all on link 0
+abbrev pub path : ℕ → ℕ → ℕ → List Operator → Line
+path m Q wanted operators =
+    record {
+      declaration = record { kind = Kind.Smooth; interval = record { 0 = m }; quota = record { 0 = Q } };
+      wanted = wanted;
+      places = map (λ operator. record { operator = operator; link = record { 0 = 0 } }) operators;
+    }
+
+-- what a line of the table says: a refusal's number and place; or the capacities, the delays and the path's delay
+pub data Outcome : Type 0 where
+  refused : ℕ → ℕ → Outcome
+  figures : List ℕ → List ℕ → ℕ → Outcome
+  output : List ℕ → Outcome
+
+abbrev pub outcome : Line → Outcome
+outcome line =
+    firstOf (lineCases line) (λ why. refused (numberOf why) (placeOf why))
+    (figures (listOf (capacityAt line) (length (line .places))) (listOf (delayAt line) (length (line .places))) (pathDelay line))
+
+-- a new filter 2's first step, of input 5
+abbrev pub stepOutcome : Stepped → Outcome
+stepOutcome (Stepped.Sent s next) = output (s .0 ∷ [])
+stepOutcome (Stepped.Refused why) = refused (numberOf why) (placeOf why)
+
+abbrev pub filtered : ℕ → Outcome
+filtered choice =
+    stepOutcome (Single.stepOf Single.mostGiven (record { operator = filter 2; slot = record { 0 = 0 }; held = record { 0 = 0 }; beside = record { 0 = 0 } }) (replicate 64 0) 5 choice)
+
+pub frames : List Operator
+frames = compactor 10 ∷ expander 10 ∷ compactor 10 ∷ expander 10 ∷ []
+
+pub computed : List Outcome
+computed =
+    outcome (path 10 30 30 frames)
+    ∷ outcome (path 10 30 29 frames)
+    ∷ outcome (path 10 30 40 (limiter 3 ∷ compactor 10 ∷ expander 10 ∷ []))
+    ∷ outcome (path 10 30 29 (filter 3 ∷ delayer 5 ∷ filter 3 ∷ delayer 4 ∷ []))
+    ∷ outcome (path 10 30 30 (limiter 2 ∷ []))
+    ∷ outcome (path 10 30 30 (limiter 4 ∷ []))
+    ∷ outcome (path 4 8 30 (compactor 6 ∷ []))
+    ∷ output (listOf (outputOn (compactor 3) (flowOf (1 ∷ 2 ∷ 0 ∷ 3 ∷ 0 ∷ 0 ∷ [])) none) 6)
+    ∷ filtered 3
+    ∷ filtered 4
+    ∷ output (listOf (outputOn (delayer 2) (flowOf (4 ∷ 0 ∷ 0 ∷ [])) none) 3)
+    ∷ []
+
+pub expected : List Outcome
+expected =
+    figures (30 ∷ 30 ∷ 30 ∷ 30 ∷ []) (10 ∷ 0 ∷ 10 ∷ 10 ∷ []) 30
+    ∷ refused 9 0
+    ∷ figures (60 ∷ 30 ∷ 30 ∷ []) (20 ∷ 10 ∷ 10 ∷ []) 40
+    ∷ figures (60 ∷ 75 ∷ 75 ∷ 87 ∷ []) (20 ∷ 5 ∷ 0 ∷ 4 ∷ []) 29
+    ∷ refused 8 0
+    ∷ figures (60 ∷ []) (15 ∷ []) 15
+    ∷ figures (24 ∷ []) (6 ∷ []) 6
+    ∷ output (0 ∷ 0 ∷ 0 ∷ 3 ∷ 0 ∷ 0 ∷ [])
+    ∷ output (5 ∷ [])
+    ∷ refused 14 0
+    ∷ output (0 ∷ 0 ∷ 4 ∷ [])
+    ∷ []
+
+pub reference-paths : computed ≡ expected
+unfolding computed expected frames roundUp total every listOf inRange keeps compactorLeast compactorAfter besideAfter filterLeast filterGreatest filterAfter ofAge olderThan staysOf delayerLeast delayerAfter leastOutput greatestOutput heldAfter numberInRange outputOn heldOn burst mostIn changedTo slower Single.stepOf Single.sent Single.heldNext Single.choiceAbove Single.leavesTooMuch Single.stateNext Single.heldIn Single.usesHeld Single.usesBeside Single.wordsUsed Single.storedFits Single.wordFits Single.storedUnusable Single.unusable behind progressAt partCapacity partDelay capacity ownDelay pairs isFramed framedAfterFilter changedQuota figureTooLarge rateTooLow operatorAt before pairedAt capacityAt delayAt pathDelay operatorsCases
+reference-paths = refl

@@ -1,0 +1,35 @@
+-- The flows along a path, and what the figures promise of them (sections 3 and 4): of all flows that keep the declaration and all choices that fit.
+use Prim.Native.Nat.{ℕ, zero, suc, _≤_, _<_}
+use lib.ListN.{length}
+use Rattle.quantity.specs.Choice.{pick}
+use Rattle.operator.specs.Flows.{Flow, heldOn, outputOn, Fitting, InTime}
+use Rattle.operator.specs.Classes.{Keeps}
+use Rattle.operator.specs.declared.Operator.{Operator}
+use Rattle.sheet.specs.Paths.{Line}
+use Rattle.figures.specs.Figures.{isFramed}
+use Rattle.figures.specs.Answers.{operatorAt, before, capacityAt, pathDelay}
+
+-- the flow into operator k, of an input flow and a flow of choices for each operator: the output of each is the input of the next in the same slot
+unfoldable pub flowInto : (ℕ → Operator) → Flow → (ℕ → Flow) → ℕ → Flow
+flowInto operators r choices zero = r
+flowInto operators r choices (suc k) = outputOn (operators k) (flowInto operators r choices k) (choices k)
+
+-- the flow that the class before operator k is of: a filter and a delayer keep the class of the flow into their part
+unfoldable pub flowOfClass : (ℕ → Operator) → Flow → (ℕ → Flow) → ℕ → Flow
+flowOfClass operators r choices zero = r
+flowOfClass operators r choices (suc k) = pick (isFramed (operators k)) (flowInto operators r choices (suc k)) (flowOfClass operators r choices k)
+
+module _ (line : Line) (r : Flow) (choices : ℕ → Flow) where
+  -- every choice of every operator fits
+  abbrev pub AllFit : Type 0
+  AllFit = (k : ℕ) → k < length (line .places) → Fitting (operatorAt line k) (flowInto (operatorAt line) r choices k) (choices k)
+
+  -- what the figures promise
+  pub record Promised : Type 0 where
+    -- every flow between operators keeps the class that the figures give it
+    pub class-kept : (k : ℕ) → k ≤ length (line .places) → Keeps (before line k .class) (flowOfClass (operatorAt line) r choices k)
+    -- no operator holds more than its capacity at any slot's end, nor a filter's h
+    pub held-within : (k : ℕ) → k < length (line .places) → (n : ℕ) → heldOn (operatorAt line k) (flowInto (operatorAt line) r choices k) (choices k) n .b ≤ capacityAt line k
+    pub beside-within : (k : ℕ) → k < length (line .places) → (n : ℕ) → heldOn (operatorAt line k) (flowInto (operatorAt line) r choices k) (choices k) n .h ≤ capacityAt line k
+    -- what entered by the end of slot i has left the last operator by the end of slot i + delay
+    pub in-time : InTime (pathDelay line) r (flowInto (operatorAt line) r choices (length (line .places)))

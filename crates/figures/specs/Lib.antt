@@ -1,0 +1,4 @@
+pub mod Progress
+pub mod Figures
+pub mod Answers
+pub mod Along

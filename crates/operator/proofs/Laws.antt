@@ -1,0 +1,171 @@
+-- The laws of flows, as a list: what the operators promise of every flow, with nothing of words or code.
+-- A path's figures rest on these and on nothing inside the operators. Theorems are those of source document 000.
+use mathlib.Core.Path.{_≡_}
+use mathlib.Core.List.{List, [], _∷_}
+use Prim.Native.Nat.{ℕ, suc, _+_, _*_, _/_, _≤_}
+use Rattle.quantity.specs.Sums.{total, listOf}
+use Rattle.quantity.specs.Rounding.{roundUp}
+use Rattle.operator.specs.Held.{Held, nothing}
+use Rattle.operator.specs.Operators.{leastOutput, greatestOutput, heldAfter, limiter, compactor, expander, filter, delayer}
+use Rattle.operator.specs.Whole.{Whole}
+use Rattle.operator.specs.Flows.{Flow, flowOf, Smooth, Uniform, heldOn, outputOn, Fitting, none, InTime, Behind, Envelope}
+use Rattle.operator.specs.Classes.{Class, Keeps, burst, mostIn, changedTo}
+use Rattle.operator.specs.FilterPart.{Slowest, unfiltered, filtered, slower, limited, Served}
+use Rattle.operator.specs.declared.Operator.{Operator}
+use Rattle.operator.proofs.Conservation as Conservation
+use Rattle.operator.proofs.Windows as Windows
+use Rattle.operator.proofs.Limiter as Limiter
+use Rattle.operator.proofs.Compactor as Compactor
+use Rattle.operator.proofs.Expander as Expander
+use Rattle.operator.proofs.FilterPart as FilterPart
+use Rattle.operator.proofs.Misreadings as Misreadings
+
+-- Conservation, and intervals that are never empty.
+
+-- no output is above what was there
+pub greatest-le-there : (op : Operator) (t : ℕ) (x : Held) (r : ℕ) → greatestOutput op t x r ≤ x .b + r
+greatest-le-there = Conservation.greatest-le-there
+
+-- the interval is never empty, so choice 0 always fits
+pub least-le-greatest : (op : Operator) (t : ℕ) (x : Held) (r : ℕ) → Whole op x → leastOutput op t x r ≤ greatestOutput op t x r
+least-le-greatest = Conservation.least-le-greatest
+
+pub whole-nothing : (op : Operator) → Whole op nothing
+whole-nothing = Conservation.whole-nothing
+
+pub whole-after : (op : Operator) (t : ℕ) (x : Held) (r s : ℕ) → Whole op x → leastOutput op t x r ≤ s → s ≤ greatestOutput op t x r → Whole op (heldAfter op x r s)
+whole-after = Conservation.whole-after
+
+pub whole-on : (op : Operator) (r c : Flow) → Fitting op r c → (n : ℕ) → Whole op (heldOn op r c n)
+whole-on = Conservation.whole-on
+
+pub none-fits : (op : Operator) (r : Flow) → Fitting op r none
+none-fits = Conservation.none-fits
+
+-- what came is what left and what is held
+pub conserved : (op : Operator) (r c : Flow) → Fitting op r c → (n : ℕ) → total r n ≡ total (outputOn op r c) n + heldOn op r c n .b
+conserved = Conservation.conserved
+
+pub behind : (op : Operator) (r c : Flow) → Fitting op r c → Behind r (outputOn op r c)
+behind = Conservation.behind
+
+-- Delays add (Theorem 6).
+pub in-time-add : (D E : ℕ) (r s u : Flow) → InTime D r s → InTime E s u → InTime (D + E) r u
+in-time-add = Conservation.in-time-add
+
+-- Windows, change of interval and envelope (Theorem 1).
+
+pub uniform-is-smooth : (m Q : ℕ) (r : Flow) → Uniform m Q r → Smooth m Q r
+uniform-is-smooth = Windows.uniform-is-smooth
+
+pub keeps-smooth : (c : Class) (r : Flow) → Keeps c r → Smooth (c .interval) (c .quota) r
+keeps-smooth = Windows.keeps-smooth
+
+-- no window of n slots has more than the most that the class carries in n slots
+pub window : (c : Class) (r : Flow) → 1 ≤ c .interval → Keeps c r → (a n : ℕ) → total r (a + n) ≤ total r a + mostIn c n
+window = Windows.window
+
+-- the flow keeps the changed class
+pub keeps-changed : (n : ℕ) (c : Class) (r : Flow) → 1 ≤ c .interval → Keeps c r → Keeps (changedTo n c) r
+keeps-changed = Windows.keeps-changed
+
+pub envelope : (c : Class) (r : Flow) (R : ℕ) → 1 ≤ c .interval → c .quota ≤ c .interval * R → Keeps c r → Envelope (burst c) R r
+envelope = Windows.envelope
+
+-- Limiter R (Theorem 3).
+
+-- a is the moment it was last empty: from then on it sent R in each slot
+pub limiter-last-empty : (R : ℕ) (r c : Flow) → Fitting (limiter R) r c → (n : ℕ)
+    → (a : ℕ) × (k : ℕ) × (a + k ≡ n) × (total (outputOn (limiter R) r c) n ≡ total r a + k * R)
+limiter-last-empty = Limiter.limiter-last-empty
+
+pub limiter-held : (R B : ℕ) (r c : Flow) → Fitting (limiter R) r c → Envelope B R r → (n : ℕ) → heldOn (limiter R) r c n .b ≤ B
+limiter-held = Limiter.limiter-held
+
+pub limiter-in-time : (R B : ℕ) (r c : Flow) → 1 ≤ R → Fitting (limiter R) r c → Envelope B R r → InTime (roundUp B R) r (outputOn (limiter R) r c)
+limiter-in-time = Limiter.limiter-in-time
+
+pub limiter-uniform : (R : ℕ) (r c : Flow) → Fitting (limiter R) r c → Uniform 1 R (outputOn (limiter R) r c)
+limiter-uniform = Limiter.limiter-uniform
+
+-- Compactor n (Theorem 4).
+
+-- its totals exactly: by the end of slot k it has sent what came before the block of slot k
+pub compactor-totals : (n : ℕ) (r c : Flow) → 1 ≤ n → Fitting (compactor n) r c → (k : ℕ) → total (outputOn (compactor n) r c) (suc k) ≡ total r (k / n * n)
+compactor-totals = Compactor.compactor-totals
+
+pub compactor-held : (n Q : ℕ) (r c : Flow) → 1 ≤ n → Fitting (compactor n) r c → Smooth n Q r → (k : ℕ) → heldOn (compactor n) r c k .b ≤ Q
+compactor-held = Compactor.compactor-held
+
+pub compactor-in-time : (n : ℕ) (r c : Flow) → 1 ≤ n → Fitting (compactor n) r c → InTime n r (outputOn (compactor n) r c)
+compactor-in-time = Compactor.compactor-in-time
+
+pub compactor-uniform : (n Q : ℕ) (r c : Flow) → 1 ≤ n → Fitting (compactor n) r c → Smooth n Q r → Uniform n Q (outputOn (compactor n) r c)
+compactor-uniform = Compactor.compactor-uniform
+
+-- Expander n (Theorem 5).
+
+-- at each block's end it has sent all that came
+pub expander-totals : (n : ℕ) (r c : Flow) → 1 ≤ n → Fitting (expander n) r c → (j : ℕ) → total (outputOn (expander n) r c) (j * n) ≡ total r (j * n)
+expander-totals = Expander.expander-totals
+
+pub expander-held : (n Q : ℕ) (r c : Flow) → 1 ≤ n → Fitting (expander n) r c → Smooth n Q r → (k : ℕ) → heldOn (expander n) r c k .b ≤ Q
+expander-held = Expander.expander-held
+
+pub expander-in-time : (n : ℕ) (r c : Flow) → 1 ≤ n → Fitting (expander n) r c → InTime n r (outputOn (expander n) r c)
+expander-in-time = Expander.expander-in-time
+
+pub expander-smooth : (n Q : ℕ) (r c : Flow) → 1 ≤ n → Fitting (expander n) r c → Smooth n Q r → Smooth n Q (outputOn (expander n) r c)
+expander-smooth = Expander.expander-smooth
+
+-- Expander n, then compactor n: the pair's output is the compactor's own on the expander's input, so the pair is late by n in all (Theorem 7).
+module _ (n : ℕ) (r c e : Flow) (large : 1 ≤ n) (first : Fitting (expander n) r c) (second : Fitting (compactor n) (outputOn (expander n) r c) e) where
+  pub pair-totals : (k : ℕ) → total (outputOn (compactor n) (outputOn (expander n) r c) e) k ≡ total (outputOn (compactor n) r none) k
+  pair-totals = Expander.pair-totals n r c e large first second
+
+  pub pair-in-time : InTime n r (outputOn (compactor n) (outputOn (expander n) r c) e)
+  pair-in-time = Expander.pair-in-time n r c e large first second
+
+-- The filter part (Theorems 8 to 10). r is the flow into the part, s the flow into the operator.
+
+-- the invariant: what a limiter P would have sent of r has left e slots later; it holds at the start, and each operator keeps it
+pub served-start : (r : Flow) → Served unfiltered 0 r r
+served-start = FilterPart.served-start
+
+pub served-delayer : (P : Slowest) (e d : ℕ) (r s c : Flow) → Served P e r s → Fitting (delayer d) s c → Served P (e + d) r (outputOn (delayer d) s c)
+served-delayer = FilterPart.served-delayer
+
+pub served-filter : (P : Slowest) (e R : ℕ) (r s c : Flow) → Served P e r s → Fitting (filter R) s c → Served (slower P R) e r (outputOn (filter R) s c)
+served-filter = FilterPart.served-filter
+
+-- the part's delay, behind a filter and before any
+pub filtered-in-time : (P e B : ℕ) (r s : Flow) → 1 ≤ P → Envelope B P r → Served (filtered P) e r s → InTime (roundUp B P + e) r s
+filtered-in-time = FilterPart.filtered-in-time
+
+pub unfiltered-in-time : (e : ℕ) (r s : Flow) → Served unfiltered e r s → InTime e r s
+unfiltered-in-time = FilterPart.unfiltered-in-time
+
+-- what an operator of the part holds, behind a filter and before any
+pub filtered-held : (op : Operator) (P e B : ℕ) (r s c : Flow) → Fitting op s c → Behind r s → Envelope B P r → Served (filtered P) e r (outputOn op s c)
+    → (n : ℕ) → heldOn op s c n .b ≤ B + e * P
+filtered-held = FilterPart.filtered-held
+
+pub unfiltered-held : (op : Operator) (e M : ℕ) (r s c : Flow) → Fitting op s c → Behind r s → ((a : ℕ) → total r (a + e) ≤ total r a + M) → Served unfiltered e r (outputOn op s c)
+    → (n : ℕ) → heldOn op s c n .b ≤ M
+unfiltered-held = FilterPart.unfiltered-held
+
+-- a filter's h keeps the bound of its b
+pub filter-beside : (R P e B : ℕ) (Q : Slowest) (r s c : Flow) → slower Q R ≡ filtered P → Behind r s → Envelope B P r → Served Q e r s
+    → (n : ℕ) → heldOn (filter R) s c n .h ≤ B + e * P
+filter-beside = FilterPart.filter-beside
+
+-- Section 9: a limiter does not keep smooth flows smooth, by the paper's own example.
+
+pub before-limiter : Smooth 4 4 (flowOf (0 ∷ 0 ∷ 0 ∷ 4 ∷ 4 ∷ 0 ∷ 0 ∷ 0 ∷ []))
+before-limiter = Misreadings.before-limiter
+
+pub behind-limiter : listOf (outputOn (limiter 2) (flowOf (0 ∷ 0 ∷ 0 ∷ 4 ∷ 4 ∷ 0 ∷ 0 ∷ 0 ∷ [])) none) 8 ≡ 0 ∷ 0 ∷ 0 ∷ 2 ∷ 2 ∷ 2 ∷ 2 ∷ 0 ∷ []
+behind-limiter = Misreadings.behind-limiter
+
+pub not-smooth-behind-limiter : Smooth 4 4 (outputOn (limiter 2) (flowOf (0 ∷ 0 ∷ 0 ∷ 4 ∷ 4 ∷ 0 ∷ 0 ∷ 0 ∷ [])) none) → ⊥
+not-smooth-behind-limiter = Misreadings.not-smooth-behind-limiter

@@ -1,0 +1,15 @@
+pub mod Held
+pub mod Limiter
+pub mod Compactor
+pub mod Expander
+pub mod Filter
+pub mod Delayer
+pub mod Operators
+pub mod Flows
+pub mod Classes
+pub mod FilterPart
+pub mod Whole
+pub mod Declarations
+pub mod Single
+pub mod Meter
+pub mod Metering

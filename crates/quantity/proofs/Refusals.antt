@@ -1,0 +1,34 @@
+-- A call answers its result where, and only where, no refusal of its list stands: by induction on the list, for every call.
+use mathlib.Core.Path.{_≡_, refl, ap, _∙_}
+use mathlib.Core.Bool.{Bool, true, false}
+use mathlib.Core.List.{List, [], _∷_, _++_}
+use Rattle.quantity.specs.Choice.{pick}
+use Rattle.quantity.specs.Refusals.{Case, firstOf}
+use Rattle.quantity.specs.declared.refusal.Refusal.{Refusal}
+
+-- no case of the list stands
+abbrev pub NoneStands : List Case → Type 0
+NoneStands [] = Unit {0}
+NoneStands (c ∷ cs) = (c .stands ≡ false) × NoneStands cs
+
+pub none-of-both : (cs ds : List Case) → NoneStands cs → NoneStands ds → NoneStands (cs ++ ds)
+none-of-both [] ds ns ms = ms
+none-of-both (c ∷ cs) ds ns ms = (ns .0, none-of-both cs ds (ns .1) ms)
+
+pub none-of-each : (cs ds : List Case) → NoneStands (cs ++ ds) → NoneStands cs × NoneStands ds
+none-of-each [] ds ns = (tt, ns)
+none-of-each (c ∷ cs) ds ns = let (first, second) = none-of-each cs ds (ns .1) in ((ns .0, first), second)
+
+module _ {A : Type 0} (refused : Refusal → A) (result : A) where
+  pub firstOf-none : (cs : List Case) → NoneStands cs → firstOf cs refused result ≡ result
+  firstOf-none [] ns = refl
+  firstOf-none (c ∷ cs) ns = ap (λ (t : Bool). pick t (refused (c .refusal)) (firstOf cs refused result)) (ns .0) ∙ firstOf-none cs (ns .1)
+
+  -- an answer of which something holds that holds of no refusal
+  pub none-where-result : (P : A → Type 0) → ((why : Refusal) → P (refused why) → ⊥) → (cs : List Case) → P (firstOf cs refused result) → NoneStands cs
+  none-where-result P never [] h = tt
+  none-where-result P never (c ∷ cs) h = by-test (c .stands) refl (none-where-result P never cs)
+    where
+      by-test : (t : Bool) → c .stands ≡ t → (P (firstOf cs refused result) → NoneStands cs) → NoneStands (c ∷ cs)
+      by-test true e rest = absurd (never (c .refusal) (rw e at h))
+      by-test false e rest = (e, rest (rw e at h))

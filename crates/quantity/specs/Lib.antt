@@ -1,0 +1,6 @@
+pub mod Choice
+pub mod Ranges
+pub mod Refusals
+pub mod Sums
+pub mod Rounding
+pub mod Limits

@@ -1,0 +1,173 @@
+// The quantities of document 01, section 1: each kind of number is a type of its own and carries its own least and largest value.
+
+ghost use mathlib.Core.Path.{_≡_};
+ghost use Rattle.quantity.specs.Ranges.{Range, inRange, checkedInterval, checkedQuota, checkedRate, checkedDelay, checkedWantedDelay, checkedLink};
+
+pub mod refusal;
+
+// A number of slots, or a slot's number.
+pub struct Slots(pub u32);
+
+impl Slots {
+    // The last slot's number.
+    pub const LAST: u32 = 1_073_741_822;
+}
+
+// A number of units.
+pub struct Units(pub u64);
+
+impl Units {
+    // The largest amount that is given or stored (section 7, refusal 1).
+    pub const LARGEST: u64 = 1_073_741_823;
+}
+
+// Whether a value lies from the least to the largest of its kind.
+fn within(value: u32, least: u32, largest: u32) -> bool
+    ensures { λ r. ⌜ r ≡ inRange (record { least = least; largest = largest }) value ⌝ }
+{
+    least <= value && value <= largest
+}
+
+// An interval m, in slots.
+pub struct Interval(pub u32);
+
+pub enum CheckedInterval {
+    InRange(Interval),
+    OutOfRange,
+}
+
+impl Interval {
+    pub const LEAST: u32 = 1;
+
+    pub const LARGEST: u32 = 1024;
+
+    pub fn checked(value: u32) -> CheckedInterval
+        ensures { λ r. ⌜ r ≡ checkedInterval value ⌝ }
+    {
+        if within(value, Interval::LEAST, Interval::LARGEST) {
+            CheckedInterval::InRange(Interval(value))
+        } else {
+            CheckedInterval::OutOfRange
+        }
+    }
+}
+
+// A declared quota Q, in units.
+pub struct Quota(pub u32);
+
+pub enum CheckedQuota {
+    InRange(Quota),
+    OutOfRange,
+}
+
+impl Quota {
+    pub const LEAST: u32 = 1;
+
+    pub const LARGEST: u32 = 65535;
+
+    pub fn checked(value: u32) -> CheckedQuota
+        ensures { λ r. ⌜ r ≡ checkedQuota value ⌝ }
+    {
+        if within(value, Quota::LEAST, Quota::LARGEST) {
+            CheckedQuota::InRange(Quota(value))
+        } else {
+            CheckedQuota::OutOfRange
+        }
+    }
+}
+
+// A rate R, in units per slot.
+pub struct Rate(pub u32);
+
+pub enum CheckedRate {
+    InRange(Rate),
+    OutOfRange,
+}
+
+impl Rate {
+    pub const LEAST: u32 = 1;
+
+    pub const LARGEST: u32 = 65535;
+
+    pub fn checked(value: u32) -> CheckedRate
+        ensures { λ r. ⌜ r ≡ checkedRate value ⌝ }
+    {
+        if within(value, Rate::LEAST, Rate::LARGEST) {
+            CheckedRate::InRange(Rate(value))
+        } else {
+            CheckedRate::OutOfRange
+        }
+    }
+}
+
+// The delay d of a delayer, in slots.
+pub struct Delay(pub u32);
+
+pub enum CheckedDelay {
+    InRange(Delay),
+    OutOfRange,
+}
+
+impl Delay {
+    pub const LEAST: u32 = 1;
+
+    pub const LARGEST: u32 = 64;
+
+    pub fn checked(value: u32) -> CheckedDelay
+        ensures { λ r. ⌜ r ≡ checkedDelay value ⌝ }
+    {
+        if within(value, Delay::LEAST, Delay::LARGEST) {
+            CheckedDelay::InRange(Delay(value))
+        } else {
+            CheckedDelay::OutOfRange
+        }
+    }
+}
+
+// The delay wanted of a path, in slots.
+pub struct WantedDelay(pub u32);
+
+pub enum CheckedWantedDelay {
+    InRange(WantedDelay),
+    OutOfRange,
+}
+
+impl WantedDelay {
+    pub const LEAST: u32 = 0;
+
+    pub const LARGEST: u32 = 65535;
+
+    pub fn checked(value: u32) -> CheckedWantedDelay
+        ensures { λ r. ⌜ r ≡ checkedWantedDelay value ⌝ }
+    {
+        if within(value, WantedDelay::LEAST, WantedDelay::LARGEST) {
+            CheckedWantedDelay::InRange(WantedDelay(value))
+        } else {
+            CheckedWantedDelay::OutOfRange
+        }
+    }
+}
+
+// A link's number.
+pub struct Link(pub u32);
+
+pub enum CheckedLink {
+    InRange(Link),
+    OutOfRange,
+}
+
+impl Link {
+    pub const LEAST: u32 = 0;
+
+    pub const LARGEST: u32 = 15;
+
+    pub fn checked(value: u32) -> CheckedLink
+        ensures { λ r. ⌜ r ≡ checkedLink value ⌝ }
+    {
+        if within(value, Link::LEAST, Link::LARGEST) {
+            CheckedLink::InRange(Link(value))
+        } else {
+            CheckedLink::OutOfRange
+        }
+    }
+}

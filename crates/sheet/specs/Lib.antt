@@ -1,0 +1,5 @@
+pub mod Numbers
+pub mod Paths
+pub mod Bodies
+pub mod Fields
+pub mod Sheets

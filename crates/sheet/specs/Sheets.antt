@@ -1,0 +1,108 @@
+-- Section 5: one field 01, one 02, then 1 to 16 of 03; what reading and writing a sheet answer (section 7).
+use Prim.Native.Nat.{ℕ, zero, suc, _+_}
+use mathlib.Core.Bool.{Bool, true, false, not}
+use mathlib.Core.List.{List, [], _∷_, _++_}
+use lib.ListN.{length, drop}
+use lib.Dec.{leb, ltb, eqb}
+use Rattle.quantity.specs.Choice.{pick, both, either}
+use Rattle.quantity.specs.Ranges.{inRange, wantedDelayRange}
+use Rattle.quantity.specs.Refusals.{Case, _⇒_, firstOf}
+use Rattle.quantity.specs.declared.refusal.Refusal.the-variants.{Unusable, HeaderCutOff, FieldUnexpected, OutOfRange}
+use Rattle.operator.specs.Declarations.{declarationInRange}
+use Rattle.sheet.specs.declared.Place.{Place}
+use Rattle.sheet.specs.declared.Path.{Path}
+use Rattle.sheet.specs.declared.read.Verdict.{Verdict}
+use Rattle.sheet.specs.declared.read.ReadSheet.{ReadSheet}
+use Rattle.sheet.specs.declared.write.Written.{Written}
+use Rattle.sheet.specs.Paths.{Line, standsFor, valueOf, noPath}
+use Rattle.sheet.specs.Bodies.{declarationIn, wantedIn, placeIn, placeInRange, declarationBody, wantedBody, placeBody}
+use Rattle.sheet.specs.Fields.{declarationFormat, wantedFormat, placeFormat, fieldOf, bodyAt, headerCutOff, fieldCases}
+
+-- where the fields begin: 01 at the sheet's start, 02 behind its 10 bytes, the first 03 behind 7 more, each next one 9 bytes on
+abbrev pub declarationAt : ℕ
+declarationAt = 0
+
+abbrev pub wantedAt : ℕ
+wantedAt = 10
+
+abbrev pub placesAt : ℕ
+placesAt = 17
+
+abbrev pub placeLength : ℕ
+placeLength = 9
+
+-- the operators behind the first, so many more at the most: either the sheet ends, or one more field begins
+unfoldable pub furtherCases : ℕ → ℕ → List ℕ → List Case
+furtherCases zero at sheet = pick (eqb at (length sheet)) [] ((headerCutOff sheet at ⇒ HeaderCutOff at) ∷ (true ⇒ FieldUnexpected at) ∷ [])
+furtherCases (suc more) at sheet = pick (eqb at (length sheet)) [] (fieldCases sheet at placeFormat ++ furtherCases more (at + placeLength) sheet)
+
+-- all that a sheet is refused for, in checking order
+abbrev pub sheetCases : List ℕ → List Case
+sheetCases sheet =
+    fieldCases sheet declarationAt declarationFormat
+    ++ fieldCases sheet wantedAt wantedFormat
+    ++ fieldCases sheet placesAt placeFormat
+    ++ furtherCases 15 (placesAt + placeLength) sheet
+
+-- the operators of a sheet from a byte on, so many at the most
+unfoldable pub placesFrom : ℕ → ℕ → List ℕ → List Place
+placesFrom zero at sheet = []
+placesFrom (suc more) at sheet = pick (leb (length sheet) at) [] (placeIn (bodyAt sheet at (placeFormat .width)) ∷ placesFrom more (at + placeLength) sheet)
+
+-- the path of a sheet that is not refused
+unfoldable pub lineIn : List ℕ → Line
+lineIn sheet =
+    record {
+      declaration = declarationIn (bodyAt sheet declarationAt (declarationFormat .width));
+      wanted = wantedIn (bodyAt sheet wantedAt (wantedFormat .width));
+      places = placesFrom 16 placesAt sheet;
+    }
+
+refusedRead : Rattle.quantity.specs.declared.refusal.Refusal.Refusal → ReadSheet
+refusedRead why = record { verdict = Verdict.Refused why; path = noPath }
+
+-- what reading answers
+unfoldable pub readSheet : List ℕ → ReadSheet
+unfolding refusedRead
+readSheet sheet = firstOf (sheetCases sheet) refusedRead (record { verdict = Verdict.Accepted; path = valueOf (lineIn sheet) })
+
+unfoldable pub placeFields : List Place → List ℕ
+placeFields [] = []
+placeFields (place ∷ places) = fieldOf (placeFormat .tag) (placeBody place) ++ placeFields places
+
+-- the sheet of a path
+unfoldable pub sheetOf : Line → List ℕ
+unfolding placeFields
+sheetOf line =
+    fieldOf (declarationFormat .tag) (declarationBody (line .declaration))
+    ++ fieldOf (wantedFormat .tag) (wantedBody (line .wanted))
+    ++ placeFields (line .places)
+
+unfoldable pub placesInRange : List Place → Bool
+placesInRange [] = true
+placesInRange (place ∷ places) = both (placeInRange place) (placesInRange places)
+
+-- every number of the path is in its range
+unfoldable pub lineInRange : Line → Bool
+unfolding placesInRange
+lineInRange line = both (declarationInRange (line .declaration)) (both (inRange wantedDelayRange (line .wanted)) (placesInRange (line .places)))
+
+-- 1: the writer is not lent 256 bytes; 3: the path has 0 or over 16 operators; 5: a number is out of its range
+abbrev pub writeCases : Path → List ℕ → List Case
+writeCases path lent =
+    (not (eqb (length lent) 256) ⇒ Unusable)
+    ∷ (either (eqb (path .count) 0) (ltb 16 (path .count)) ⇒ FieldUnexpected 0)
+    ∷ (not (lineInRange (standsFor path)) ⇒ OutOfRange 0)
+    ∷ []
+
+-- what writing answers
+unfoldable pub writeAnswer : Path → List ℕ → Written
+writeAnswer path lent = firstOf (writeCases path lent) Written.Refused (Written.Length (length (sheetOf (standsFor path))))
+
+behindSheet : List ℕ → List ℕ → List ℕ
+behindSheet sheet lent = sheet ++ drop (length sheet) lent
+
+-- what the lent bytes hold then: the sheet, and behind it what they held; all that they held where it is refused
+unfoldable pub bytesAfter : Path → List ℕ → List ℕ
+unfolding behindSheet
+bytesAfter path lent = firstOf (writeCases path lent) (λ why. lent) (behindSheet (sheetOf (standsFor path)) lent)
