@@ -9,3 +9,7 @@ mod Expander
 mod FilterPart
 mod Misreadings
 mod Metering
+mod StoredLaws
+mod UsableMeter
+mod SingleLaws
+mod MeterAnswers

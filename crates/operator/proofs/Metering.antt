@@ -15,7 +15,6 @@ use lib.Dec.{leb, ltb, eqb}
 use borrow.Author.Tests.{ltb-false, eq-eqb, ne-eqb, le-ltb, le-leb, leb-true}
 use Rattle.quantity.specs.Choice.{pick, either}
 use Rattle.quantity.specs.Limits.{largestAmount, lastSlot}
-use Rattle.quantity.specs.Ranges.{Range, inRange, intervalRange, quotaRange}
 use Rattle.quantity.specs.Sums.{total, listOf}
 use Rattle.quantity.specs.declared.refusal.Refusal.the-variants.{InputBreaksDeclaration}
 use Rattle.quantity.proofs.Sums.{total-suc, total-next, total-le, total-none, total-same, total-le-end, total-changed, term-le-total, every-holds, both-true, length-listOf, getD-listOf}
@@ -24,11 +23,12 @@ use Rattle.operator.specs.Flows.{Flow, flowOf, Smooth, Uniform}
 use Rattle.operator.specs.Classes.{KeepsKind, Keeps}
 use Rattle.operator.specs.Meter.{meterWordCount, usesBlock, meterWordsUsed, meterUnusable, countsWith, countedBefore, inputBreaks, meterNext, meterWordNext, meterOf, meterWordsAfter}
 use Rattle.operator.specs.Metering.{classOf, Fed, newMeter, offered, offeredAll}
-use Rattle.operator.specs.Single.{wordAt, storedFits}
+use Rattle.operator.specs.Stored.{wordAt, storedFits, wordFits}
 use Rattle.operator.specs.declared.Kind.{Kind}
 use Rattle.operator.specs.declared.Declaration.{Declaration}
 use Rattle.operator.specs.declared.meter.Metered.{Metered}
 use Rattle.operator.proofs.Compactor.{same-block}
+use Rattle.operator.proofs.UsableMeter.{Ranged, declaration-ranged}
 
 -- the start of the block or window that ends with slot t
 abbrev startOf : Kind → ℕ → ℕ → ℕ
@@ -246,23 +246,6 @@ module _ (m Q t : ℕ) (r : Flow) (large : 1 ≤ m) (small : Q ≤ largestAmount
       by-test true e = le-leb (latestInput m r t j) largestAmount (omega (arith, latest-le m r Q (λ i. omega (arith, keeps i 1 large, total-next r i)) t j))
       by-test false e = eq-eqb (latestInput m r t j) 0 (latest-none m r t j (λ i less. omega (arith, ltb-false j m e, mod-lt i large)))
 
-in-range : (range : Range) (value : ℕ) → inRange range value ≡ true → (range .least ≤ value) × (value ≤ range .largest)
-unfolding inRange
-in-range range value e =
-    let (above, below) = both-true (leb (range .least) value) (leb value (range .largest)) e in
-    (leb-true (range .least) value above, leb-true value (range .largest) below)
-
-record Ranged (declared : Declaration) : Type 0 where
-  large : 1 ≤ declared .interval .0
-  fits : declared .interval .0 ≤ meterWordCount
-  small : declared .quota .0 ≤ largestAmount
-
-declaration-ranged : (declared : Declaration) → declarationInRange declared ≡ true → Ranged declared
-unfolding declarationInRange
-declaration-ranged declared e =
-    let (interval, quota) = both-true (inRange intervalRange (declared .interval .0)) (inRange quotaRange (declared .quota .0)) e in
-    omega (arith, in-range intervalRange (declared .interval .0) interval, in-range quotaRange (declared .quota .0) quota)
-
 abbrev kindOf : Fed → Kind
 kindOf fed = fed .state .declaration .kind
 
@@ -313,7 +296,7 @@ module _ (fed : Fed) (sound : Sound fed) where
       rw (sound .block) (counted-total (intervalOf fed) (slotOf fed) (flowOf (fed .taken)) (fed .words) (kindOf fed) (ranged .large) (ranged .fits) (sound .each))
 
   sound-usable : length (fed .taken) ≤ lastSlot → meterUnusable (fed .state) (fed .words) ≡ false
-  unfolding meterUnusable
+  unfolding meterUnusable wordFits
   sound-usable left =
       let ranged = declaration-ranged (fed .state .declaration) (sound .ranged) in
       rw (
@@ -321,7 +304,7 @@ module _ (fed : Fed) (sound : Sound fed) where
         le-ltb lastSlot (slotOf fed) (omega arith),
         sound .block,
         block-fits (intervalOf fed) (quotaOf fed) (slotOf fed) (flowOf (fed .taken)) (ranged .large) (ranged .small) (kindOf fed) (sound .keeps),
-        every-holds (λ j. storedFits (ltb j (meterWordsUsed (kindOf fed) (intervalOf fed))) (wordAt (fed .words) j)) meterWordCount
+        every-holds (wordFits (meterWordsUsed (kindOf fed) (intervalOf fed)) (fed .words)) meterWordCount
             (λ j less.
             rw (sound .each j less)
             (word-fits (intervalOf fed) (quotaOf fed) (slotOf fed) (flowOf (fed .taken)) (ranged .large) (ranged .small) (kindOf fed) (sound .keeps) j)),

@@ -10,6 +10,7 @@ pub mod Classes
 pub mod FilterPart
 pub mod Whole
 pub mod Declarations
+pub mod Stored
 pub mod Single
 pub mod Meter
 pub mod Metering

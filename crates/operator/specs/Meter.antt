@@ -10,7 +10,7 @@ use Rattle.quantity.specs.Limits.{largestAmount, lastSlot}
 use Rattle.quantity.specs.Refusals.{Case, _⇒_, firstOf}
 use Rattle.quantity.specs.declared.refusal.Refusal.the-variants.{Unusable, OutOfRange, InputBreaksDeclaration}
 use Rattle.operator.specs.Declarations.{declarationInRange}
-use Rattle.operator.specs.Single.{wordAt, storedFits, anyOf}
+use Rattle.operator.specs.Stored.{wordAt, storedFits, wordFits, anyOf}
 use Rattle.operator.specs.declared.Kind.{Kind}
 use Rattle.operator.specs.declared.Declaration.{Declaration}
 use Rattle.operator.specs.declared.SourceMeter.{SourceMeter}
@@ -38,7 +38,7 @@ meterUnusable x words =
     (not (eqb (length words) meterWordCount)
     ∷ ltb lastSlot (x .slot .0)
     ∷ not (storedFits (usesBlock (x .declaration .kind)) (x .block .0))
-    ∷ not (every (λ j. storedFits (ltb j (meterWordsUsed (x .declaration .kind) (x .declaration .interval .0))) (wordAt words j)) meterWordCount)
+    ∷ not (every (wordFits (meterWordsUsed (x .declaration .kind) (x .declaration .interval .0)) words) meterWordCount)
     ∷ [])
 
 -- the units that count with this slot's input: in a smooth declaration's block so far, none where a block begins;

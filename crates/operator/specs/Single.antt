@@ -2,14 +2,15 @@
 use Prim.Native.Nat.{ℕ, _+_, _-_, _*_}
 use mathlib.Core.Bool.{Bool, true, false, not}
 use mathlib.Core.List.{List, [], _∷_}
-use lib.ListN.{length, getD}
-use lib.Dec.{leb, ltb, eqb}
+use lib.ListN.{length}
+use lib.Dec.{ltb, eqb}
 use Rattle.quantity.specs.Choice.{pick, either}
 use Rattle.quantity.specs.Sums.{total, every, listOf}
 use Rattle.quantity.specs.Limits.{largestAmount, lastSlot}
 use Rattle.quantity.specs.Refusals.{Case, _⇒_, firstOf}
 use Rattle.quantity.specs.declared.refusal.Refusal.the-variants.{Unusable, OutOfRange, ChoiceAboveGreatest}
 use Rattle.operator.specs.Held.{Held}
+use Rattle.operator.specs.Stored.{wordAt, storedFits, wordFits, anyOf}
 use Rattle.operator.specs.Operators.{leastOutput, greatestOutput, heldAfter, numberInRange}
 use Rattle.operator.specs.declared.Operator.{Operator}
 use Rattle.operator.specs.declared.SingleOperator.{SingleOperator}
@@ -26,9 +27,6 @@ mostGiven = largestAmount
 
 abbrev pub mostOnTheWay : ℕ
 mostOnTheWay = 17 * largestAmount
-
-abbrev pub wordAt : List ℕ → ℕ → ℕ
-wordAt words j = getD words j 0
 
 -- a delayer d uses the words below d, and only a delayer does
 unfoldable pub wordsUsed : Operator → ℕ
@@ -58,18 +56,6 @@ usesBeside (Operator.Delayer d) = false
 unfoldable pub heldIn : SingleOperator → List ℕ → Held
 heldIn x words = record { b = pick (usesHeld (x .operator)) (x .held .0) (total (wordAt words) wordCount); h = x .beside .0; past = wordAt words }
 
--- a stored amount is at most the limit; where it is not used it is 0
-unfoldable pub storedFits : Bool → ℕ → Bool
-storedFits used amount = pick used (leb amount largestAmount) (eqb amount 0)
-
-unfoldable pub wordFits : Operator → List ℕ → ℕ → Bool
-wordFits op words j = storedFits (ltb j (wordsUsed op)) (wordAt words j)
-
--- any of the tests
-abbrev pub anyOf : List Bool → Bool
-anyOf [] = false
-anyOf (test ∷ tests) = either test (anyOf tests)
-
 -- 1, of what is lent and stored: the words have a wrong length, no slot number is left, a stored amount is above the limit or should be 0 and is not;
 -- a delayer's b, the sum of its words, is a stored amount too
 unfoldable pub storedUnusable : SingleOperator → List ℕ → Bool
@@ -79,7 +65,7 @@ storedUnusable x words =
     ∷ ltb lastSlot (x .slot .0)
     ∷ not (storedFits (usesHeld (x .operator)) (x .held .0))
     ∷ not (storedFits (usesBeside (x .operator)) (x .beside .0))
-    ∷ not (every (wordFits (x .operator) words) wordCount)
+    ∷ not (every (wordFits (wordsUsed (x .operator)) words) wordCount)
     ∷ ltb largestAmount (total (wordAt words) wordCount)
     ∷ [])
 

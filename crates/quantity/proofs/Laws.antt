@@ -1,9 +1,12 @@
 -- How a test that was taken picks: the one law behind every checking constructor and every list of refusals.
 use mathlib.Core.Path.{_≡_, refl, ap, sym, _∙_}
 use mathlib.Core.Bool.{Bool, true, false}
-use Prim.Native.Nat.{ℕ}
-use Rattle.quantity.specs.Choice.{pick}
+use Prim.Native.Nat.{ℕ, _≤_}
+use lib.Dec.{leb}
+use borrow.Author.Tests.{leb-true}
+use Rattle.quantity.specs.Choice.{pick, either}
 use Rattle.quantity.specs.Ranges.{Range, inRange, checkedIn}
+use Rattle.quantity.proofs.Sums.{both-true}
 
 pub pick-true : {A : Type 0} (t : Bool) (a b : A) → t ≡ true → pick t a b ≡ a
 pick-true t a b e = ap (λ (x : Bool). pick x a b) e
@@ -20,3 +23,47 @@ module _ {A : Type 0} (range : Range) (within : ℕ → A) (outside : A) (value 
   pub checked-outside : t ≡ false → outside ≡ checkedIn range within outside value
   unfolding checkedIn
   checked-outside left = sym (pick-false (inRange range value) (within value) outside (sym tested ∙ left))
+
+-- which way a test went, from what it did not pick
+pub picked-true : {A : Type 0} (t : Bool) (a b : A) {r : A} → r ≡ pick t a b → (r ≡ b → ⊥) → t ≡ true
+picked-true true a b e other = refl
+picked-true false a b e other = absurd (other e)
+
+pub picked-false : {A : Type 0} (t : Bool) (a b : A) {r : A} → r ≡ pick t a b → (r ≡ a → ⊥) → t ≡ false
+picked-false true a b e other = absurd (other e)
+picked-false false a b e other = refl
+
+-- a value is in range if its constructor did not answer that it is out of range, and out of range if it did not answer the value
+module _ {A : Type 0} (range : Range) (within : ℕ → A) (outside : A) (value : ℕ) {answer : A} (answered : answer ≡ checkedIn range within outside value) where
+  pub in-range-answered : (answer ≡ outside → ⊥) → inRange range value ≡ true
+  unfolding checkedIn
+  in-range-answered other = picked-true (inRange range value) (within value) outside answered other
+
+  pub out-of-range-answered : (answer ≡ within value → ⊥) → inRange range value ≡ false
+  unfolding checkedIn
+  out-of-range-answered other = picked-false (inRange range value) (within value) outside answered other
+
+-- a value in range lies from the least to the largest
+module _ (range : Range) (value : ℕ) (inside : inRange range value ≡ true) where
+  pub least-le : range .least ≤ value
+  unfolding inRange
+  least-le = leb-true (range .least) value (both-true (leb (range .least) value) (leb value (range .largest)) inside .0)
+
+  pub le-largest : value ≤ range .largest
+  unfolding inRange
+  le-largest = leb-true value (range .largest) (both-true (leb (range .least) value) (leb value (range .largest)) inside .1)
+
+-- the test of either, from the two
+pub either-first : (a b : Bool) → a ≡ true → either a b ≡ true
+either-first a b e = ap (λ (x : Bool). either x b) e
+
+pub either-second : (a b : Bool) → b ≡ true → either a b ≡ true
+either-second true b e = refl
+either-second false b e = e
+
+pub either-none : (a b : Bool) → a ≡ false → b ≡ false → either a b ≡ false
+either-none a b e f = ap (λ (x : Bool). either x b) e ∙ f
+
+pub either-false : (a b : Bool) → either a b ≡ false → (a ≡ false) × (b ≡ false)
+either-false true b e = (e, let z : _≡_ {A = Bool} true false = e in (cc))
+either-false false b e = (refl, e)

@@ -1,7 +1,7 @@
 // The quantities of document 01, section 1: each kind of number is a type of its own and carries its own least and largest value.
 
 ghost use mathlib.Core.Path.{_≡_};
-ghost use Rattle.quantity.specs.Ranges.{Range, inRange, checkedInterval, checkedQuota, checkedRate, checkedDelay, checkedWantedDelay, checkedLink};
+ghost use Rattle.quantity.specs.Ranges.{Range, inRange, checkedInterval, checkedQuota, checkedRate, checkedDelay, checkedWantedDelay, checkedLink, intervalRange, quotaRange, rateRange, delayRange, wantedDelayRange, linkRange};
 
 pub mod refusal;
 
@@ -50,6 +50,12 @@ impl Interval {
             CheckedInterval::OutOfRange
         }
     }
+
+    pub fn in_range(self) -> bool
+        ensures { λ r. ⌜ r ≡ inRange intervalRange (self .0) ⌝ }
+    {
+        within(self.0, Interval::LEAST, Interval::LARGEST)
+    }
 }
 
 // A declared quota Q, in units.
@@ -73,6 +79,12 @@ impl Quota {
         } else {
             CheckedQuota::OutOfRange
         }
+    }
+
+    pub fn in_range(self) -> bool
+        ensures { λ r. ⌜ r ≡ inRange quotaRange (self .0) ⌝ }
+    {
+        within(self.0, Quota::LEAST, Quota::LARGEST)
     }
 }
 
@@ -98,6 +110,12 @@ impl Rate {
             CheckedRate::OutOfRange
         }
     }
+
+    pub fn in_range(self) -> bool
+        ensures { λ r. ⌜ r ≡ inRange rateRange (self .0) ⌝ }
+    {
+        within(self.0, Rate::LEAST, Rate::LARGEST)
+    }
 }
 
 // The delay d of a delayer, in slots.
@@ -121,6 +139,12 @@ impl Delay {
         } else {
             CheckedDelay::OutOfRange
         }
+    }
+
+    pub fn in_range(self) -> bool
+        ensures { λ r. ⌜ r ≡ inRange delayRange (self .0) ⌝ }
+    {
+        within(self.0, Delay::LEAST, Delay::LARGEST)
     }
 }
 
@@ -146,6 +170,12 @@ impl WantedDelay {
             CheckedWantedDelay::OutOfRange
         }
     }
+
+    pub fn in_range(self) -> bool
+        ensures { λ r. ⌜ r ≡ inRange wantedDelayRange (self .0) ⌝ }
+    {
+        within(self.0, WantedDelay::LEAST, WantedDelay::LARGEST)
+    }
 }
 
 // A link's number.
@@ -169,5 +199,11 @@ impl Link {
         } else {
             CheckedLink::OutOfRange
         }
+    }
+
+    pub fn in_range(self) -> bool
+        ensures { λ r. ⌜ r ≡ inRange linkRange (self .0) ⌝ }
+    {
+        within(self.0, Link::LEAST, Link::LARGEST)
     }
 }
