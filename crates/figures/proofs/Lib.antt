@@ -1,1 +1,5 @@
 pub mod ReferencePaths
+mod Part
+mod Steps
+mod Reached
+pub mod Promise

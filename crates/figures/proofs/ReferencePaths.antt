@@ -17,6 +17,7 @@ use Rattle.operator.specs.Operators.{leastOutput, greatestOutput, heldAfter, nu
 use Rattle.operator.specs.Flows.{flowOf, outputOn, heldOn, none}
 use Rattle.operator.specs.Classes.{burst, mostIn, changedTo}
 use Rattle.operator.specs.FilterPart.{slower}
+use Rattle.operator.specs.Stored.{storedFits, wordFits}
 use Rattle.operator.specs.Single
 use Rattle.operator.specs.declared.Kind.{Kind}
 use Rattle.operator.specs.declared.Operator.{Operator}
@@ -90,5 +91,5 @@ expected =
     ∷ []
 
 pub reference-paths : computed ≡ expected
-unfolding computed expected frames roundUp total every listOf inRange keeps compactorLeast compactorAfter besideAfter filterLeast filterGreatest filterAfter ofAge olderThan staysOf delayerLeast delayerAfter leastOutput greatestOutput heldAfter numberInRange outputOn heldOn burst mostIn changedTo slower Single.stepOf Single.sent Single.heldNext Single.choiceAbove Single.leavesTooMuch Single.stateNext Single.heldIn Single.usesHeld Single.usesBeside Single.wordsUsed Single.storedFits Single.wordFits Single.storedUnusable Single.unusable behind progressAt partCapacity partDelay capacity ownDelay pairs isFramed framedAfterFilter changedQuota figureTooLarge rateTooLow operatorAt before pairedAt capacityAt delayAt pathDelay operatorsCases
+unfolding computed expected frames roundUp total every listOf inRange keeps compactorLeast compactorAfter besideAfter filterLeast filterGreatest filterAfter ofAge olderThan staysOf delayerLeast delayerAfter leastOutput greatestOutput heldAfter numberInRange outputOn heldOn burst mostIn changedTo slower Single.stepOf Single.sent Single.heldNext Single.choiceAbove Single.leavesTooMuch Single.stateNext Single.heldIn Single.usesHeld Single.usesBeside Single.wordsUsed storedFits wordFits Single.storedUnusable Single.unusable behind progressAt partCapacity partDelay capacity ownDelay pairs isFramed framedAfterFilter changedQuota figureTooLarge rateTooLow operatorAt before pairedAt capacityAt delayAt pathDelay operatorsCases
 reference-paths = refl

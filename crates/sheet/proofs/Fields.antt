@@ -67,20 +67,32 @@ module _ (sheet : List ℕ) (at : ℕ) (due : Format) (body rest : List ℕ) (na
         long = long;
       }
 
--- a field that is accepted at a byte is that of its body, which has its length, fits, and is of bytes
-pub record FieldWritten (sheet : List ℕ) (at : ℕ) (due : Format) : Type 0 where
-  pub written : fieldOf (due .tag) (bodyAt sheet at (due .width)) ++ drop (at + 3 + due .width) sheet ≡ drop at sheet
+-- a field that is accepted at a byte ends within the sheet, and its body has its length and fits
+pub record FieldAccepted (sheet : List ℕ) (at : ℕ) (due : Format) : Type 0 where
   pub ends : at + 3 + due .width ≤ length sheet
   pub size : length (bodyAt sheet at (due .width)) ≡ due .width
   pub fits : due .fits (bodyAt sheet at (due .width)) ≡ true
+
+pub field-accepted : (sheet : List ℕ) (at : ℕ) (due : Format) → NoneStands (fieldCases sheet at due) → FieldAccepted sheet at due
+unfolding bodyCutOff bodyOutOfRange bodyAt
+field-accepted sheet at due stands =
+    let ends = ltb-false (length sheet) (at + 3 + due .width) (stands .1 .1 .1 .0) in
+    record {
+      ends = ends;
+      size = length-part (at + 3) (due .width) sheet ends;
+      fits = not-false (due .fits (bodyAt sheet at (due .width))) (stands .1 .1 .1 .1 .0);
+    }
+
+-- where the sheet is of bytes, the field is that of its body, which is of bytes too
+pub record FieldWritten (sheet : List ℕ) (at : ℕ) (due : Format) : Type 0 where
+  pub written : fieldOf (due .tag) (bodyAt sheet at (due .width)) ++ drop (at + 3 + due .width) sheet ≡ drop at sheet
   pub bytes : AreBytes (bodyAt sheet at (due .width))
 
 pub field-written : (sheet : List ℕ) (at : ℕ) (due : Format) → AreBytes sheet → NoneStands (fieldCases sheet at due) → FieldWritten sheet at due
-unfolding fieldUnexpected bodyCutOff bodyOutOfRange fieldOf bodyAt
+unfolding fieldUnexpected fieldOf bodyAt
 field-written sheet at due each stands =
     let body = bodyAt sheet at (due .width) in
-    let ends = ltb-false (length sheet) (at + 3 + due .width) (stands .1 .1 .1 .0) in
-    let size = length-part (at + 3) (due .width) sheet ends in
+    let record { ends = ends; size = size; fits = fits } = field-accepted sheet at due stands in
     let (tagged, sized) = both-true (eqb (getD sheet at 0) (due .tag)) (eqb (numberOf (part (at + 1) 2 sheet)) (due .width)) (not-false _ (stands .1 .1 .0)) in
     let tag = eqb-true (getD sheet at 0) (due .tag) tagged in
     let width : bytesOf 2 (length body) ≡ part (at + 1) 2 sheet = ap (bytesOf 2) (size ∙ sym (eqb-true _ _ sized)) ∙ bytesOf-part (at + 1) 2 sheet each (omega arith) in
@@ -89,8 +101,5 @@ field-written sheet at due each stands =
     rw (width, append-assoc, ← drop-part (at + 3) (due .width) sheet, ← next) (drop-part (at + 1) 2 sheet) in
     record {
       written = rw (← tag, ← behind, add-one) (sym (drop-cons sheet at 0 (omega arith)));
-      ends = ends;
-      size = size;
-      fits = not-false (due .fits body) (stands .1 .1 .1 .1 .0);
       bytes = part-bytes (at + 3) (due .width) sheet each;
     }

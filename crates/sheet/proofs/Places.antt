@@ -19,7 +19,7 @@ use Rattle.sheet.specs.Numbers.{bytesOf}
 use Rattle.sheet.proofs.Numbers.{AreBytes}
 use Rattle.quantity.proofs.Refusals.{NoneStands, none-of-both, none-of-each}
 use Rattle.sheet.proofs.Bodies.{length-placeBody, place-read, place-fits, place-inside, place-written}
-use Rattle.sheet.proofs.Fields.{field-read, field-written}
+use Rattle.sheet.proofs.Fields.{field-read, field-accepted, field-written}
 
 -- the operators are in range, and these bytes are what is written of them
 abbrev pub AreWritten : List Place → List ℕ → Type 0
@@ -79,12 +79,26 @@ module _ (sheet : List ℕ) where
         rw (places-begun more at (omega arith), field .read, place-read place here, ih .1),
       )
 
-  none-written : (more at : ℕ) → at ≡ length sheet → AreWritten (placesFrom more at sheet) (drop at sheet)
-  unfolding placeFields placesInRange
-  none-written more at ended = rw (places-ended more at ended) (sym (drop-of-length-le sheet {i = at} (omega arith)), refl)
+  -- the operators of which no refusal stands are in range, whatever the sheet is made of
+  pub places-inside : (more at : ℕ) → at ≤ length sheet → NoneStands (furtherCases more at sheet) → placesInRange (placesFrom more at sheet) ≡ true
+  unfolding placesFrom placesInRange
+  places-inside zero at h stands = refl
+  places-inside (suc more) at h stands =
+      ⊎-elim
+      (λ ended. rw (places-ended (suc more) at ended))
+      (λ begun.
+      let (here, others) = none-of-each (fieldCases sheet at placeFormat) (furtherCases more (at + placeLength) sheet) (rw (further-begun more at begun) at stands) in
+      let field = field-accepted sheet at placeFormat here in
+      rw (places-begun more at begun, place-inside (bodyAt sheet at 6) (field .fits)) (places-inside more (at + placeLength) (let ends = field .ends in omega arith) others))
+      (eq-or-lt-of-le h)
 
-  pub places-written : (more at : ℕ) → AreBytes sheet → at ≤ length sheet → NoneStands (furtherCases more at sheet) → AreWritten (placesFrom more at sheet) (drop at sheet)
-  unfolding furtherCases placeFields placesInRange
+  none-written : (more at : ℕ) → at ≡ length sheet → placeFields (placesFrom more at sheet) ≡ drop at sheet
+  unfolding placeFields
+  none-written more at ended = rw (places-ended more at ended) (sym (drop-of-length-le sheet {i = at} (omega arith)))
+
+  -- and where it is of bytes, they are what is written of them
+  pub places-written : (more at : ℕ) → AreBytes sheet → at ≤ length sheet → NoneStands (furtherCases more at sheet) → placeFields (placesFrom more at sheet) ≡ drop at sheet
+  unfolding furtherCases placeFields
   places-written zero at each h stands =
       ⊎-elim
       (none-written zero at)
@@ -95,9 +109,10 @@ module _ (sheet : List ℕ) where
       (none-written (suc more) at)
       (λ begun.
       let (here, others) = none-of-each (fieldCases sheet at placeFormat) (furtherCases more (at + placeLength) sheet) (rw (further-begun more at begun) at stands) in
-      let field = field-written sheet at placeFormat each here in
-      let (written, inside) = places-written more (at + placeLength) each (let ends = field .ends in omega arith) others in
+      let field = field-accepted sheet at placeFormat here in
+      let bytes = field-written sheet at placeFormat each here in
+      let written = places-written more (at + placeLength) each (let ends = field .ends in omega arith) others in
       let next : at + placeLength ≡ at + 3 + 6 = omega arith in
-      let body = place-written (bodyAt sheet at 6) (field .fits) (field .bytes) (field .size) in
-      (rw (places-begun more at begun, body, written, next) (field .written), rw (places-begun more at begun, place-inside (bodyAt sheet at 6) (field .fits)) inside))
+      let body = place-written (bodyAt sheet at 6) (field .fits) (bytes .bytes) (field .size) in
+      rw (places-begun more at begun, body, written, next) (bytes .written))
       (eq-or-lt-of-le h)

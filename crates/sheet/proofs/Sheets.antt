@@ -21,9 +21,10 @@ use Rattle.sheet.specs.Fields.{declarationFormat, wantedFormat, placeFor
 use Rattle.sheet.specs.Sheets.{sheetCases, furtherCases, lineIn, readSheet, placeFields, placesInRange, sheetOf, lineInRange, writeCases, writeAnswer, bytesAfter}
 use Rattle.sheet.proofs.Numbers.{AreBytes}
 use Rattle.quantity.proofs.Refusals.{NoneStands, none-of-both, none-of-each, firstOf-none, none-where-result}
-use Rattle.sheet.proofs.Bodies.{length-declarationBody, declaration-read, declaration-fits, declaration-inside, declaration-written, length-wantedBody, wanted-read, wanted-fits, wanted-inside, wanted-written}
-use Rattle.sheet.proofs.Fields.{field-read, field-written}
-use Rattle.sheet.proofs.Places.{length-placeFields, further-begun, places-begun, length-placesFrom, places-read, places-written}
+use Rattle.sheet.proofs.Bodies.{length-declarationBody, declaration-read, declaration-fits, declaration-written, length-wantedBody, wanted-read, wanted-fits, wanted-written}
+use Rattle.sheet.proofs.Fields.{field-read, field-accepted, field-written}
+use Rattle.sheet.proofs.Places.{length-placeFields, further-begun, places-read, places-written}
+use Rattle.sheet.proofs.Accepted.{sheet-line, never-accepted}
 
 -- a sheet's cases where its first operator has begun
 sheet-cases : (sheet : List ℕ) → 17 < length sheet → fieldCases sheet 0 declarationFormat ++ (fieldCases sheet 10 wantedFormat ++ furtherCases 16 17 sheet) ≡ sheetCases sheet
@@ -63,27 +64,26 @@ pub record SheetWritten (sheet : List ℕ) : Type 0 where
   pub written : sheetOf (lineIn sheet) ≡ sheet
 
 pub sheet-written : (sheet : List ℕ) → AreBytes sheet → NoneStands (sheetCases sheet) → SheetWritten sheet
-unfolding lineInRange sheetOf lineIn
+unfolding sheetOf lineIn
 sheet-written sheet each stands =
     let (first-stands, others) = none-of-each (fieldCases sheet 0 declarationFormat) (fieldCases sheet 10 wantedFormat ++ (fieldCases sheet 17 placeFormat ++ furtherCases 15 26 sheet)) stands in
     let (second-stands, third-stands) = none-of-each (fieldCases sheet 10 wantedFormat) (fieldCases sheet 17 placeFormat ++ furtherCases 15 26 sheet) others in
-    let first = field-written sheet 0 declarationFormat each first-stands in
-    let second = field-written sheet 10 wantedFormat each second-stands in
-    let third = field-written sheet 17 placeFormat each (none-of-each (fieldCases sheet 17 placeFormat) (furtherCases 15 26 sheet) third-stands .0) in
-    let ends = third .ends in
-    let begun : 17 < length sheet = omega arith in
-    let (written, inside) = places-written sheet 16 17 each (omega arith) (rw (further-begun sheet 15 17 begun) third-stands) in
-    let declared = declaration-written (bodyAt sheet 0 7) (first .fits) (first .bytes) (first .size) in
-    let wanted = wanted-written (bodyAt sheet 10 4) (second .bytes) (second .size) in
+    let line = sheet-line sheet stands in
+    let first = field-accepted sheet 0 declarationFormat first-stands in
+    let first-bytes = field-written sheet 0 declarationFormat each first-stands in
+    let second = field-accepted sheet 10 wantedFormat second-stands in
+    let second-bytes = field-written sheet 10 wantedFormat each second-stands in
+    let third = field-accepted sheet 17 placeFormat (none-of-each (fieldCases sheet 17 placeFormat) (furtherCases 15 26 sheet) third-stands .0) in
+    let begun : 17 < length sheet = let ends = third .ends in omega arith in
+    let written = places-written sheet 16 17 each (omega arith) (rw (further-begun sheet 15 17 begun) third-stands) in
+    let declared = declaration-written (bodyAt sheet 0 7) (first .fits) (first-bytes .bytes) (first .size) in
+    let wanted = wanted-written (bodyAt sheet 10 4) (second-bytes .bytes) (second .size) in
     record {
-      some = rw (places-begun sheet 15 17 begun) (omega arith);
-      few = length-placesFrom sheet 16 17;
-      inside = rw (declaration-inside (bodyAt sheet 0 7) (first .fits), wanted-inside (bodyAt sheet 10 4) (second .fits)) inside;
-      written = rw (declared, wanted, written, append-assoc, second .written) (first .written);
+      some = line .some;
+      few = line .few;
+      inside = line .inside;
+      written = rw (declared, wanted, written, append-assoc, second-bytes .written) (first-bytes .written);
     }
-
-never-accepted : (why : Refusal) → Verdict.Refused why ≡ Verdict.Accepted → ⊥
-never-accepted why e = let never : _≡_ {A = ℕ} 0 1 = cc in omega arith
 
 module _ (sheet : List ℕ) where
   abbrev read-as : ReadSheet

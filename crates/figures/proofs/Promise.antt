@@ -1,0 +1,64 @@
+-- What the figures promise of a path that they accept, and of its sheet.
+use mathlib.Core.Path.{_≡_, refl}
+use mathlib.Core.Bool.{true}
+use mathlib.Core.List.{List, _++_}
+use Prim.Native.Nat.{ℕ}
+use native.Mathlib.Nat.{le-refl}
+use lib.ListN.{length, replicate}
+use Rattle.quantity.specs.Sums.{listOf}
+use Rattle.quantity.specs.declared.refusal.Refusal.{Refusal}
+use Rattle.quantity.proofs.Refusals.{NoneStands, none-of-each, none-where-result, firstOf-none}
+use Rattle.operator.specs.Flows.{Flow}
+use Rattle.operator.specs.Classes.{Keeps}
+use Rattle.operator.specs.Metering.{classOf}
+use Rattle.sheet.specs.declared.read.Verdict.{Verdict}
+use Rattle.sheet.specs.Paths.{Line, valueOf, noPath}
+use Rattle.sheet.specs.Sheets.{sheetCases, lineIn, lineInRange}
+use Rattle.sheet.proofs.Accepted.{sheet-line, never-accepted}
+use Rattle.figures.specs.declared.PathFigures.{PathFigures}
+use Rattle.figures.specs.Answers.{capacityAt, pathDelay, lineCases, figureIn, figuresOf}
+use Rattle.figures.specs.Along.{AllFit, Promised}
+use Rattle.figures.proofs.Reached.{reached-end, reached, stepped}
+
+-- a path of numbers in their ranges that refusals 6 to 9 let pass
+pub promised : (line : Line) → lineInRange line ≡ true → NoneStands (lineCases line)
+    → (r : Flow) (choices : ℕ → Flow) → Keeps (classOf (line .declaration)) r → AllFit line r choices → Promised line r choices
+unfolding capacityAt
+promised line inside none r choices kept fits =
+    record {
+      class-kept = λ k h. reached line inside none r choices kept fits k h .known .kept;
+      held-within = λ k less. stepped line inside none r choices kept fits k less .held;
+      beside-within = λ k less. stepped line inside none r choices kept fits k less .beside;
+      in-time = reached-end line r choices (reached line inside none r choices kept fits (length (line .places)) (le-refl _));
+    }
+
+module _ (sheet : List ℕ) where
+  abbrev answered : PathFigures
+  answered =
+      record { verdict = Verdict.Accepted; path = valueOf (lineIn sheet); figures = listOf (figureIn (lineIn sheet)) 16; delay = record { 0 = pathDelay (lineIn sheet) } }
+
+  abbrev refused-for : Refusal → PathFigures
+  refused-for why =
+      record { verdict = Verdict.Refused why; path = noPath; figures = replicate 16 (record { capacity = record { 0 = 0 }; delay = record { 0 = 0 } }); delay = record { 0 = 0 } }
+
+  -- no refusal stands against an accepted sheet or its path
+  accepted-stands : figuresOf sheet .verdict ≡ Verdict.Accepted → NoneStands (sheetCases sheet ++ lineCases (lineIn sheet))
+  unfolding figuresOf
+  accepted-stands =
+      none-where-result refused-for answered (λ (answer : PathFigures). answer .verdict ≡ Verdict.Accepted) never-accepted (sheetCases sheet ++ lineCases (lineIn sheet))
+
+  accepted-answer : figuresOf sheet .verdict ≡ Verdict.Accepted → figuresOf sheet ≡ answered
+  unfolding figuresOf
+  accepted-answer accepted = firstOf-none refused-for answered (sheetCases sheet ++ lineCases (lineIn sheet)) (accepted-stands accepted)
+
+-- the theorem of the figures: of every accepted sheet, every flow that keeps the declaration and all choices that fit
+pub figures-promised : (sheet : List ℕ) → figuresOf sheet .verdict ≡ Verdict.Accepted
+    → (r : Flow) (choices : ℕ → Flow) → Keeps (classOf (lineIn sheet .declaration)) r → AllFit (lineIn sheet) r choices → Promised (lineIn sheet) r choices
+figures-promised sheet accepted =
+    let (of-sheet, of-line) = none-of-each (sheetCases sheet) (lineCases (lineIn sheet)) (accepted-stands sheet accepted) in
+    promised (lineIn sheet) (sheet-line sheet of-sheet .inside) of-line
+
+-- the path and the delay that the figures answer are those of the theorem
+pub accepted-figures : (sheet : List ℕ) → figuresOf sheet .verdict ≡ Verdict.Accepted
+    → (figuresOf sheet .path ≡ valueOf (lineIn sheet)) × (figuresOf sheet .delay .0 ≡ pathDelay (lineIn sheet)) × (figuresOf sheet .figures ≡ listOf (figureIn (lineIn sheet)) 16)
+accepted-figures sheet accepted = rw (accepted-answer sheet accepted) (refl, refl, refl)
