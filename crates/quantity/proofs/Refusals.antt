@@ -24,6 +24,11 @@ module _ {A : Type 0} (refused : Refusal → A) (result : A) where
   firstOf-none [] ns = refl
   firstOf-none (c ∷ cs) ns = ap (λ (t : Bool). pick t (refused (c .refusal)) (firstOf cs refused result)) (ns .0) ∙ firstOf-none cs (ns .1)
 
+  -- of two lists in a row
+  pub firstOf-append : (cs ds : List Case) → firstOf (cs ++ ds) refused result ≡ firstOf cs refused (firstOf ds refused result)
+  firstOf-append [] ds = refl
+  firstOf-append (c ∷ cs) ds = ap (pick (c .stands) (refused (c .refusal))) (firstOf-append cs ds)
+
   -- an answer of which something holds that holds of no refusal
   pub none-where-result : (P : A → Type 0) → ((why : Refusal) → P (refused why) → ⊥) → (cs : List Case) → P (firstOf cs refused result) → NoneStands cs
   none-where-result P never [] h = tt
@@ -32,3 +37,13 @@ module _ {A : Type 0} (refused : Refusal → A) (result : A) where
       by-test : (t : Bool) → c .stands ≡ t → (P (firstOf cs refused result) → NoneStands cs) → NoneStands (c ∷ cs)
       by-test true e rest = absurd (never (c .refusal) (rw e at h))
       by-test false e rest = (e, rest (rw e at h))
+
+pick-map : {A B : Type 0} (f : A → B) (t : Bool) (a b : A) → f (pick t a b) ≡ pick t (f a) (f b)
+pick-map f true a b = refl
+pick-map f false a b = refl
+
+-- what is made of an answer is made of each refusal and of the result
+pub firstOf-map : {A B : Type 0} (f : A → B) (refused : Refusal → A) (result : A) (cs : List Case) → f (firstOf cs refused result) ≡ firstOf cs (λ why. f (refused why)) (f result)
+firstOf-map f refused result [] = refl
+firstOf-map f refused result (c ∷ cs) =
+    pick-map f (c .stands) (refused (c .refusal)) (firstOf cs refused result) ∙ ap (pick (c .stands) (f (refused (c .refusal)))) (firstOf-map f refused result cs)

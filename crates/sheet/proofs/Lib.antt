@@ -5,3 +5,8 @@ mod Places
 pub mod Accepted
 mod Sheets
 pub mod RoundTrip
+mod PlacesRead
+mod AnswerLaws
+mod ReadLaws
+mod SheetWritten
+mod WriteLaws

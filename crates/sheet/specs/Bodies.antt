@@ -26,7 +26,7 @@ declarationIn body =
 unfoldable pub declarationFits : List ℕ → Bool
 declarationFits body = both (leb (getD body 0 0) 1) (declarationInRange (declarationIn body))
 
-kindByte : Kind → ℕ
+unfoldable pub kindByte : Kind → ℕ
 kindByte Kind.Smooth = 0
 kindByte Kind.Uniform = 1
 

@@ -58,7 +58,7 @@ lineIn sheet =
       places = placesFrom 16 placesAt sheet;
     }
 
-refusedRead : Rattle.quantity.specs.declared.refusal.Refusal.Refusal → ReadSheet
+unfoldable pub refusedRead : Rattle.quantity.specs.declared.refusal.Refusal.Refusal → ReadSheet
 refusedRead why = record { verdict = Verdict.Refused why; path = noPath }
 
 -- what reading answers
@@ -99,7 +99,7 @@ writeCases path lent =
 unfoldable pub writeAnswer : Path → List ℕ → Written
 writeAnswer path lent = firstOf (writeCases path lent) Written.Refused (Written.Length (length (sheetOf (standsFor path))))
 
-behindSheet : List ℕ → List ℕ → List ℕ
+unfoldable pub behindSheet : List ℕ → List ℕ → List ℕ
 behindSheet sheet lent = sheet ++ drop (length sheet) lent
 
 -- what the lent bytes hold then: the sheet, and behind it what they held; all that they held where it is refused

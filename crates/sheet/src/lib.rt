@@ -1,17 +1,35 @@
 // A path and its sheet: the reader and the writer (document 01, sections 5 and 7).
 
 use operator::Declaration;
-use operator::Kind;
 use operator::Operator;
-use quantity::Interval;
 use quantity::Link;
-use quantity::Quota;
-use quantity::Rate;
 use quantity::WantedDelay;
-use quantity::refusal::Refusal;
+ghost use mathlib.Core.Path.{_≡_};
+ghost use Rattle.sheet.specs.Bodies.{placeInRange};
 
 pub mod read;
 pub mod write;
+
+// Section 5: a field's first bytes are its tag and its body's length; where the fields begin, their tags and their bodies' lengths.
+const HEADER: usize = 3;
+
+const DECLARATION_AT: usize = 0;
+
+const DECLARATION_TAG: u8 = 0x01;
+
+const DECLARATION_WIDTH: usize = 7;
+
+const WANTED_AT: usize = 10;
+
+const WANTED_TAG: u8 = 0x02;
+
+const WANTED_WIDTH: usize = 4;
+
+const PLACES_AT: usize = 17;
+
+const PLACE_TAG: u8 = 0x03;
+
+const PLACE_WIDTH: usize = 6;
 
 // An operator of a path and the link that it is on.
 pub struct Place {
@@ -25,4 +43,13 @@ pub struct Path {
     pub wanted: WantedDelay,
     pub count: usize,
     pub places: [Place; 16],
+}
+
+// Whether the operator's number and the link are in their ranges.
+fn place_in_range(place: Place) -> bool
+    ensures { λ r. ⌜ r ≡ placeInRange place ⌝ }
+{
+    let operator = place.operator;
+    let link = place.link;
+    operator.number_in_range() && link.in_range()
 }

@@ -1,5 +1,40 @@
+// The reader of a sheet (document 01, sections 5 and 7).
+
+use crate::DECLARATION_AT;
+use crate::DECLARATION_TAG;
+use crate::DECLARATION_WIDTH;
+use crate::HEADER;
+use crate::PLACE_TAG;
+use crate::PLACE_WIDTH;
+use crate::PLACES_AT;
 use crate::Path;
+use crate::Place;
+use crate::WANTED_AT;
+use crate::WANTED_TAG;
+use crate::WANTED_WIDTH;
+use operator::Declaration;
+use operator::Kind;
+use operator::Operator;
+use quantity::Delay;
+use quantity::Interval;
+use quantity::Link;
+use quantity::Quota;
+use quantity::Rate;
+use quantity::WantedDelay;
 use quantity::refusal::Refusal;
+ghost use mathlib.Core.Path.{_≡_};
+ghost use mathlib.Core.Bool.{true, not};
+ghost use mathlib.Core.List.{_++_};
+ghost use Prim.Native.Nat.{_+_, _≤_};
+ghost use lib.ListN.{length};
+ghost use lib.Dec.{eqb};
+ghost use Rattle.quantity.specs.Choice.{pick};
+ghost use Rattle.quantity.specs.Refusals.{firstOf};
+ghost use Rattle.sheet.specs.Numbers.{numberOf};
+ghost use Rattle.sheet.specs.Paths.{noPath, valueOf};
+ghost use Rattle.sheet.specs.Bodies.{part, declarationIn, declarationFits, wantedIn, wantedFits, operatorOf, placeIn, placeFits};
+ghost use Rattle.sheet.specs.Fields.{fieldUnexpected, fieldCases, placeFormat};
+ghost use Rattle.sheet.specs.Sheets.{placesAt, placeLength, furtherCases, placesFrom, refusedRead, readSheet};
 
 // What reading a sheet answers. Beside a refusal the path is the empty one.
 pub enum Verdict {
@@ -10,4 +45,251 @@ pub enum Verdict {
 pub struct ReadSheet {
     pub verdict: Verdict,
     pub path: Path,
+}
+
+// Whether the field that is due has begun and is whole.
+enum Due {
+    Whole,
+    Refused(Refusal),
+}
+
+// What the readers of the bodies answer.
+enum ReadDeclaration {
+    Fits(Declaration),
+    OutOfRange,
+}
+
+enum ReadWanted {
+    Fits(WantedDelay),
+    OutOfRange,
+}
+
+enum ReadPlace {
+    Fits(Place),
+    OutOfRange,
+}
+
+fn wide(byte: u8) -> u32
+    ensures { λ r. ⌜ r ≡ byte ⌝ }
+{
+    byte as u32
+}
+
+// The number in `width` bytes from `at` on, the high byte first.
+fn number_at(bytes: &[u8], at: usize, width: usize) -> u32
+    requires { ⌜ (width ≤ 4) × (at + width ≤ length (now bytes)) ⌝ }
+    ensures { λ r. ⌜ r ≡ numberOf (part at width (now (bytes .entry))) ⌝ }
+{
+    let mut value: u32 = 0;
+    let mut k = 0;
+    while k < width {
+        value = value * 256 + wide(bytes[at + k]);
+        k += 1;
+    }
+    value
+}
+
+// Whether the field that begins at a byte has this tag and this length.
+fn is_due(sheet: &[u8], at: usize, tag: u8, width: usize) -> bool
+    requires { ⌜ at + 3 ≤ length (now sheet) ⌝ }
+    ensures { λ r. ⌜ not r ≡ fieldUnexpected (now (sheet .entry)) at (record { tag = tag; width = width; fits = λ body. true }) ⌝ }
+{
+    sheet[at] == tag && number_at(sheet, at + 1, 2) as usize == width
+}
+
+// Section 7's 2 to 4 of the field that is due at a byte, whichever it is.
+fn field_at(sheet: &[u8], at: usize, tag: u8, width: usize) -> Due
+    ensures { λ r. ⌜ r ≡ firstOf (fieldCases (now (sheet .entry)) at (record { tag = tag; width = width; fits = λ body. true })) Due.Refused Due.Whole ⌝ }
+{
+    if sheet.len() <= at {
+        return Due::Refused(Refusal::FieldUnexpected(at));
+    }
+    let left = sheet.len() - at;
+    if left < HEADER {
+        return Due::Refused(Refusal::HeaderCutOff(at));
+    }
+    let due = is_due(sheet, at, tag, width);
+    let whole = width <= left - HEADER;
+    if !due {
+        return Due::Refused(Refusal::FieldUnexpected(at));
+    }
+    if !whole {
+        return Due::Refused(Refusal::BodyCutOff(at));
+    }
+    Due::Whole
+}
+
+fn kind_of(byte: u8) -> Kind
+    ensures { λ r. ⌜ r ≡ pick (eqb byte 0) Kind.Smooth Kind.Uniform ⌝ }
+{
+    if byte == 0 {
+        Kind::Smooth
+    } else {
+        Kind::Uniform
+    }
+}
+
+fn read_declaration(body: &[u8]) -> ReadDeclaration
+    requires { ⌜ length (now body) ≡ 7 ⌝ }
+    ensures { λ r. ⌜ r ≡ pick (declarationFits (now (body .entry))) (ReadDeclaration.Fits (declarationIn (now (body .entry)))) ReadDeclaration.OutOfRange ⌝ }
+{
+    let kind = body[0];
+    if 1 < kind {
+        return ReadDeclaration::OutOfRange;
+    }
+    let declaration = Declaration {
+        kind: kind_of(kind),
+        interval: Interval(number_at(body, 1, 2)),
+        quota: Quota(number_at(body, 3, 4)),
+    };
+    if declaration.in_range() {
+        ReadDeclaration::Fits(declaration)
+    } else {
+        ReadDeclaration::OutOfRange
+    }
+}
+
+fn read_wanted(body: &[u8]) -> ReadWanted
+    requires { ⌜ length (now body) ≡ 4 ⌝ }
+    ensures { λ r. ⌜ r ≡ pick (wantedFits (now (body .entry))) (ReadWanted.Fits (record { 0 = wantedIn (now (body .entry)) })) ReadWanted.OutOfRange ⌝ }
+{
+    let wanted = WantedDelay(number_at(body, 0, 4));
+    if wanted.in_range() {
+        ReadWanted::Fits(wanted)
+    } else {
+        ReadWanted::OutOfRange
+    }
+}
+
+fn operator_of(kind: u8, number: u32) -> Operator
+    ensures { λ r. ⌜ r ≡ operatorOf kind number ⌝ }
+{
+    match kind {
+        0 => Operator::Limiter(Rate(number)),
+        1 => Operator::Compactor(Interval(number)),
+        2 => Operator::Expander(Interval(number)),
+        3 => Operator::Filter(Rate(number)),
+        _ => Operator::Delayer(Delay(number)),
+    }
+}
+
+fn read_place(body: &[u8]) -> ReadPlace
+    requires { ⌜ length (now body) ≡ 6 ⌝ }
+    ensures { λ r. ⌜ r ≡ pick (placeFits (now (body .entry))) (ReadPlace.Fits (placeIn (now (body .entry)))) ReadPlace.OutOfRange ⌝ }
+{
+    let kind = body[0];
+    if 4 < kind {
+        return ReadPlace::OutOfRange;
+    }
+    let operator = operator_of(kind, number_at(body, 2, 4));
+    let link = Link(wide(body[1]));
+    let place = Place { operator, link };
+    if crate::place_in_range(place) {
+        ReadPlace::Fits(place)
+    } else {
+        ReadPlace::OutOfRange
+    }
+}
+
+fn no_path() -> Path
+    ensures { λ r. ⌜ r ≡ noPath ⌝ }
+{
+    let declaration = Declaration {
+        kind: Kind::Smooth,
+        interval: Interval(0),
+        quota: Quota(0),
+    };
+    let place = Place {
+        operator: Operator::Limiter(Rate(0)),
+        link: Link(0),
+    };
+    let places = [place; 16];
+    Path {
+        declaration,
+        wanted: WantedDelay(0),
+        count: 0,
+        places,
+    }
+}
+
+fn refused(why: Refusal) -> ReadSheet
+    ensures { λ r. ⌜ r ≡ refusedRead why ⌝ }
+{
+    ReadSheet {
+        verdict: Verdict::Refused(why),
+        path: no_path(),
+    }
+}
+
+// Behind the last operator the sheet ends, or a seventeenth begins, which is refused (section 7, 2 and 3).
+fn ended(sheet: &[u8], at: usize, path: Path) -> ReadSheet
+    requires { ⌜ at ≤ length (now sheet) ⌝ }
+    ensures { λ r. ⌜ r ≡ firstOf (furtherCases 0 at (now (sheet .entry))) refusedRead (record { verdict = Verdict.Accepted; path = path }) ⌝ }
+{
+    let left = sheet.len() - at;
+    if left == 0 {
+        return ReadSheet {
+            verdict: Verdict::Accepted,
+            path,
+        };
+    }
+    if left < HEADER {
+        return refused(Refusal::HeaderCutOff(at));
+    }
+    refused(Refusal::FieldUnexpected(at))
+}
+
+// The operators: one is due, and behind each the sheet may end.
+fn read_places(sheet: &[u8], declaration: Declaration, wanted: WantedDelay) -> ReadSheet
+    ensures { λ r. ⌜ r ≡ firstOf (fieldCases (now (sheet .entry)) placesAt placeFormat ++ furtherCases 15 (placesAt + placeLength) (now (sheet .entry))) refusedRead (record { verdict = Verdict.Accepted; path = valueOf (record { declaration = declaration; wanted = wanted .0; places = placesFrom 16 placesAt (now (sheet .entry)) }) }) ⌝ }
+{
+    let empty = no_path();
+    let mut places = empty.places;
+    let mut count = 0;
+    let mut at = PLACES_AT;
+    loop {
+        if let Due::Refused(why) = field_at(sheet, at, PLACE_TAG, PLACE_WIDTH) {
+            return refused(why);
+        }
+        let start = at + HEADER;
+        let end = start + PLACE_WIDTH;
+        let ReadPlace::Fits(place) = read_place(&sheet[start..end]) else {
+            return refused(Refusal::OutOfRange(at));
+        };
+        places[count] = place;
+        count += 1;
+        at = end;
+        if count == 16 || at == sheet.len() {
+            break;
+        }
+    }
+    let path = Path {
+        declaration,
+        wanted,
+        count,
+        places,
+    };
+    ended(sheet, at, path)
+}
+
+pub fn read(sheet: &[u8]) -> ReadSheet
+    ensures { λ r. ⌜ r ≡ readSheet (now (sheet .entry)) ⌝ }
+{
+    if let Due::Refused(why) = field_at(sheet, DECLARATION_AT, DECLARATION_TAG, DECLARATION_WIDTH) {
+        return refused(why);
+    }
+    let start = DECLARATION_AT + HEADER;
+    let end = start + DECLARATION_WIDTH;
+    let ReadDeclaration::Fits(declaration) = read_declaration(&sheet[start..end]) else {
+        return refused(Refusal::OutOfRange(DECLARATION_AT));
+    };
+    if let Due::Refused(why) = field_at(sheet, WANTED_AT, WANTED_TAG, WANTED_WIDTH) {
+        return refused(why);
+    }
+    let start = WANTED_AT + HEADER;
+    let end = start + WANTED_WIDTH;
+    let ReadWanted::Fits(wanted) = read_wanted(&sheet[start..end]) else {
+        return refused(Refusal::OutOfRange(WANTED_AT));
+    };
+    read_places(sheet, declaration, wanted)
 }

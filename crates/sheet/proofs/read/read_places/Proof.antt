@@ -1,0 +1,176 @@
+-- Each turn judges the field that is due, then its body: the loop's invariant says what is read so far and that the rest decides.
+use Prim.Native.Nat.{_+_, _-_, _≤_}
+use mathlib.Core.Path.{_≡_, refl, sym, _∙_}
+use mathlib.Core.Bool.{Bool, true, false}
+use mathlib.Core.Logic.{_⊎_, inl, inr, ⊎-elim}
+use borrow.Author.Needs.{needs}
+use borrow.Author.Tests.{eqb-true, eqb-false}
+use native.Mathlib.Omega.{arith}
+use denote.Ref.{now}
+use lib.ListN.{length}
+use Rattle.quantity.specs.Choice.{pick}
+use Rattle.quantity.proofs.Laws.{pick-true}
+use Rattle.sheet.specs.Bodies.{placeIn, placeFits}
+use Rattle.sheet.specs.Fields.{bodyAt}
+use Rattle.sheet.specs.declared.read.ReadPlace.{ReadPlace}
+use Rattle.sheet.proofs.AnswerLaws.{tells}
+use Rattle.sheet.proofs.ReadLaws.{field-inside, handed-body, handed-length}
+use Rattle.sheet.proofs.PlacesRead.{Reading, reading-first, header-refuses, body-refuses, reading-next, reading-end}
+use Rattle.sheet.proofs.read.read_places.Statement.{statement}
+use Rattle.sheet.proofs.read.read_places.Tie as tie
+
+abbrev Inv-loop : tie.InvT-loop
+Inv-loop sheet declaration wanted places₀ count₀ at₀ places count at = Reading sheet declaration wanted places count at
+
+abbrev μ-loop : tie.MeasureT-loop
+μ-loop sheet declaration wanted places₀ count₀ at₀ places count at = 16 - count
+
+abbrev found : ReadPlace → Bool
+found (ReadPlace.Fits place) = true
+found ReadPlace.OutOfRange = false
+
+no-path-requires : tie.Need-no-path-requires Inv-loop μ-loop
+no-path-requires c κs = search needs
+
+loop-holds : tie.Need-loop-holds Inv-loop μ-loop
+loop-holds c = let a = c .before .before .before .args in rw (c .before .no-path .ensures) (reading-first (now (a .sheet)) (a .declaration) (a .wanted))
+
+field-at-requires : tie.Need-field-at-requires Inv-loop μ-loop
+field-at-requires c κs = search needs
+
+enum-known-why : tie.Need-enum-known-why Inv-loop μ-loop
+enum-known-why c = search needs
+
+refused-requires : tie.Need-refused-requires Inv-loop μ-loop
+refused-requires c κs = search needs
+
+returns : tie.Need-returns Inv-loop μ-loop
+returns c =
+    let at-loop = c .before .before .before .before .before in
+    let a = at-loop .before .before .before .before .args in
+    c .refused .ensures
+    ∙ sym (header-refuses (now (a .sheet)) (a .declaration) (a .wanted) _ _ _ (at-loop .loop .inv) (c .before .before .before .before .field-at .ensures) (c .before .before .why .given .1))
+
+enum-told : tie.Need-enum-told Inv-loop μ-loop
+enum-told c = search needs
+
+-- the field that is judged whole lies in the sheet
+inside : (c : tie.After-enum-told Inv-loop μ-loop) → c .before .before .before .loop .at + 3 + 6 ≤ length (now (c .before .before .before .before .before .before .before .args .sheet))
+inside c = field-inside _ _ 3 6 (c .before .before .field-at .ensures) (c .enum-told .given .1)
+
+add-start : tie.Need-add-start Inv-loop μ-loop
+add-start c = omega (arith, inside c, c .before .before .before .before .before .before .before .good .0 .0)
+
+add-end : tie.Need-add-end Inv-loop μ-loop
+add-end c = omega (arith, inside c, c .before .before .before .before .before .before .before .good .0 .0)
+
+sub-read-place : tie.Need-sub-read-place Inv-loop μ-loop
+sub-read-place c = omega arith
+
+part-read-place-start : tie.Need-part-read-place-start Inv-loop μ-loop
+part-read-place-start c = omega arith
+
+part-read-place-end : tie.Need-part-read-place-end Inv-loop μ-loop
+part-read-place-end c = omega (arith, inside c)
+
+read-place-requires : tie.Need-read-place-requires Inv-loop μ-loop
+read-place-requires c κs = handed-length _ _ 6 (inside (c .before))
+
+-- what the reader answers of the body
+answered : (c : tie.After-read-place Inv-loop μ-loop)
+    → let body = bodyAt (now (c .before .before .before .before .before .before .before .before .before .args .sheet)) (c .before .before .before .before .before .loop .at) 6 in c .read-place .result ≡ pick (placeFits body) (ReadPlace.Fits (placeIn body)) ReadPlace.OutOfRange
+answered c = rw (handed-body (now (c .before .before .before .before .before .before .before .before .before .args .sheet)) (c .before .before .before .before .before .loop .at) 6) at (c .read-place .ensures)
+
+enum-known-place : tie.Need-enum-known-place Inv-loop μ-loop
+enum-known-place c = search needs
+
+enum-told-2 : tie.Need-enum-told-2 Inv-loop μ-loop
+enum-told-2 c = search needs
+
+refused-requires-2 : tie.Need-refused-requires-2 Inv-loop μ-loop
+refused-requires-2 c κs = search needs
+
+returns-2 : tie.Need-returns-2 Inv-loop μ-loop
+returns-2 c =
+    let at-loop = c .before .before .before .before .before .before .before .before in
+    let a = at-loop .before .before .before .before .args in
+    let body = bodyAt (now (a .sheet)) (at-loop .loop .at) 6 in
+    let outside : placeFits body ≡ false = tells found _ (ReadPlace.Fits (placeIn body)) ReadPlace.OutOfRange refl refl (answered (c .before .before .before)) (c .before .enum-told2 .given .1) in
+    c .refused2 .ensures
+    ∙ sym (body-refuses (now (a .sheet)) (a .declaration) (a .wanted) _ _ _ (at-loop .loop .inv) (c .before .before .before .before .before .before .before .field-at .ensures) (c .before .before .before .before .before .enum-told .given .1) outside)
+
+-- the place that was read is the body's
+fits : (c : tie.After-known-told2 Inv-loop μ-loop) → placeFits (bodyAt (now (c .before .before .before .before .before .before .before .before .before .before .before .before .args .sheet)) (c .before .before .before .before .before .before .before .before .loop .at) 6) ≡ true
+fits c =
+    let body = bodyAt (now (c .before .before .before .before .before .before .before .before .before .before .before .before .args .sheet)) (c .before .before .before .before .before .before .before .before .loop .at) 6 in
+    tells found _ (ReadPlace.Fits (placeIn body)) ReadPlace.OutOfRange refl refl (answered (c .before .before .before)) (c .before .place .given .1)
+
+same : (c : tie.After-known-told2 Inv-loop μ-loop) → c .before .place .given .0 .0 ≡ placeIn (bodyAt (now (c .before .before .before .before .before .before .before .before .before .before .before .before .args .sheet)) (c .before .before .before .before .before .before .before .before .loop .at) 6)
+same c =
+    let body = bodyAt (now (c .before .before .before .before .before .before .before .before .before .before .before .before .args .sheet)) (c .before .before .before .before .before .before .before .before .loop .at) 6 in
+    let made : ReadPlace.Fits (c .before .place .given .0 .0) ≡ ReadPlace.Fits (placeIn body) = sym (c .before .place .given .1) ∙ answered (c .before .before .before) ∙ pick-true _ _ _ (fits c) in
+    cc made
+
+mul-places : tie.Need-mul-places Inv-loop μ-loop
+mul-places c = omega (arith, c .before .before .before .before .before .before .before .before .loop .inv .few)
+
+array-set-from-places : tie.Need-array-set-from-places Inv-loop μ-loop
+array-set-from-places c = omega (arith, c .before .before .before .before .before .before .before .before .loop .inv .few)
+
+add-count : tie.Need-add-count Inv-loop μ-loop
+add-count c = omega (arith, c .before .before .before .before .before .before .before .before .loop .inv .few)
+
+loop-less : tie.Need-loop-less Inv-loop μ-loop
+loop-less c = omega (arith, c .before .before .before .before .before .before .before .before .before .before .loop .inv .few)
+
+loop-again : tie.Need-loop-again Inv-loop μ-loop
+loop-again c =
+    let after = c .before .before in
+    let at-loop = after .before .before .before .before .before .before .before .before in
+    let a = at-loop .before .before .before .before .args in
+    reading-next (now (a .sheet)) (a .declaration) (a .wanted) _ _ _ (at-loop .loop .inv) (after .before .before .before .before .before .before .before .field-at .ensures) (after .before .before .before .before .before .enum-told .given .1) (fits after) _ (same after) _ (omega arith)
+    (c .before .if1 .left)
+    (eqb-false _ _ (c .if2 .left))
+
+ended-requires : tie.Need-ended-requires Inv-loop μ-loop
+ended-requires c κs = inside (c .before .before .before .before .before .before)
+
+returns-3 : tie.Need-returns-3 Inv-loop μ-loop
+returns-3 c =
+    let after = c .before .before in
+    let at-loop = after .before .before .before .before .before .before .before .before in
+    let a = at-loop .before .before .before .before .args in
+    let last : (at-loop .loop .count + 1 ≡ 16) ⊎ (at-loop .loop .at + 3 + 6 ≡ length (now (a .sheet))) = ⊎-elim (λ w. inl (w .taken)) (λ w. inr (eqb-true _ _ (w .1 .taken))) (c .before .if1 .came) in
+    c .ended .ensures
+    ∙ sym (reading-end (now (a .sheet)) (a .declaration) (a .wanted) _ _ _ (at-loop .loop .inv) (after .before .before .before .before .before .before .before .field-at .ensures) (after .before .before .before .before .before .enum-told .given .1) (fits after) _ (same after) _ (omega arith) last)
+
+pub read-places-spec : {M : Type 1} → statement M
+read-places-spec =
+    tie.close
+    (tie.spec
+    Inv-loop
+    μ-loop
+    no-path-requires
+    loop-holds
+    field-at-requires
+    enum-known-why
+    refused-requires
+    returns
+    enum-told
+    add-start
+    add-end
+    sub-read-place
+    part-read-place-start
+    part-read-place-end
+    read-place-requires
+    enum-known-place
+    enum-told-2
+    refused-requires-2
+    returns-2
+    mul-places
+    array-set-from-places
+    add-count
+    loop-less
+    loop-again
+    ended-requires
+    returns-3)

@@ -1,0 +1,56 @@
+-- By the arm that the operator took.
+use borrow.Author.Needs.{needs}
+use mathlib.Core.Path.{sym, ap}
+use Rattle.sheet.specs.Bodies.{operatorByte}
+use Rattle.sheet.proofs.write.operator_byte.Statement.{statement}
+use Rattle.sheet.proofs.write.operator_byte.Tie as tie
+
+enum-told : tie.Need-enum-told
+enum-told c = search needs
+
+enum-told-2 : tie.Need-enum-told-2
+enum-told-2 c = search needs
+
+enum-told-3 : tie.Need-enum-told-3
+enum-told-3 c = search needs
+
+enum-told-4 : tie.Need-enum-told-4
+enum-told-4 c = search needs
+
+enum-told-5 : tie.Need-enum-told-5
+enum-told-5 c = search needs
+
+returns : tie.Need-returns
+unfolding operatorByte
+returns c = sym (ap operatorByte (c .enum-told .given .1))
+
+returns-2 : tie.Need-returns-2
+unfolding operatorByte
+returns-2 c = sym (ap operatorByte (c .enum-told2 .given .1))
+
+returns-3 : tie.Need-returns-3
+unfolding operatorByte
+returns-3 c = sym (ap operatorByte (c .enum-told3 .given .1))
+
+returns-4 : tie.Need-returns-4
+unfolding operatorByte
+returns-4 c = sym (ap operatorByte (c .enum-told4 .given .1))
+
+returns-5 : tie.Need-returns-5
+unfolding operatorByte
+returns-5 c = sym (ap operatorByte (c .enum-told5 .given .1))
+
+pub operator-byte-spec : {M : Type 1} → statement M
+operator-byte-spec =
+    tie.close
+    (tie.spec
+    enum-told
+    enum-told-2
+    enum-told-3
+    enum-told-4
+    enum-told-5
+    returns
+    returns-2
+    returns-3
+    returns-4
+    returns-5)
