@@ -3,3 +3,6 @@ mod Part
 mod Steps
 mod Reached
 pub mod Promise
+mod Bounds
+mod EachOperator
+mod SheetAnswer

@@ -61,10 +61,10 @@ operatorsCases line (suc n) = operatorsCases line n ++ operatorCases line n
 abbrev pub lineCases : Line → List Case
 lineCases line = operatorsCases line (length (line .places)) ++ ((ltb (line .wanted) (pathDelay line) ⇒ DelayAboveWanted) ∷ [])
 
-figureAt : Line → ℕ → Figure
+unfoldable pub figureAt : Line → ℕ → Figure
 figureAt line k = record { capacity = record { 0 = capacityAt line k }; delay = record { 0 = delayAt line k } }
 
-noFigure : Figure
+unfoldable pub noFigure : Figure
 noFigure = record { capacity = record { 0 = 0 }; delay = record { 0 = 0 } }
 
 -- the figure at each of the sixteen places: none behind the path's operators
@@ -72,11 +72,11 @@ unfoldable pub figureIn : Line → ℕ → Figure
 unfolding figureAt noFigure
 figureIn line k = pick (ltb k (length (line .places))) (figureAt line k) noFigure
 
-refusedFigures : Refusal → PathFigures
+unfoldable pub refusedFigures : Refusal → PathFigures
 unfolding noFigure
 refusedFigures why = record { verdict = Verdict.Refused why; path = noPath; figures = replicate 16 noFigure; delay = record { 0 = 0 } }
 
-acceptedFigures : Line → PathFigures
+unfoldable pub acceptedFigures : Line → PathFigures
 acceptedFigures line =
     record { verdict = Verdict.Accepted; path = valueOf line; figures = listOf (figureIn line) 16; delay = record { 0 = pathDelay line } }
 

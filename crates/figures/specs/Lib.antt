@@ -1,4 +1,5 @@
 pub mod Progress
 pub mod Figures
 pub mod Answers
+pub mod Carried
 pub mod Along

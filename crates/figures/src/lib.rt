@@ -1,9 +1,34 @@
 // The figures of a path: a capacity and a delay for each operator, and the path's delay (document 01, sections 4 and 7).
 
+use crate::carried::behind;
+use crate::carried::start;
+use crate::each::Planned;
+use crate::each::pairs;
+use crate::each::plan;
+use operator::Declaration;
+use operator::Kind;
+use operator::Operator;
+use quantity::Interval;
+use quantity::Link;
+use quantity::Quota;
+use quantity::Rate;
 use quantity::Slots;
 use quantity::Units;
+use quantity::WantedDelay;
+use quantity::refusal::Refusal;
 use sheet::Path;
+use sheet::Place;
 use sheet::read::Verdict;
+use sheet::read::read;
+ghost use mathlib.Core.Path.{_≡_};
+ghost use Prim.Native.Nat.{_<_};
+ghost use Rattle.sheet.specs.Paths.{noPath, standsFor};
+ghost use Rattle.figures.specs.Answers.{pairedAt, noFigure, refusedFigures, figuresOf};
+ghost use Rattle.figures.specs.Carried.{PathWithin, figuresOfPath};
+
+mod carried;
+mod class;
+mod each;
 
 // An operator's capacity and its own delay.
 pub struct Figure {
@@ -17,4 +42,117 @@ pub struct PathFigures {
     pub path: Path,
     pub figures: [Figure; 16],
     pub delay: Slots,
+}
+
+// The figures of a sheet's path, or the first refusal of 2 to 9.
+pub fn figures(sheet: &[u8]) -> PathFigures
+    ensures { λ r. ⌜ r ≡ figuresOf (now (sheet .entry)) ⌝ }
+{
+    let answer = read(sheet);
+    let verdict = answer.verdict;
+    match verdict {
+        Verdict::Refused(why) => refused(why),
+        Verdict::Accepted => {
+            let path = answer.path;
+            figures_of_path(path)
+        }
+    }
+}
+
+fn no_figure() -> Figure
+    ensures { λ r. ⌜ r ≡ noFigure ⌝ }
+{
+    Figure {
+        capacity: Units(0),
+        delay: Slots(0),
+    }
+}
+
+fn no_path() -> Path
+    ensures { λ r. ⌜ r ≡ noPath ⌝ }
+{
+    let declaration = Declaration {
+        kind: Kind::Smooth,
+        interval: Interval(0),
+        quota: Quota(0),
+    };
+    let place = Place {
+        operator: Operator::Limiter(Rate(0)),
+        link: Link(0),
+    };
+    let places = [place; 16];
+    Path {
+        declaration,
+        wanted: WantedDelay(0),
+        count: 0,
+        places,
+    }
+}
+
+fn refused(why: Refusal) -> PathFigures
+    ensures { λ r. ⌜ r ≡ refusedFigures why ⌝ }
+{
+    let none = no_figure();
+    let figures = [none; 16];
+    PathFigures {
+        verdict: Verdict::Refused(why),
+        path: no_path(),
+        figures,
+        delay: Slots(0),
+    }
+}
+
+// Whether operator k is an expander and the next one a compactor of its interval.
+fn paired(path: Path, k: usize) -> bool
+    requires { ⌜ PathWithin path × (k < path .count) ⌝ }
+    ensures { λ r. ⌜ r ≡ pairedAt (standsFor path) k ⌝ }
+{
+    let places = path.places;
+    let next = k + 1;
+    if next < path.count {
+        let place = places[k];
+        let operator = place.operator;
+        let following = places[next];
+        let follower = following.operator;
+        pairs(operator, follower)
+    } else {
+        false
+    }
+}
+
+// The figures of a path, operator by operator from the left; then refusal 9.
+fn figures_of_path(path: Path) -> PathFigures
+    requires { ⌜ PathWithin path ⌝ }
+    ensures { λ r. ⌜ r ≡ figuresOfPath path ⌝ }
+{
+    let declaration = path.declaration;
+    let places = path.places;
+    let count = path.count;
+    let mut carried = start(declaration);
+    let none = no_figure();
+    let mut figures = [none; 16];
+    let mut delay: u32 = 0;
+    let mut k = 0;
+    while k < count {
+        let place = places[k];
+        let operator = place.operator;
+        match plan(carried, operator, paired(path, k), k) {
+            Planned::Refused(why) => return refused(why),
+            Planned::Fits(figure) => {
+                figures[k] = figure;
+                delay += figure.delay.0;
+            }
+        }
+        carried = behind(carried, operator);
+        k += 1;
+    }
+    if path.wanted.0 < delay {
+        return refused(Refusal::DelayAboveWanted);
+    }
+    PathFigures {
+        verdict: Verdict::Accepted,
+        path,
+        figures,
+        delay: Slots(delay),
+    }
 }

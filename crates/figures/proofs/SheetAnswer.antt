@@ -1,0 +1,77 @@
+-- The figures of a sheet from what reading it answered: a refusal of the reader is theirs, and an accepted sheet's path has its numbers in their ranges.
+use Prim.Native.Nat.{ℕ}
+use mathlib.Core.Path.{_≡_, sym, ap, subst, subst⁻¹, _∙_}
+use mathlib.Core.List.{List}
+use Rattle.quantity.specs.Sums.{listOf}
+use Rattle.quantity.specs.Refusals.{firstOf}
+use Rattle.quantity.specs.declared.refusal.Refusal.{Refusal}
+use Rattle.quantity.proofs.Refusals.{NoneStands, firstOf-none, firstOf-append, firstOf-map, none-where-result}
+use Rattle.sheet.specs.Paths.{Line, standsFor, valueOf, noPath}
+use Rattle.sheet.specs.Sheets.{sheetCases, lineIn, readSheet}
+use Rattle.sheet.specs.declared.read.Verdict.{Verdict}
+use Rattle.sheet.specs.declared.read.ReadSheet.{ReadSheet}
+use Rattle.sheet.proofs.Accepted.{sheet-line}
+use Rattle.sheet.proofs.RoundTrip.{value-stands}
+use Rattle.figures.specs.declared.PathFigures.{PathFigures}
+use Rattle.figures.specs.Answers.{lineCases, figureIn, pathDelay, refusedFigures, acceptedFigures, figuresOf}
+use Rattle.figures.specs.Carried.{PathWithin, figuresOfPath}
+
+-- the figures of a path: 6 to 9
+figuresOfLine : Line → PathFigures
+figuresOfLine line = firstOf (lineCases line) refusedFigures (acceptedFigures line)
+
+abbrev answerTo : PathFigures → Verdict → PathFigures
+answerTo figures Verdict.Accepted = figures
+answerTo figures (Verdict.Refused why) = refusedFigures why
+
+abbrev IsAccepted : Verdict → Type 0
+IsAccepted Verdict.Accepted = Unit {0}
+IsAccepted (Verdict.Refused why) = ⊥
+
+module _ {read : ReadSheet} (sheet : List ℕ) (answered : read ≡ readSheet sheet) where
+  answer-figures : answerTo (figuresOfLine (lineIn sheet)) (read .verdict) ≡ figuresOf sheet
+  unfolding figuresOfLine readSheet figuresOf
+  answer-figures =
+      let answer : ReadSheet → PathFigures = λ r. answerTo (figuresOfLine (lineIn sheet)) (r .verdict) in
+      ap answer answered
+      ∙ firstOf-map answer (λ why. record { verdict = Verdict.Refused why; path = noPath }) (record { verdict = Verdict.Accepted; path = valueOf (lineIn sheet) }) (sheetCases sheet)
+      ∙ sym (firstOf-append refusedFigures (acceptedFigures (lineIn sheet)) (sheetCases sheet) (lineCases (lineIn sheet)))
+
+  pub refused-figures : {why : Refusal} → read .verdict ≡ Verdict.Refused why → refusedFigures why ≡ figuresOf sheet
+  refused-figures verdict = sym (ap (answerTo (figuresOfLine (lineIn sheet))) verdict) ∙ answer-figures
+
+  module _ (accepted : read .verdict ≡ Verdict.Accepted) where
+    sheet-stands : NoneStands (sheetCases sheet)
+    unfolding readSheet
+    sheet-stands =
+        none-where-result (λ why. record { verdict = Verdict.Refused why; path = noPath }) (record { verdict = Verdict.Accepted; path = valueOf (lineIn sheet) })
+        (λ (r : ReadSheet). IsAccepted (r .verdict)) (λ why h. h) (sheetCases sheet) (subst (λ (r : ReadSheet). IsAccepted (r .verdict)) answered (subst⁻¹ IsAccepted accepted tt))
+
+    path-read : read .path ≡ valueOf (lineIn sheet)
+    unfolding readSheet
+    path-read =
+        ap (λ (r : ReadSheet). r .path)
+        (answered
+        ∙ firstOf-none (λ why. record { verdict = Verdict.Refused why; path = noPath }) (record { verdict = Verdict.Accepted; path = valueOf (lineIn sheet) }) (sheetCases sheet) sheet-stands)
+
+    line-read : standsFor (valueOf (lineIn sheet)) ≡ lineIn sheet
+    line-read = value-stands (lineIn sheet) (sheet-line sheet sheet-stands .few)
+
+    value-within : PathWithin (valueOf (lineIn sheet))
+    unfolding valueOf
+    value-within = record { few = sheet-line sheet sheet-stands .few; inside = rw line-read (sheet-line sheet sheet-stands .inside) }
+
+    pub path-within : PathWithin (read .path)
+    path-within = rw path-read value-within
+
+    pub accepted-figures : figuresOfPath (read .path) ≡ figuresOf sheet
+    unfolding figuresOfPath figuresOfLine acceptedFigures
+    accepted-figures =
+        ap figuresOfPath path-read
+        ∙ ap {B = PathFigures}
+        (λ (line : Line).
+        firstOf (lineCases line) refusedFigures
+        (record { verdict = Verdict.Accepted; path = valueOf (lineIn sheet); figures = listOf (figureIn line) 16; delay = record { 0 = pathDelay line } }))
+        line-read
+        ∙ sym (ap (answerTo (figuresOfLine (lineIn sheet))) accepted)
+        ∙ answer-figures

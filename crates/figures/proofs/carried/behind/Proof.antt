@@ -1,0 +1,91 @@
+-- Each operator has its case of the definition; an interval in range is at most 1,024.
+use borrow.Author.Needs.{needs}
+use Rattle.quantity.specs.Ranges.{intervalRange}
+use Rattle.operator.specs.Operators.{numberInRange}
+use Rattle.figures.specs.Progress.{behind}
+use Rattle.figures.proofs.Bounds.{in-range, inside-of}
+use Rattle.figures.proofs.carried.behind.Statement.{statement}
+use Rattle.figures.proofs.carried.behind.Tie as tie
+
+enum-known-operator : tie.Need-enum-known-operator
+enum-known-operator c = search needs
+
+wide-requires : tie.Need-wide-requires
+wide-requires c κs = search needs
+
+framed-requires : tie.Need-framed-requires
+framed-requires c κs = search needs
+
+enum-known-operator-2 : tie.Need-enum-known-operator-2
+enum-known-operator-2 c = search needs
+
+changed-quota-requires : tie.Need-changed-quota-requires
+unfolding numberInRange
+changed-quota-requires c κs = let s = c .before .before .before .before in (s .pre .0 .class, in-range intervalRange (c .before .operator2 .given .0 .0 .0) (inside-of (c .before .operator2 .given .1) (s .pre .1)) .1)
+
+framed-requires-2 : tie.Need-framed-requires-2
+framed-requires-2 c κs = search needs
+
+enum-known-operator-3 : tie.Need-enum-known-operator-3
+enum-known-operator-3 c = search needs
+
+changed-quota-requires-2 : tie.Need-changed-quota-requires-2
+unfolding numberInRange
+changed-quota-requires-2 c κs = let s = c .before .before .before .before in (s .pre .0 .class, in-range intervalRange (c .before .operator3 .given .0 .0 .0) (inside-of (c .before .operator3 .given .1) (s .pre .1)) .1)
+
+framed-requires-3 : tie.Need-framed-requires-3
+framed-requires-3 c κs = search needs
+
+enum-known-operator-4 : tie.Need-enum-known-operator-4
+enum-known-operator-4 c = search needs
+
+behind-filter-requires : tie.Need-behind-filter-requires
+behind-filter-requires c κs = search needs
+
+enum-known-operator-5 : tie.Need-enum-known-operator-5
+enum-known-operator-5 c = search needs
+
+behind-delayer-requires : tie.Need-behind-delayer-requires
+unfolding numberInRange
+behind-delayer-requires c κs = let s = c .before .before .before .before in (s .pre .0, inside-of (c .before .operator5 .given .1) (s .pre .1))
+
+returns : tie.Need-returns
+unfolding behind
+returns c = rw (c .before .before .before .operator .given .1, c .framed .ensures, c .before .wide .ensures)
+
+returns-2 : tie.Need-returns-2
+unfolding behind
+returns-2 c = rw (c .before .before .before .operator2 .given .1, c .framed2 .ensures, c .before .changed-quota .ensures)
+
+returns-3 : tie.Need-returns-3
+unfolding behind
+returns-3 c = rw (c .before .before .before .operator3 .given .1, c .framed3 .ensures, c .before .changed-quota2 .ensures)
+
+returns-4 : tie.Need-returns-4
+returns-4 c = rw (c .before .before .operator4 .given .1, c .behind-filter .ensures)
+
+returns-5 : tie.Need-returns-5
+returns-5 c = rw (c .before .before .operator5 .given .1, c .behind-delayer .ensures)
+
+pub behind-spec : {M : Type 1} → statement M
+behind-spec =
+    tie.close
+    (tie.spec
+    enum-known-operator
+    wide-requires
+    framed-requires
+    enum-known-operator-2
+    changed-quota-requires
+    framed-requires-2
+    enum-known-operator-3
+    changed-quota-requires-2
+    framed-requires-3
+    enum-known-operator-4
+    behind-filter-requires
+    enum-known-operator-5
+    behind-delayer-requires
+    returns
+    returns-2
+    returns-3
+    returns-4
+    returns-5)

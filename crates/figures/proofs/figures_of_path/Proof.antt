@@ -1,0 +1,141 @@
+-- The loop: before operator k none of 6 to 8 has stood, and what is carried, the figures and the sum are those of the definitions. Behind the last operator only 9 is left.
+use Prim.Native.Nat.{_≤_, _-_}
+use mathlib.Core.Path.{_≡_, sym, _∙_}
+use native.Mathlib.Omega.{arith}
+use borrow.Author.Needs.{needs}
+use lib.ListN.{length, length-map}
+use Rattle.sheet.specs.Paths.{standsFor}
+use Rattle.figures.proofs.EachOperator.{Walked, plannedAt, walked-start, walked-planned, walked-next, path-operator, operator-ready, delay-fits, refused-path, late-path, accepted-path}
+use Rattle.figures.proofs.figures_of_path.Statement.{statement}
+use Rattle.figures.proofs.figures_of_path.Tie as tie
+
+abbrev Inv-loop : tie.InvT-loop
+Inv-loop path places count carried₀ figures₀ delay₀ k₀ carried figures delay k = (k ≤ count) × Walked (standsFor path) k carried figures delay
+
+abbrev μ-loop : tie.MeasureT-loop
+μ-loop path places count carried₀ figures₀ delay₀ k₀ carried figures delay k = count - k
+
+-- the places are sixteen
+full : (c : tie.Start Inv-loop μ-loop) → length (c .args .path .places) ≡ 16
+full c = sym (length-map (c .args .path .places) _) ∙ c .good .0 .1 .1 .1 .1 .1 .0 .1 .0 .1
+
+-- what was planned of operator k
+planned-at : (c : tie.After-plan Inv-loop μ-loop) → c .plan .result ≡ plannedAt (standsFor (c .before .before .before .before .before .before .before .before .before .args .path)) (c .before .before .before .before .loop .k)
+planned-at c =
+    walked-planned (c .before .before .before .before .loop .inv .1) (sym (path-operator _ _ (c .before .before .before .loop-test .taken))) (c .before .paired .ensures) (c .plan .ensures)
+
+-- behind the last operator
+walked-through : (c : tie.After-loop Inv-loop μ-loop) → Walked (standsFor (c .before .before .before .before .before .before .args .path)) (c .before .before .before .before .before .before .args .path .count) (c .before .loop .carried) (c .before .loop .figures) (c .before .loop .delay)
+walked-through c =
+    let ends : c .before .loop .k ≡ c .before .before .before .before .before .before .args .path .count = omega arith in
+    rw ends at (c .before .loop .inv .1)
+
+start-requires : tie.Need-start-requires Inv-loop μ-loop
+start-requires c κs = search needs
+
+no-figure-requires : tie.Need-no-figure-requires Inv-loop μ-loop
+no-figure-requires c κs = search needs
+
+loop-holds : tie.Need-loop-holds Inv-loop μ-loop
+unfolding standsFor
+loop-holds c = let s = c .before .before .before .before in
+    let path = s .args .path in
+    (omega arith, walked-start (standsFor path) (c .before .start .result) (c .no-figure .result) (c .before .start .ensures) (c .no-figure .ensures))
+
+mul-place : tie.Need-mul-place Inv-loop μ-loop
+mul-place c = omega arith
+
+array-copy-out-place : tie.Need-array-copy-out-place Inv-loop μ-loop
+array-copy-out-place c = omega arith
+
+paired-requires : tie.Need-paired-requires Inv-loop μ-loop
+paired-requires c κs = (c .before .before .before .before .before .before .before .pre, c .before .loop-test .taken)
+
+plan-requires : tie.Need-plan-requires Inv-loop μ-loop
+plan-requires c κs = operator-ready _ (c .before .before .before .before .before .before .before .before .pre) (full (c .before .before .before .before .before .before .before .before)) (c .before .before .before .loop .inv .1) (c .before .before .loop-test .taken)
+
+enum-known-why : tie.Need-enum-known-why Inv-loop μ-loop
+enum-known-why c = search needs
+
+refused-requires : tie.Need-refused-requires Inv-loop μ-loop
+refused-requires c κs = search needs
+
+returns : tie.Need-returns Inv-loop μ-loop
+returns c =
+    let s = c .before .before .before .before .before .before .before .before .before .before .before .before .before in
+    c .refused .ensures ∙ refused-path _ (s .pre) (full s) (c .before .before .before .before .before .before .before .before .loop .inv .1) (c .before .before .before .before .before .before .before .loop-test .taken) (sym (c .before .before .why .given .1) ∙ planned-at (c .before .before .before .before))
+
+enum-known-figure : tie.Need-enum-known-figure Inv-loop μ-loop
+enum-known-figure c = search needs
+
+mul-figures : tie.Need-mul-figures Inv-loop μ-loop
+mul-figures c = omega arith
+
+array-set-from-figures : tie.Need-array-set-from-figures Inv-loop μ-loop
+array-set-from-figures c = omega arith
+
+add-delay : tie.Need-add-delay Inv-loop μ-loop
+add-delay c =
+    let s = c .before .before .before .before .before .before .before .before .before .before .before .before .before in
+    let fits = delay-fits _ (s .pre) (full s) (c .before .before .before .before .before .before .before .before .loop .inv .1) (c .before .before .before .before .before .before .before .loop-test .taken) (sym (c .before .before .figure .given .1) ∙ planned-at (c .before .before .before .before)) in
+    omega (arith, fits)
+
+behind-requires : tie.Need-behind-requires Inv-loop μ-loop
+behind-requires c κs = operator-ready _ (c .before .before .before .before .before .before .before .before .before .before .before .before .before .pre) (full (c .before .before .before .before .before .before .before .before .before .before .before .before .before)) (c .before .before .before .before .before .before .before .before .loop .inv .1) (c .before .before .before .before .before .before .before .loop-test .taken)
+
+add-k : tie.Need-add-k Inv-loop μ-loop
+add-k c = omega (arith, c .before .before .before .before .before .before .before .before .loop-test .taken, c .before .before .before .before .before .before .before .before .before .before .before .before .before .before .pre .few)
+
+loop-less : tie.Need-loop-less Inv-loop μ-loop
+loop-less c = omega arith
+
+loop-again : tie.Need-loop-again Inv-loop μ-loop
+loop-again c =
+    let s = c .before .before .before .before .before .before .before .before .before .before .before .before .before .before in
+    let here = c .before .before .before .before .before .before .before .before .loop-test .taken in
+    let few = s .pre .few in
+    let walked = c .before .before .before .before .before .before .before .before .before .loop .inv .1 in (
+      omega (arith, here),
+      walked-next walked (omega (arith, here, few)) (sym (path-operator _ _ here)) (sym (c .before .before .before .figure .given .1) ∙ planned-at (c .before .before .before .before .before)) (c .behind .ensures),
+    )
+
+refused-requires-2 : tie.Need-refused-requires-2 Inv-loop μ-loop
+refused-requires-2 c κs = search needs
+
+returns-2 : tie.Need-returns-2 Inv-loop μ-loop
+returns-2 c =
+    let s = c .before .before .before .before .before .before .before .before .before in
+    c .refused2 .ensures ∙ late-path _ (s .pre) (full s) (walked-through (c .before .before .before)) (c .before .if1 .taken)
+
+returns-3 : tie.Need-returns-3 Inv-loop μ-loop
+returns-3 c =
+    let s = c .before .before .before .before .before .before .before .before in
+    accepted-path _ (s .pre) (full s) (walked-through (c .before .before)) (c .if1 .left)
+
+pub figures-of-path-spec : {M : Type 1} → statement M
+figures-of-path-spec =
+    tie.close
+    (tie.spec
+    Inv-loop
+    μ-loop
+    start-requires
+    no-figure-requires
+    loop-holds
+    mul-place
+    array-copy-out-place
+    paired-requires
+    plan-requires
+    enum-known-why
+    refused-requires
+    returns
+    enum-known-figure
+    mul-figures
+    array-set-from-figures
+    add-delay
+    behind-requires
+    add-k
+    loop-less
+    loop-again
+    refused-requires-2
+    returns-2
+    returns-3)
