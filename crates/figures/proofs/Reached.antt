@@ -40,7 +40,7 @@ number-in-range (place ∷ places) inside (suc k) less =
     number-in-range places (both-true (placeInRange place) (placesInRange places) inside .1) k (le-of-suc-le-suc less)
 
 -- no refusal stands against any operator
-none-at : (line : Line) (n : ℕ) → NoneStands (operatorsCases line n) → (k : ℕ) → k < n → NoneStands (operatorCases line k)
+pub none-at : (line : Line) (n : ℕ) → NoneStands (operatorsCases line n) → (k : ℕ) → k < n → NoneStands (operatorCases line k)
 unfolding operatorsCases
 none-at line zero none k less = absurd (not-suc-le-zero less)
 none-at line (suc n) none k less =
