@@ -1,0 +1,61 @@
+-- Sixteen capacities of at most the largest amount fit 64 bits.
+use Prim.Native.Nat.{_-_, _*_, _≤_}
+use native.Mathlib.Omega.{arith}
+use borrow.Author.Needs.{needs}
+use Rattle.quantity.specs.Limits.{largestAmount}
+use Rattle.figures.specs.Answers.{noFigure}
+use Rattle.listing.proofs.sum.Statement.{statement}
+use Rattle.listing.proofs.sum.Tie as tie
+
+abbrev Inv-loop : tie.InvT-loop
+Inv-loop figures capacity₀ k₀ capacity k = (k ≤ 16) × (capacity ≤ k * largestAmount)
+
+abbrev μ-loop : tie.MeasureT-loop
+μ-loop figures capacity₀ k₀ capacity k = 16 - k
+
+loop-holds : tie.Need-loop-holds Inv-loop μ-loop
+loop-holds c = search needs
+
+mul-figure : tie.Need-mul-figure Inv-loop μ-loop
+mul-figure c = search needs
+
+array-copy-out-figure : tie.Need-array-copy-out-figure Inv-loop μ-loop
+array-copy-out-figure c = search needs
+
+add-capacity : tie.Need-add-capacity Inv-loop μ-loop
+unfolding noFigure
+add-capacity c =
+    let start = c .before .before .before .before in
+    let one = start .pre (c .before .before .before .loop .k) (omega arith) in
+    omega arith
+
+add-k : tie.Need-add-k Inv-loop μ-loop
+add-k c = search needs
+
+loop-less : tie.Need-loop-less Inv-loop μ-loop
+loop-less c = search needs
+
+loop-again : tie.Need-loop-again Inv-loop μ-loop
+unfolding noFigure
+loop-again c =
+    let start = c .before .before .before .before in
+    let one = start .pre (c .before .before .before .loop .k) (omega arith) in
+    omega arith
+
+returns : tie.Need-returns Inv-loop μ-loop
+returns c = search needs
+
+pub sum-spec : {M : Type 1} → statement M
+sum-spec =
+    tie.close
+    (tie.spec
+    Inv-loop
+    μ-loop
+    loop-holds
+    mul-figure
+    array-copy-out-figure
+    add-capacity
+    add-k
+    loop-less
+    loop-again
+    returns)
