@@ -5,24 +5,16 @@ use crate::carried::start;
 use crate::each::Planned;
 use crate::each::pairs;
 use crate::each::plan;
-use operator::Declaration;
-use operator::Kind;
-use operator::Operator;
-use quantity::Interval;
-use quantity::Link;
-use quantity::Quota;
-use quantity::Rate;
 use quantity::Slots;
 use quantity::Units;
-use quantity::WantedDelay;
 use quantity::refusal::Refusal;
 use sheet::Path;
-use sheet::Place;
+use sheet::no_path;
 use sheet::read::Verdict;
 use sheet::read::read;
 ghost use mathlib.Core.Path.{_≡_};
 ghost use Prim.Native.Nat.{_<_};
-ghost use Rattle.sheet.specs.Paths.{noPath, standsFor};
+ghost use Rattle.sheet.specs.Paths.{standsFor};
 ghost use Rattle.figures.specs.Answers.{pairedAt, noFigure, refusedFigures, figuresOf};
 ghost use Rattle.figures.specs.Carried.{PathWithin, figuresOfPath};
 
@@ -65,27 +57,6 @@ fn no_figure() -> Figure
     Figure {
         capacity: Units(0),
         delay: Slots(0),
-    }
-}
-
-fn no_path() -> Path
-    ensures { λ r. ⌜ r ≡ noPath ⌝ }
-{
-    let declaration = Declaration {
-        kind: Kind::Smooth,
-        interval: Interval(0),
-        quota: Quota(0),
-    };
-    let place = Place {
-        operator: Operator::Limiter(Rate(0)),
-        link: Link(0),
-    };
-    let places = [place; 16];
-    Path {
-        declaration,
-        wanted: WantedDelay(0),
-        count: 0,
-        places,
     }
 }
 

@@ -1,11 +1,16 @@
 // A path and its sheet: the reader and the writer (document 01, sections 5 and 7).
 
 use operator::Declaration;
+use operator::Kind;
 use operator::Operator;
+use quantity::Interval;
 use quantity::Link;
+use quantity::Quota;
+use quantity::Rate;
 use quantity::WantedDelay;
 ghost use mathlib.Core.Path.{_≡_};
 ghost use Rattle.sheet.specs.Bodies.{placeInRange};
+ghost use Rattle.sheet.specs.Paths.{noPath};
 
 pub mod read;
 pub mod write;
@@ -43,6 +48,28 @@ pub struct Path {
     pub wanted: WantedDelay,
     pub count: usize,
     pub places: [Place; 16],
+}
+
+// The empty path, which is handed back beside a refusal.
+pub fn no_path() -> Path
+    ensures { λ r. ⌜ r ≡ noPath ⌝ }
+{
+    let declaration = Declaration {
+        kind: Kind::Smooth,
+        interval: Interval(0),
+        quota: Quota(0),
+    };
+    let place = Place {
+        operator: Operator::Limiter(Rate(0)),
+        link: Link(0),
+    };
+    let places = [place; 16];
+    Path {
+        declaration,
+        wanted: WantedDelay(0),
+        count: 0,
+        places,
+    }
 }
 
 // Whether the operator's number and the link are in their ranges.

@@ -12,6 +12,7 @@ use crate::Place;
 use crate::WANTED_AT;
 use crate::WANTED_TAG;
 use crate::WANTED_WIDTH;
+use crate::no_path;
 use operator::Declaration;
 use operator::Kind;
 use operator::Operator;
@@ -31,7 +32,7 @@ ghost use lib.Dec.{eqb};
 ghost use Rattle.quantity.specs.Choice.{pick};
 ghost use Rattle.quantity.specs.Refusals.{firstOf};
 ghost use Rattle.sheet.specs.Numbers.{numberOf};
-ghost use Rattle.sheet.specs.Paths.{noPath, valueOf};
+ghost use Rattle.sheet.specs.Paths.{valueOf};
 ghost use Rattle.sheet.specs.Bodies.{part, declarationIn, declarationFits, wantedIn, wantedFits, operatorOf, placeIn, placeFits};
 ghost use Rattle.sheet.specs.Fields.{fieldUnexpected, fieldCases, placeFormat};
 ghost use Rattle.sheet.specs.Sheets.{placesAt, placeLength, furtherCases, placesFrom, refusedRead, readSheet};
@@ -188,27 +189,6 @@ fn read_place(body: &[u8]) -> ReadPlace
         ReadPlace::Fits(place)
     } else {
         ReadPlace::OutOfRange
-    }
-}
-
-fn no_path() -> Path
-    ensures { λ r. ⌜ r ≡ noPath ⌝ }
-{
-    let declaration = Declaration {
-        kind: Kind::Smooth,
-        interval: Interval(0),
-        quota: Quota(0),
-    };
-    let place = Place {
-        operator: Operator::Limiter(Rate(0)),
-        link: Link(0),
-    };
-    let places = [place; 16];
-    Path {
-        declaration,
-        wanted: WantedDelay(0),
-        count: 0,
-        places,
     }
 }
 
