@@ -1,6 +1,5 @@
 -- Section 8: the lines marked P, as one table that is computed from the definitions.
 use mathlib.Core.Path.{_≡_, refl}
-use mathlib.Core.Bool.{Bool, true, false}
 use mathlib.Core.List.{List, [], _∷_, map}
 use Prim.Native.Nat.{ℕ}
 use lib.ListN.{length, replicate}
@@ -8,7 +7,6 @@ use Rattle.quantity.specs.Ranges.{inRange}
 use Rattle.quantity.specs.Rounding.{roundUp}
 use Rattle.quantity.specs.Sums.{total, every, listOf}
 use Rattle.quantity.specs.Refusals.{numberOf, placeOf, firstOf}
-use Rattle.quantity.specs.declared.refusal.Refusal.{Refusal}
 use Rattle.operator.specs.Held.{keeps}
 use Rattle.operator.specs.Compactor.{compactorLeast, compactorAfter}
 use Rattle.operator.specs.Filter.{besideAfter, filterLeast, filterGreatest, filterAfter}
@@ -22,7 +20,6 @@ use Rattle.operator.specs.Single
 use Rattle.operator.specs.declared.Kind.{Kind}
 use Rattle.operator.specs.declared.Operator.{Operator}
 use Rattle.operator.specs.declared.single.Stepped.{Stepped}
-use Rattle.sheet.specs.declared.Place.{Place}
 use Rattle.sheet.specs.Paths.{Line}
 use Rattle.figures.specs.Progress.{behind, progressAt}
 use Rattle.figures.specs.Figures.{partCapacity, partDelay, capacity, ownDelay, pairs, isFramed, framedAfterFilter, changedQuota, figureTooLarge, rateTooLow}

@@ -1,6 +1,6 @@
 -- Sections 4 and 7: the figures of a path and of a sheet, or the first refusal of 2 to 9.
 use Prim.Native.Nat.{ℕ, zero, suc, _+_}
-use mathlib.Core.Bool.{Bool, true, false}
+use mathlib.Core.Bool.{Bool, false}
 use mathlib.Core.List.{List, [], _∷_, _++_}
 use lib.ListN.{length, getD, replicate}
 use lib.Dec.{ltb}
@@ -9,7 +9,6 @@ use Rattle.quantity.specs.Sums.{total, listOf}
 use Rattle.quantity.specs.Refusals.{Case, _⇒_, firstOf}
 use Rattle.quantity.specs.declared.refusal.Refusal.{Refusal}
 use Rattle.quantity.specs.declared.refusal.Refusal.the-variants.{FramedAfterFilter, FigureTooLarge, RateTooLow, DelayAboveWanted}
-use Rattle.operator.specs.Classes.{Class}
 use Rattle.operator.specs.Metering.{classOf}
 use Rattle.operator.specs.declared.Operator.{Operator}
 use Rattle.sheet.specs.Paths.{Line, valueOf, noPlace, noPath}

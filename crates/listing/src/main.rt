@@ -1,7 +1,6 @@
 // Reads at most 256 bytes of one sheet from standard input and lists its figures (document 01, section 8).
 
 use figures::Figure;
-use figures::PathFigures;
 use libc::STDIN_FILENO;
 use libc::STDOUT_FILENO;
 use operator::Operator;

@@ -1,7 +1,7 @@
 -- The laws of flows, as a list: what the operators promise of every flow, with nothing of words or code.
 -- A path's figures rest on these and on nothing inside the operators. Theorems are those of source document 000.
 use mathlib.Core.Path.{_≡_}
-use mathlib.Core.List.{List, [], _∷_}
+use mathlib.Core.List.{[], _∷_}
 use Prim.Native.Nat.{ℕ, suc, _+_, _*_, _/_, _≤_}
 use Rattle.quantity.specs.Sums.{total, listOf}
 use Rattle.quantity.specs.Rounding.{roundUp}
@@ -10,7 +10,7 @@ use Rattle.operator.specs.Operators.{leastOutput, greatestOutput, heldAf
 use Rattle.operator.specs.Whole.{Whole}
 use Rattle.operator.specs.Flows.{Flow, flowOf, Smooth, Uniform, heldOn, outputOn, Fitting, none, InTime, Behind, Envelope}
 use Rattle.operator.specs.Classes.{Class, Keeps, burst, mostIn, changedTo}
-use Rattle.operator.specs.FilterPart.{Slowest, unfiltered, filtered, slower, limited, Served}
+use Rattle.operator.specs.FilterPart.{Slowest, unfiltered, filtered, slower, Served}
 use Rattle.operator.specs.declared.Operator.{Operator}
 use Rattle.operator.proofs.Conservation as Conservation
 use Rattle.operator.proofs.Windows as Windows

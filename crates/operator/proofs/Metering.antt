@@ -12,12 +12,12 @@ use native.Mathlib.Omega.{arith}
 use lib.ListN.{length, length-append, length-replicate, getD-replicate, List·getD-append, List·getD-eq-default}
 use lib.Seq.{getD-at}
 use lib.Dec.{leb, ltb, eqb}
-use borrow.Author.Tests.{ltb-false, eq-eqb, ne-eqb, le-ltb, le-leb, leb-true}
+use borrow.Author.Tests.{ltb-false, eq-eqb, ne-eqb, le-ltb, le-leb}
 use Rattle.quantity.specs.Choice.{pick, either}
 use Rattle.quantity.specs.Limits.{largestAmount, lastSlot}
 use Rattle.quantity.specs.Sums.{total, listOf}
 use Rattle.quantity.specs.declared.refusal.Refusal.the-variants.{InputBreaksDeclaration}
-use Rattle.quantity.proofs.Sums.{total-suc, total-next, total-le, total-none, total-same, total-le-end, total-changed, term-le-total, every-holds, both-true, length-listOf, getD-listOf}
+use Rattle.quantity.proofs.Sums.{total-suc, total-next, total-le, total-none, total-same, total-le-end, total-changed, term-le-total, every-holds, length-listOf, getD-listOf}
 use Rattle.operator.specs.Declarations.{declarationInRange}
 use Rattle.operator.specs.Flows.{Flow, flowOf, Smooth, Uniform}
 use Rattle.operator.specs.Classes.{KeepsKind, Keeps}
@@ -28,7 +28,7 @@ use Rattle.operator.specs.declared.Kind.{Kind}
 use Rattle.operator.specs.declared.Declaration.{Declaration}
 use Rattle.operator.specs.declared.meter.Metered.{Metered}
 use Rattle.operator.proofs.Compactor.{same-block}
-use Rattle.operator.proofs.UsableMeter.{Ranged, declaration-ranged}
+use Rattle.operator.proofs.UsableMeter.{declaration-ranged}
 
 -- the start of the block or window that ends with slot t
 abbrev startOf : Kind → ℕ → ℕ → ℕ

@@ -2,23 +2,19 @@
 use mathlib.Core.Path.{_≡_, refl}
 use mathlib.Core.List.{List, [], _∷_}
 use Prim.Native.Nat.{ℕ, zero, suc, _+_, _*_, _≤_}
-use native.Mathlib.Nat.{add-zero, add-suc, le-refl, le-add-left, le-add-right}
+use native.Mathlib.Nat.{le-refl}
 use native.Mathlib.Omega.{arith}
 use lib.ListN.{length, List·getD-eq-default}
 use Rattle.quantity.specs.Sums.{total, listOf}
-use Rattle.quantity.proofs.Sums.{total-suc, total-le}
+use Rattle.quantity.proofs.Sums.{total-le, total-le-end}
 use Rattle.operator.specs.Held.{keeps}
 use Rattle.operator.specs.Limiter.{limiterLeast, limiterAfter}
 use Rattle.operator.specs.Operators.{leastOutput, heldAfter, limiter}
 use Rattle.operator.specs.Flows.{flowOf, Smooth, heldOn, outputOn, none}
 
 -- nothing comes after the list's slots
-total-past : (xs : List ℕ) (k : ℕ) → total (flowOf xs) (length xs + k) ≡ total (flowOf xs) (length xs)
-total-past xs zero = rw add-zero
-total-past xs (suc k) = rw (add-suc, total-suc, List·getD-eq-default xs 0 {n = length xs + k} (le-add-right _ k), add-zero) (total-past xs k)
-
 total-le-all : (xs : List ℕ) (n : ℕ) → total (flowOf xs) n ≤ total (flowOf xs) (length xs)
-total-le-all xs n = rw (← total-past xs n) (total-le (flowOf xs) (le-add-left n (length xs)))
+total-le-all xs n = total-le-end (flowOf xs) (length xs) (λ j past. List·getD-eq-default xs 0 past) n
 
 abbrev units : List ℕ
 units = 0 ∷ 0 ∷ 0 ∷ 4 ∷ 4 ∷ 0 ∷ 0 ∷ 0 ∷ []

@@ -3,17 +3,17 @@ use mathlib.Core.Path.{_≡_, refl, ap, ap₂, sym, _∙_}
 use mathlib.Core.Bool.{Bool, true, false, not}
 use mathlib.Core.List.{List, [], _∷_}
 use Prim.Native.Nat.{ℕ, zero, suc, _+_, _-_, _≤_, _<_, min}
-use native.Mathlib.Nat.{not-suc-le-zero, le-dest}
+use native.Mathlib.Nat.{not-suc-le-zero}
 use native.Mathlib.Omega.{arith}
-use lib.ListN.{length, getD, List·getD-eq-default}
-use lib.Dec.{leb, ltb, eqb}
-use borrow.Author.Tests.{eq-eqb, leb-true, eqb-true, ltb-true, ltb-false, lt-ltb, le-ltb, not-false}
+use lib.ListN.{length}
+use lib.Dec.{ltb, eqb}
+use borrow.Author.Tests.{eq-eqb, eqb-true, ltb-true, ltb-false, lt-ltb, le-ltb, not-false}
 use Rattle.quantity.specs.Choice.{pick, either}
 use Rattle.quantity.specs.Sums.{total, every}
 use Rattle.quantity.specs.Limits.{largestAmount, lastSlot}
 use Rattle.quantity.specs.Ranges.{delayRange}
 use Rattle.quantity.proofs.Laws.{pick-true, pick-false, either-false, either-first, either-second, either-none, le-largest}
-use Rattle.quantity.proofs.Sums.{total-zero, total-suc, total-le, total-first, total-rest, every-at, listOf-ext}
+use Rattle.quantity.proofs.Sums.{total-zero, total-suc, total-le, total-first, listOf-ext}
 use Rattle.quantity.specs.Refusals.{_⇒_, firstOf}
 use Rattle.quantity.specs.declared.refusal.Refusal.{Refusal}
 use Rattle.quantity.specs.declared.refusal.Refusal.the-variants.{Unusable, OutOfRange, ChoiceAboveGreatest}

@@ -12,7 +12,6 @@ use Rattle.quantity.specs.declared.refusal.Refusal.the-variants.{Unusable, OutO
 use Rattle.operator.specs.Declarations.{declarationInRange}
 use Rattle.operator.specs.Stored.{wordAt, storedFits, wordFits, anyOf}
 use Rattle.operator.specs.declared.Kind.{Kind}
-use Rattle.operator.specs.declared.Declaration.{Declaration}
 use Rattle.operator.specs.declared.SourceMeter.{SourceMeter}
 use Rattle.operator.specs.declared.meter.Room.{Room}
 use Rattle.operator.specs.declared.meter.Metered.{Metered}

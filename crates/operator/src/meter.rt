@@ -1,7 +1,6 @@
 // A meter: whether a slot's input keeps the declaration (document 01, sections 2, 6 and 7).
 // An input is decided before anything is written.
 
-use crate::Declaration;
 use crate::Kind;
 use crate::SourceMeter;
 use quantity::Slots;

@@ -33,16 +33,6 @@ pub picked-false : {A : Type 0} (t : Bool) (a b : A) {r : A} → r ≡ pick t a 
 picked-false true a b e other = absurd (other e)
 picked-false false a b e other = refl
 
--- a value is in range if its constructor did not answer that it is out of range, and out of range if it did not answer the value
-module _ {A : Type 0} (range : Range) (within : ℕ → A) (outside : A) (value : ℕ) {answer : A} (answered : answer ≡ checkedIn range within outside value) where
-  pub in-range-answered : (answer ≡ outside → ⊥) → inRange range value ≡ true
-  unfolding checkedIn
-  in-range-answered other = picked-true (inRange range value) (within value) outside answered other
-
-  pub out-of-range-answered : (answer ≡ within value → ⊥) → inRange range value ≡ false
-  unfolding checkedIn
-  out-of-range-answered other = picked-false (inRange range value) (within value) outside answered other
-
 -- a value in range lies from the least to the largest
 module _ (range : Range) (value : ℕ) (inside : inRange range value ≡ true) where
   pub least-le : range .least ≤ value

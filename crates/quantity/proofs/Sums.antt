@@ -1,7 +1,7 @@
 -- Laws of sums, tests and lists over the numbers below n: one step, each index, and equality by elements.
 use mathlib.Core.Path.{_≡_, refl, ap, ap₂, sym, _∙_}
 use mathlib.Core.Bool.{Bool, true, false}
-use mathlib.Core.List.{List, [], _∷_, _++_}
+use mathlib.Core.List.{List, [], _∷_}
 use mathlib.Core.Logic.{⊎-elim}
 use Prim.Native.Nat.{ℕ, zero, suc, _+_, _≤_, _<_}
 use native.Mathlib.Nat.{le-refl, le-dest, add-suc, add-zero, not-suc-le-zero, le-of-suc-le-suc, eq-or-lt-of-le}

@@ -1,19 +1,13 @@
 -- Section 1: each kind of number has a least and a largest value, and its checking constructor takes just what lies between them.
 use Prim.Native.Nat.{ℕ}
-use mathlib.Core.Bool.{Bool, true, false}
+use mathlib.Core.Bool.{Bool}
 use lib.Dec.{leb}
 use Rattle.quantity.specs.Choice.{pick, both}
-use Rattle.quantity.specs.declared.Interval.{Interval}
 use Rattle.quantity.specs.declared.CheckedInterval.{CheckedInterval}
-use Rattle.quantity.specs.declared.Quota.{Quota}
 use Rattle.quantity.specs.declared.CheckedQuota.{CheckedQuota}
-use Rattle.quantity.specs.declared.Rate.{Rate}
 use Rattle.quantity.specs.declared.CheckedRate.{CheckedRate}
-use Rattle.quantity.specs.declared.Delay.{Delay}
 use Rattle.quantity.specs.declared.CheckedDelay.{CheckedDelay}
-use Rattle.quantity.specs.declared.WantedDelay.{WantedDelay}
 use Rattle.quantity.specs.declared.CheckedWantedDelay.{CheckedWantedDelay}
-use Rattle.quantity.specs.declared.Link.{Link}
 use Rattle.quantity.specs.declared.CheckedLink.{CheckedLink}
 
 pub record Range : Type 0 where

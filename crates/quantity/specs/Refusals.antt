@@ -1,6 +1,6 @@
 -- Section 7: the paper's number and place of each refusal, and how a call answers the first that stands.
 use Prim.Native.Nat.{ℕ}
-use mathlib.Core.Bool.{Bool, true, false}
+use mathlib.Core.Bool.{Bool}
 use mathlib.Core.List.{List, [], _∷_}
 use Rattle.quantity.specs.Choice.{pick}
 use Rattle.quantity.specs.declared.refusal.Refusal.{Refusal}

@@ -1,6 +1,6 @@
 -- Sums, tests and lists over the numbers below n: what a call says of all words or all slots, it says of each index.
 use Prim.Native.Nat.{ℕ, zero, suc, _+_}
-use mathlib.Core.Bool.{Bool, true, false}
+use mathlib.Core.Bool.{Bool, true}
 use mathlib.Core.List.{List, [], _∷_, _++_}
 use Rattle.quantity.specs.Choice.{both}
 

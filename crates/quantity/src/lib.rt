@@ -1,7 +1,7 @@
 // The quantities of document 01, section 1: each kind of number is a type of its own and carries its own least and largest value.
 
 ghost use mathlib.Core.Path.{_≡_};
-ghost use Rattle.quantity.specs.Ranges.{Range, inRange, checkedInterval, checkedQuota, checkedRate, checkedDelay, checkedWantedDelay, checkedLink, intervalRange, quotaRange, rateRange, delayRange, wantedDelayRange, linkRange};
+ghost use Rattle.quantity.specs.Ranges.{inRange, checkedInterval, checkedQuota, checkedRate, checkedDelay, checkedWantedDelay, checkedLink, intervalRange, quotaRange, rateRange, delayRange, wantedDelayRange, linkRange};
 
 pub mod refusal;
 

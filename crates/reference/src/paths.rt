@@ -143,11 +143,11 @@ pub fn misreadings() {
 pub fn limits() {
     let largest = two(uniform(1, 65535, 65535), compactor(1024), compactor(1));
     figures(
-        b"the largest quota, delayer 16:",
+        b"a quota near the limit, delayer 16:",
         with(largest, delayer(16)),
     );
     figures(
-        b"the largest quota, delayer 17:",
+        b"a quota near the limit, delayer 17:",
         with(largest, delayer(17)),
     );
     figures(

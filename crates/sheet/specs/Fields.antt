@@ -4,7 +4,7 @@ use mathlib.Core.Bool.{Bool, not}
 use mathlib.Core.List.{List, [], _∷_, _++_}
 use lib.ListN.{length, getD}
 use lib.Dec.{leb, ltb, eqb}
-use Rattle.quantity.specs.Choice.{both, either}
+use Rattle.quantity.specs.Choice.{both}
 use Rattle.quantity.specs.Refusals.{Case, _⇒_}
 use Rattle.quantity.specs.declared.refusal.Refusal.the-variants.{HeaderCutOff, FieldUnexpected, BodyCutOff, OutOfRange}
 use Rattle.sheet.specs.Numbers.{numberOf, bytesOf}

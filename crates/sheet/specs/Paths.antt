@@ -1,8 +1,7 @@
 -- The path that a path value stands for: its declaration, its delay wanted and the list of its first `count` operators, each with its link.
 use Prim.Native.Nat.{ℕ}
-use mathlib.Core.List.{List, [], _∷_, _++_}
+use mathlib.Core.List.{List, _++_}
 use lib.ListN.{length, take, replicate}
-use Rattle.quantity.specs.declared.Link.{Link}
 use Rattle.operator.specs.declared.Operator.{Operator}
 use Rattle.operator.specs.declared.Declaration.{Declaration}
 use Rattle.operator.specs.declared.Kind.{Kind}

@@ -1,6 +1,6 @@
 -- Section 5: one field 01, one 02, then 1 to 16 of 03; what reading and writing a sheet answer (section 7).
 use Prim.Native.Nat.{ℕ, zero, suc, _+_}
-use mathlib.Core.Bool.{Bool, true, false, not}
+use mathlib.Core.Bool.{Bool, true, not}
 use mathlib.Core.List.{List, [], _∷_, _++_}
 use lib.ListN.{length, drop}
 use lib.Dec.{leb, ltb, eqb}

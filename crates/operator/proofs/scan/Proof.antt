@@ -1,13 +1,13 @@
 -- Of the words passed: whether each fits, and their sum, which is below 2^32 for each.
 use mathlib.Core.Path.{_≡_, refl, sym, _∙_, ap, ap₂}
-use Prim.Native.Nat.{ℕ, _+_, _-_, _*_, _≤_, _<_}
+use Prim.Native.Nat.{_-_, _*_, _≤_}
 use native.Mathlib.Omega.{arith}
 use lib.ListN.{length}
 use borrow.Author.Needs.{needs}
 use Rattle.quantity.specs.Choice.{both}
 use Rattle.quantity.specs.Sums.{total, every}
 use Rattle.quantity.proofs.Sums.{total-zero, total-next, every-next}
-use Rattle.operator.specs.Stored.{wordAt, storedFits, wordFits}
+use Rattle.operator.specs.Stored.{wordAt, wordFits}
 use Rattle.operator.proofs.scan.Statement.{statement}
 use Rattle.operator.proofs.scan.Tie as tie
 

@@ -1,5 +1,4 @@
 -- Each variant in turn; the least output of a limiter and of a compactor is the greatest, by their definitions.
-use mathlib.Core.Path.{ap, _∙_}
 use Rattle.operator.specs.Limiter.{limiterLeast, limiterGreatest}
 use Rattle.operator.specs.Compactor.{compactorLeast, compactorGreatest}
 use Rattle.operator.specs.Expander.{expanderGreatest}

@@ -1,5 +1,5 @@
 -- The input's test, what is stored, and then the number's range.
-use mathlib.Core.Path.{_≡_, ap, sym, _∙_}
+use mathlib.Core.Path.{ap, sym, _∙_}
 use mathlib.Core.Bool.{not}
 use borrow.Author.Tests.{lt-ltb, le-ltb}
 use Rattle.quantity.proofs.Laws.{pick-true, pick-false, either-first, either-second, either-none}

@@ -1,5 +1,5 @@
 -- What is kept is b + r − s, which the tests hold to the limit. The ages that stay are the newest, and so are the words.
-use mathlib.Core.Path.{_≡_, refl, ap, sym, _∙_}
+use mathlib.Core.Path.{_≡_, refl, ap, _∙_}
 use Prim.Native.Nat.{ℕ, _+_, _-_, min}
 use native.Mathlib.Omega.{arith}
 use Rattle.quantity.specs.Choice.{pick}

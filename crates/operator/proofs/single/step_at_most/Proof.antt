@@ -1,6 +1,5 @@
 -- The tests in turn, each with the answer that the definition picks at it; what was found usable is what the bounds and the sending ask.
 use mathlib.Core.Path.{_≡_, ap, sym, _∙_}
-use mathlib.Core.Bool.{true, false}
 use Prim.Native.Nat.{ℕ, _+_, _≤_}
 use native.Mathlib.Omega.{arith}
 use borrow.Author.Tests.{ltb-false}
