@@ -7,7 +7,7 @@ use native.Mathlib.Nat.{le-refl}
 use native.Mathlib.Omega.{arith}
 use lib.ListN.{length, getD, replicate}
 use lib.Dec.{ltb}
-use borrow.Author.Tests.{ltb-true, ltb-false}
+use borrow.Author.Tests.{ltb-true, ltb-false, lt-ltb}
 use Rattle.quantity.specs.Choice.{pick}
 use Rattle.quantity.specs.Limits.{largestAmount}
 use Rattle.quantity.specs.Sums.{listOf}
@@ -18,6 +18,7 @@ use Rattle.quantity.proofs.Refusals.{NoneStands, none-of-each, none-where-resul
 use Rattle.operator.specs.Flows.{Flow}
 use Rattle.operator.specs.Classes.{Keeps}
 use Rattle.operator.specs.Metering.{classOf}
+use Rattle.operator.specs.Operators.{numberInRange}
 use Rattle.sheet.specs.declared.read.Verdict.{Verdict}
 use Rattle.sheet.specs.Paths.{Line, valueOf, noPath}
 use Rattle.sheet.specs.Sheets.{sheetCases, lineIn, lineInRange}
@@ -26,7 +27,7 @@ use Rattle.figures.specs.declared.PathFigures.{PathFigures}
 use Rattle.figures.specs.Answers.{operatorAt, before, capacityAt, pathDelay, operatorsCases, lineCases, figureAt, noFigure, figureIn, figuresOf}
 use Rattle.figures.specs.Figures.{capacity, changedQuota, largestChangedQuota, figureTooLarge}
 use Rattle.figures.specs.Along.{AllFit, Promised}
-use Rattle.figures.proofs.Reached.{none-at, reached-end, reached, stepped}
+use Rattle.figures.proofs.Reached.{none-at, reached-end, reached, passed-at, stepped}
 
 -- a path of numbers in their ranges that refusals 6 to 9 let pass
 pub promised : (line : Line) → lineInRange line ≡ true → NoneStands (lineCases line)
@@ -80,6 +81,19 @@ figure-le line none k true e =
     ltb-false largestAmount (capacity (before line k) (operatorAt line k))
     (either-false (ltb largestChangedQuota (changedQuota (before line k) (operatorAt line k))) (ltb largestAmount (capacity (before line k) (operatorAt line k))) (stands .1 .0) .1)
 figure-le line none k false e = omega arith
+
+-- a path of numbers in their ranges that refusals 6 to 9 let pass: each operator's number is in its range, and its capacity at most the largest amount
+module _ (line : Line) (inside : lineInRange line ≡ true) (none : NoneStands (lineCases line)) (k : ℕ) (less : k < length (line .places)) where
+  pub operator-inside : numberInRange (operatorAt line k) ≡ true
+  operator-inside = passed-at line inside none k less .inside
+
+  pub operator-capacity-le : capacityAt line k ≤ largestAmount
+  unfolding figureAt noFigure
+  operator-capacity-le = rw (lt-ltb k (length (line .places)) less) at (figure-le line none k (ltb k (length (line .places))) refl)
+
+-- no refusal stands against an accepted sheet's fields, nor against its path
+pub accepted-none : (sheet : List ℕ) → figuresOf sheet .verdict ≡ Verdict.Accepted → NoneStands (sheetCases sheet) × NoneStands (lineCases (lineIn sheet))
+accepted-none sheet accepted = none-of-each (sheetCases sheet) (lineCases (lineIn sheet)) (accepted-stands sheet accepted)
 
 pub capacity-le : (sheet : List ℕ) → figuresOf sheet .verdict ≡ Verdict.Accepted → (k : ℕ) → k < 16 → getD (figuresOf sheet .figures) k noFigure .capacity .0 ≤ largestAmount
 unfolding figureIn

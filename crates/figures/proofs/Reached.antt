@@ -95,14 +95,14 @@ module _ (line : Line) (r : Flow) (choices : ℕ → Flow) where
       rw (← sum) (in-time-add E (delayOfPart p) r g f late (part-in-time (p .class) g (known .large) (known .kept) (p .slowest) (p .e) f (known .carries) (known .served)))
 
 module _ (line : Line) (inside : lineInRange line ≡ true) (none : NoneStands (lineCases line)) where
-  large-interval : 1 ≤ line .declaration .interval .0
+  pub large-interval : 1 ≤ line .declaration .interval .0
   unfolding lineInRange declarationInRange
   large-interval =
       let declared = both-true (declarationInRange (line .declaration)) (both (inRange wantedDelayRange (line .wanted)) (placesInRange (line .places))) inside .0 in
       above-least intervalRange (line .declaration .interval .0)
       (both-true (inRange intervalRange (line .declaration .interval .0)) (inRange quotaRange (line .declaration .quota .0)) declared .0)
 
-  passed-at : (k : ℕ) → k < length (line .places) → Passed (before line k) (operatorAt line k)
+  pub passed-at : (k : ℕ) → k < length (line .places) → Passed (before line k) (operatorAt line k)
   unfolding lineInRange operatorAt
   passed-at k less =
       let others = both-true (declarationInRange (line .declaration)) (both (inRange wantedDelayRange (line .wanted)) (placesInRange (line .places))) inside .1 in

@@ -8,8 +8,10 @@ mod Compactor
 mod Expander
 mod FilterPart
 mod Misreadings
-mod Metering
+pub mod Metering
 mod StoredLaws
 mod UsableMeter
-mod SingleLaws
+pub mod SingleLaws
+pub mod Stands
+pub mod Keeping
 mod MeterAnswers

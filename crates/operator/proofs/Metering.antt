@@ -21,6 +21,7 @@ use Rattle.quantity.proofs.Sums.{total-suc, total-next, total-le, total-none, t
 use Rattle.operator.specs.Declarations.{declarationInRange}
 use Rattle.operator.specs.Flows.{Flow, flowOf, Smooth, Uniform}
 use Rattle.operator.specs.Classes.{KeepsKind, Keeps}
+use Rattle.operator.specs.Keeping.{startOf}
 use Rattle.operator.specs.Meter.{meterWordCount, usesBlock, meterWordsUsed, meterUnusable, countsWith, countedBefore, inputBreaks, meterNext, meterWordNext, meterOf, meterWordsAfter}
 use Rattle.operator.specs.Metering.{classOf, Fed, newMeter, offered, offeredAll}
 use Rattle.operator.specs.Stored.{wordAt, storedFits, wordFits}
@@ -30,17 +31,12 @@ use Rattle.operator.specs.declared.meter.Metered.{Metered}
 use Rattle.operator.proofs.Compactor.{same-block}
 use Rattle.operator.proofs.UsableMeter.{declaration-ranged}
 
--- the start of the block or window that ends with slot t
-abbrev startOf : Kind → ℕ → ℕ → ℕ
-startOf Kind.Smooth m t = t / m * m
-startOf Kind.Uniform m t = suc t - m
-
 start-le : (kind : Kind) (m t : ℕ) → 1 ≤ m → startOf kind m t ≤ t
 start-le Kind.Smooth m t large = div-mul-le-self t m
 start-le Kind.Uniform m t large = omega arith
 
 -- a flow of the class has at most Q there
-keeps-last : (m Q t : ℕ) (r : Flow) → 1 ≤ m → (kind : Kind) → KeepsKind kind m Q r → total r (suc t) ≤ total r (startOf kind m t) + Q
+pub keeps-last : (m Q t : ℕ) (r : Flow) → 1 ≤ m → (kind : Kind) → KeepsKind kind m Q r → total r (suc t) ≤ total r (startOf kind m t) + Q
 keeps-last m Q t r large Kind.Smooth keeps = rw (add-suc, div-add-mod') at (keeps (t / m) (suc (t % m)) (mod-lt t large))
 keeps-last m Q t r large Kind.Uniform keeps =
     let ends : suc t - m + (suc t - (suc t - m)) ≡ suc t = omega arith in
@@ -49,12 +45,12 @@ keeps-last m Q t r large Kind.Uniform keeps =
 -- What a meter stores after t slots of a flow r.
 
 -- the units of the block of slot t − 1
-blockUnits : ℕ → Flow → ℕ → ℕ
+unfoldable pub blockUnits : ℕ → Flow → ℕ → ℕ
 blockUnits m r zero = 0
 blockUnits m r (suc t) = pick (eqb (t % m) 0) 0 (blockUnits m r t) + r t
 
 -- the input of the latest slot whose number leaves j
-latestInput : ℕ → Flow → ℕ → ℕ → ℕ
+unfoldable pub latestInput : ℕ → Flow → ℕ → ℕ → ℕ
 latestInput m r zero j = 0
 latestInput m r (suc t) j = pick (eqb j (t % m)) (r t) (latestInput m r t j)
 
@@ -259,13 +255,13 @@ abbrev slotOf : Fed → ℕ
 slotOf fed = fed .state .slot .0
 
 -- What holds of a meter from new: its declaration is in range, its block and words are those of the inputs that it took, and these keep the declaration.
-record Sound (fed : Fed) : Type 0 where
-  ranged : declarationInRange (fed .state .declaration) ≡ true
-  slots : length (fed .taken) ≡ slotOf fed
-  size : length (fed .words) ≡ meterWordCount
-  block : fed .state .block .0 ≡ storedBlock (kindOf fed) (intervalOf fed) (flowOf (fed .taken)) (slotOf fed)
-  each : (j : ℕ) → j < meterWordCount → wordAt (fed .words) j ≡ storedWord (kindOf fed) (intervalOf fed) (flowOf (fed .taken)) (slotOf fed) j
-  keeps : Keeps (classOf (fed .state .declaration)) (flowOf (fed .taken))
+pub record Sound (fed : Fed) : Type 0 where
+  pub ranged : declarationInRange (fed .state .declaration) ≡ true
+  pub slots : length (fed .taken) ≡ slotOf fed
+  pub size : length (fed .words) ≡ meterWordCount
+  pub block : fed .state .block .0 ≡ storedBlock (kindOf fed) (intervalOf fed) (flowOf (fed .taken)) (slotOf fed)
+  pub each : (j : ℕ) → j < meterWordCount → wordAt (fed .words) j ≡ storedWord (kindOf fed) (intervalOf fed) (flowOf (fed .taken)) (slotOf fed) j
+  pub keeps : Keeps (classOf (fed .state .declaration)) (flowOf (fed .taken))
 
 -- The flow of a list with one more input.
 module _ (taken : List ℕ) (input t : ℕ) (e : length taken ≡ t) where
@@ -279,7 +275,7 @@ module _ (taken : List ℕ) (input t : ℕ) (e : length taken ≡ t) where
   flow-rest i past = List·getD-eq-default (taken ++ (input ∷ [])) 0 {n = i} (omega (arith, length-append taken (input ∷ [])))
 
 -- the meter once it took an input
-abbrev afterTaken : Fed → ℕ → Fed
+abbrev pub afterTaken : Fed → ℕ → Fed
 afterTaken fed input =
     record {
       state = meterNext (fed .state) (fed .words) input;
@@ -295,7 +291,7 @@ module _ (fed : Fed) (sound : Sound fed) where
       let ranged = declaration-ranged (fed .state .declaration) (sound .ranged) in
       rw (sound .block) (counted-total (intervalOf fed) (slotOf fed) (flowOf (fed .taken)) (fed .words) (kindOf fed) (ranged .large) (ranged .fits) (sound .each))
 
-  sound-usable : length (fed .taken) ≤ lastSlot → meterUnusable (fed .state) (fed .words) ≡ false
+  pub sound-usable : length (fed .taken) ≤ lastSlot → meterUnusable (fed .state) (fed .words) ≡ false
   unfolding meterUnusable wordFits
   sound-usable left =
       let ranged = declaration-ranged (fed .state .declaration) (sound .ranged) in
@@ -311,7 +307,7 @@ module _ (fed : Fed) (sound : Sound fed) where
       )
 
   module _ (input : ℕ) where
-    sound-keeps : (inputBreaks (fed .state) (fed .words) input ≡ false) ↔ Keeps (classOf (fed .state .declaration)) (flowOf (fed .taken ++ (input ∷ [])))
+    pub sound-keeps : (inputBreaks (fed .state) (fed .words) input ≡ false) ↔ Keeps (classOf (fed .state .declaration)) (flowOf (fed .taken ++ (input ∷ [])))
     unfolding inputBreaks
     sound-keeps =
         let ranged = declaration-ranged (fed .state .declaration) (sound .ranged) in
@@ -323,7 +319,7 @@ module _ (fed : Fed) (sound : Sound fed) where
           λ h. le-ltb (quotaOf fed) (countedBefore (fed .state) (fed .words) + input) (within h),
         )
 
-    sound-next : inputBreaks (fed .state) (fed .words) input ≡ false → Sound (afterTaken fed input)
+    pub sound-next : inputBreaks (fed .state) (fed .words) input ≡ false → Sound (afterTaken fed input)
     unfolding meterNext meterWordNext countedBefore
     sound-next taken =
         let same = flow-same (fed .taken) input (slotOf fed) (sound .slots) in
@@ -354,7 +350,7 @@ unfolding usesBlock latestInput
 stored-word-new Kind.Smooth m j = refl
 stored-word-new Kind.Uniform m j = refl
 
-sound-new : (declared : Declaration) → declarationInRange declared ≡ true → Sound (newMeter declared)
+pub sound-new : (declared : Declaration) → declarationInRange declared ≡ true → Sound (newMeter declared)
 sound-new declared ranged =
     record {
       ranged = ranged;

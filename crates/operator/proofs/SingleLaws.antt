@@ -102,7 +102,7 @@ used-within (Expander m) inside = omega arith
 used-within (Filter R) inside = omega arith
 used-within (Delayer d) inside = le-largest delayRange (d .0) inside
 
-no-words : (op : Operator) → usesHeld op ≡ true → wordsUsed op ≡ 0
+pub no-words : (op : Operator) → usesHeld op ≡ true → wordsUsed op ≡ 0
 unfolding usesHeld wordsUsed
 no-words (Limiter R) holds = refl
 no-words (Compactor m) holds = refl

@@ -14,3 +14,4 @@ pub mod Stored
 pub mod Single
 pub mod Meter
 pub mod Metering
+pub mod Keeping
