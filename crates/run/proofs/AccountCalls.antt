@@ -1,0 +1,44 @@
+-- A list of calls on the account: a call that no case stands against moves it, any other leaves it, so what each taken call keeps holds after any calls.
+use mathlib.Core.Path.{_≡_, refl}
+use mathlib.Core.Bool.{Bool, true, false}
+use mathlib.Core.List.{List, [], _∷_}
+use mathlib.Core.Logic.{⊎-elim}
+use Prim.Native.Nat.{ℕ, zero, suc, _<_}
+use native.Mathlib.Nat.{not-suc-le-zero, le-of-suc-le-suc, eq-or-lt-of-le}
+use Rattle.quantity.specs.Choice.{pick}
+use Rattle.quantity.specs.Refusals.{Case, firstOf}
+use Rattle.quantity.proofs.Refusals.{NoneStands, none-of-each}
+use Rattle.sheet.specs.Paths.{Line}
+use Rattle.run.specs.Calls.{Call}
+use Rattle.run.specs.Account.{Account, choiceTooLarge, choicesTooLarge, accountCases, accountNext, accountAfter}
+use Rattle.run.specs.Lists.{accountAll}
+
+-- the choice of no operator is too large where no such case stands
+pub choice-small : (line : Line) (account : Account) (call : Call) (n : ℕ) → NoneStands (choicesTooLarge line account call n)
+    → (k : ℕ) → k < n → choiceTooLarge line account call k ≡ false
+unfolding choicesTooLarge
+choice-small line account call zero none k less = absurd (not-suc-le-zero less)
+choice-small line account call (suc n) none k less =
+    let (earlier, last) = none-of-each (choicesTooLarge line account call n) _ none in
+    ⊎-elim (λ same. rw same (last .0)) (choice-small line account call n earlier k) (eq-or-lt-of-le (le-of-suc-le-suc less))
+
+-- an answer that is one thing under every refusal: that, or the result where no case stands
+pub of-either : {A : Type 0} (P : A → Type 0) (same result : A) (cs : List Case) → P same → (NoneStands cs → P result) → P (firstOf cs (λ why. same) result)
+of-either P same result [] stays moves = moves tt
+of-either P same result (c ∷ cs) stays moves = by-test (c .stands) refl (λ none. of-either P same result cs stays none)
+  where
+    by-test : (t : Bool) → c .stands ≡ t → ((NoneStands cs → P result) → P (firstOf cs (λ why. same) result)) → P (pick t same (firstOf cs (λ why. same) result))
+    by-test true e rest = stays
+    by-test false e rest = rest (λ none. moves (e, none))
+
+module _ (line : Line) (P : Account → Type 0)
+    (next : (account : Account) (call : Call) → NoneStands (accountCases line account call) → P account → P (accountNext line account call)) where
+  pub after-holds : (account : Account) (call : Call) → P account → P (accountAfter line account call)
+  unfolding accountAfter
+  after-holds account call holds =
+      of-either P account (accountNext line account call) (accountCases line account call) holds (λ none. next account call none holds)
+
+  pub all-holds : (account : Account) (calls : List Call) → P account → P (accountAll line account calls)
+  unfolding accountAll
+  all-holds account [] holds = holds
+  all-holds account (call ∷ calls) holds = all-holds (accountAfter line account call) calls (after-holds account call holds)

@@ -1,0 +1,251 @@
+-- Where run and words are joined to the account, a slot call answers what the account answers, and leaves them joined again.
+use mathlib.Core.Path.{_≡_, refl, ap, ap₂, sym, subst, _∙_}
+use mathlib.Core.Bool.{Bool, true, false, not}
+use mathlib.Core.List.{List, [], _∷_, _++_}
+use mathlib.Core.Logic.{_⊎_, inl, inr, _↔_, ⊎-elim}
+use Prim.Native.Nat.{ℕ, zero, suc, _+_, _-_, _≤_, _<_}
+use native.Mathlib.Nat.{lt-of-not-le, le-refl}
+use native.Mathlib.Decide.{decLe}
+use native.Mathlib.Omega.{arith}
+use lib.ListN.{length}
+use lib.Dec.{leb, ltb, eqb}
+use borrow.Author.Tests.{lt-ltb, le-ltb, le-leb, ltb-true, ltb-false, eq-eqb, not-false}
+use Rattle.quantity.specs.Choice.{pick, both, either}
+use Rattle.quantity.specs.Limits.{largestAmount, lastSlot}
+use Rattle.quantity.specs.Sums.{every, listOf}
+use Rattle.quantity.specs.Refusals.{Case, _⇒_, firstOf}
+use Rattle.quantity.specs.declared.refusal.Refusal.{Refusal}
+use Rattle.quantity.specs.declared.refusal.Refusal.the-variants.{Unusable, InputBreaksDeclaration, ChoiceAboveGreatest}
+use Rattle.quantity.proofs.Laws.{pick-true, pick-false, either-first, either-second, either-none}
+use Rattle.quantity.proofs.Sums.{both-true, every-holds}
+use Rattle.quantity.proofs.Refusals.{NoneStands, none-of-both, none-of-each, firstOf-none}
+use Rattle.operator.specs.Held.{Held, nothing}
+use Rattle.operator.specs.Operators.{leastOutput, greatestOutput, heldAfter, numberInRange}
+use Rattle.operator.specs.Declarations.{declarationInRange}
+use Rattle.operator.specs.Classes.{Keeps}
+use Rattle.operator.specs.Flows.{flowOf}
+use Rattle.operator.specs.Metering.{classOf}
+use Rattle.operator.specs.Keeping.{keepsClass}
+use Rattle.operator.specs.Stored.{storedFits, wordFits}
+use Rattle.operator.specs.Single.{wordCount, heldIn, heldNext, storedUnusable, choiceAbove, leavesTooMuch}
+use Rattle.operator.specs.Meter.{meterWordCount, meterUnusable, inputBreaks, usesBlock, meterWordsUsed}
+use Rattle.operator.proofs.Keeping.{keeps-decided}
+use Rattle.operator.proofs.Laws.{least-le-greatest}
+use Rattle.operator.proofs.Metering.{sound-usable, sound-keeps}
+use Rattle.operator.proofs.SingleLaws.{stored-usable}
+use Rattle.operator.proofs.Stands.{Stands, stands-new, stands-usable}
+use Rattle.sheet.specs.Paths.{Line}
+use Rattle.figures.specs.Answers.{operatorAt, capacityAt}
+use Rattle.run.specs.declared.Stage.{Stage}
+use Rattle.run.specs.declared.Run.{Run}
+use Rattle.run.specs.declared.slot.Outcome.{Outcome}
+use Rattle.run.specs.declared.slot.Slotted.{Slotted}
+use Rattle.run.specs.Calls.{Call, choiceFor, choicesMiscounted, amountTooLarge}
+use Rattle.run.specs.Account.{Account, arriving, slotsUsedUp, breaksDeclaration, choiceTooLarge, choicesTooLarge, accountCases, accountAnswer, accountNext, accountAfter}
+use Rattle.run.specs.Runs.{runWordCount, mostOperators, meterWords, operatorWords, noStage, noOperator, stageAt, meterIn, singleIn, stageMisplaced, stageUnusable, stageFits, runUnusable}
+use Rattle.run.specs.Slots.{inputInto, slotBreaks, choiceAboveAt, choiceCases, leavesTooMuchAt, slotLeavesTooMuch, slotCases, refusedSlot, takenSlot, runNext, wordNext, slottedOf, wordsSlotted}
+use Rattle.run.proofs.Standing.{FirstIs, none-or-first, first-answered, first-of-more}
+use Rattle.run.proofs.UsableRun.{run-usable}
+use Rattle.run.proofs.AccountCalls.{choice-small}
+use Rattle.run.proofs.AccountFlows.{AccountKept}
+use Rattle.run.proofs.Joined.{Joined, meterFed, length-operatorWords, held-same, operator-same, slot-same, least-same, greatest-same, into-same, joined-next}
+
+-- two tests that fail just where the same holds
+same-test : {P : Type 0} (a b : Bool) → (a ≡ false) ↔ P → (b ≡ false) ↔ P → a ≡ b
+same-test true true p q = refl
+same-test true false p q = p .1 (q .0 refl)
+same-test false true p q = sym (q .1 (p .0 refl))
+same-test false false p q = refl
+
+-- what is known of a path that opening lets pass
+pub record Passes (line : Line) : Type 0 where
+  pub some : 1 ≤ length (line .places)
+  pub few : length (line .places) ≤ mostOperators
+  pub large : 1 ≤ line .declaration .interval .0
+  pub declared : declarationInRange (line .declaration) ≡ true
+  pub number : (k : ℕ) → k < length (line .places) → numberInRange (operatorAt line k) ≡ true
+  pub capacity : (k : ℕ) → k < length (line .places) → capacityAt line k ≤ largestAmount
+
+module _ (line : Line) (passes : Passes line) (run : Run) (words : List ℕ) (account : Account) (joined : Joined line run words account) (kept : AccountKept line account) where
+  -- a stage of the path is usable: what it stands for is within its capacity
+  stage-usable : account .slot ≤ lastSlot → (k : ℕ) → k < length (line .places) → stageFits run words k ≡ true
+  unfolding stageFits stageMisplaced stageUnusable
+  stage-usable left k less =
+      let capacity = passes .capacity k less in
+      rw (
+        lt-ltb k (run .count) (rw (joined .counted) less),
+        joined .operator k less,
+        passes .number k less,
+        stored-usable (singleIn run k) (operatorWords words k)
+            (stands-usable (singleIn run k) (operatorWords words k) (account .held k) (joined .stands k less) (rw (slot-same line run words account joined k less) left)
+            (let within = kept .held-within k less in omega arith) (let within = kept .beside-within k less in omega arith)),
+      )
+
+  -- and one behind them: it is empty, and its words are 0
+  empty-usable : account .slot ≤ lastSlot → (k : ℕ) → length (line .places) ≤ k → k < mostOperators → stageFits run words k ≡ true
+  unfolding stageFits stageMisplaced stageUnusable singleIn noOperator
+  empty-usable left k behind less =
+      rw (
+        le-ltb k (run .count) (rw (joined .counted) behind),
+        joined .empty k behind less,
+        stored-usable (record { operator = noStage .operator; slot = run .slot; held = record { 0 = 0 }; beside = record { 0 = 0 } }) (operatorWords words k)
+            (stands-usable (record { operator = noStage .operator; slot = run .slot; held = record { 0 = 0 }; beside = record { 0 = 0 } }) (operatorWords words k) nothing
+            (stands-new (noStage .operator) (run .slot) (operatorWords words k) (length-operatorWords words (joined .sized) k less) (joined .clear k behind less))
+            (rw (joined .slot) left) (omega arith) (omega arith)),
+      )
+
+  stages-usable : account .slot ≤ lastSlot → every (stageFits run words) mostOperators ≡ true
+  stages-usable left =
+      every-holds (stageFits run words) mostOperators
+      (λ k less.
+      elim (decLe (length (line .places)) k) [
+        | yes behind ↦ empty-usable left k behind less
+        | no inside ↦ stage-usable left k (lt-of-not-le inside)
+      ])
+
+  -- 1 of what is lent and stored stands only where no slot number is left
+  unusable-where-used-up : ltb lastSlot (account .slot) ≡ true → runUnusable run words ≡ true
+  unfolding runUnusable meterUnusable meterIn
+  unusable-where-used-up used =
+      either-second (not (eqb (length words) runWordCount)) _
+      (either-second (not (both (leb 1 (run .count)) (leb (run .count) mostOperators))) _
+      (either-second (not (declarationInRange (run .declaration))) _
+      (either-first _ _
+      (either-second (not (eqb (length (meterWords words)) meterWordCount)) _ (either-first (ltb lastSlot (run .slot .0)) _ (rw (joined .slot) used))))))
+
+  usable-where-left : ltb lastSlot (account .slot) ≡ false → runUnusable run words ≡ false
+  usable-where-left left =
+      let within = ltb-false lastSlot (account .slot) left in
+      run-usable run words (
+      record {
+        sized = joined .sized;
+        some = rw (joined .counted) (passes .some);
+        few = rw (joined .counted) (passes .few);
+        declared = rw (joined .declared) (passes .declared);
+        meter = sound-usable (meterFed run words (account .entered)) (joined .meter) (rw (kept .counted) within);
+        stages = stages-usable within;
+      })
+
+  unusable-same : runUnusable run words ≡ slotsUsedUp account
+  unfolding slotsUsedUp
+  unusable-same = by-test (ltb lastSlot (account .slot)) refl
+    where
+      by-test : (t : Bool) → ltb lastSlot (account .slot) ≡ t → runUnusable run words ≡ t
+      by-test true used = unusable-where-used-up used
+      by-test false left = usable-where-left left
+
+  module _ (call : Call) where
+    -- 13: the meter's test and the account's decide the same, that what entered and this input keep the declaration
+    meter-decides : (slotBreaks run words call ≡ false) ↔ Keeps (classOf (run .declaration)) (flowOf (account .entered ++ (call .input ∷ [])))
+    unfolding slotBreaks meterIn
+    meter-decides = sound-keeps (meterFed run words (account .entered)) (joined .meter) (call .input)
+
+    account-decides : (breaksDeclaration line account call ≡ false) ↔ Keeps (classOf (run .declaration)) (flowOf (account .entered ++ (call .input ∷ [])))
+    unfolding breaksDeclaration
+    account-decides =
+        let decided = keeps-decided (classOf (line .declaration)) (account .entered ++ (call .input ∷ [])) (passes .large) in
+        rw (joined .declared) (λ e. decided .0 (not-false _ e), λ keeps. ap not (decided .1 keeps))
+
+    breaks-same : slotBreaks run words call ≡ breaksDeclaration line account call
+    breaks-same = same-test (slotBreaks run words call) (breaksDeclaration line account call) meter-decides account-decides
+
+    -- 14: so do the tests of a choice
+    choice-same : (k : ℕ) → k < length (line .places) → choiceAboveAt run words call k ≡ choiceTooLarge line account call k
+    unfolding choiceAboveAt choiceTooLarge choiceAbove
+    choice-same k less =
+        let r = into-same line run words account joined call k (omega arith) in
+        rw r
+        (ap₂ (λ (low high : ℕ). ltb (high - low) (choiceFor call k)) (least-same line run words account joined k less (arriving line account call k)) (greatest-same line run words account joined k less (arriving line account call k)))
+
+    choices-same : (n : ℕ) → n ≤ length (line .places) → choiceCases run words call n ≡ choicesTooLarge line account call n
+    unfolding choiceCases choicesTooLarge
+    choices-same zero h = refl
+    choices-same (suc n) h = ap₂ (λ (cs : List Case) (t : Bool). cs ++ ((t ⇒ ChoiceAboveGreatest n) ∷ [])) (choices-same n (omega arith)) (choice-same n h)
+
+    -- the refusals of a slot are the account's, and behind them 1 for what would be left
+    cases-same : slotCases run words call ≡ accountCases line account call ++ ((slotLeavesTooMuch run words call ⇒ Unusable) ∷ [])
+    cases-same =
+        rw (
+          ap (λ (n : ℕ). choicesMiscounted n call) (joined .counted),
+          unusable-same,
+          breaks-same,
+          ap (choiceCases run words call) (joined .counted) ∙ choices-same (length (line .places)) (le-refl _),
+        )
+
+    module _ (next : NoneStands (accountCases line account call) → AccountKept line (accountNext line account call)) where
+      next-held : (k : ℕ) → k < length (line .places)
+          → heldAfter (singleIn run k .operator) (heldIn (singleIn run k) (operatorWords words k)) (inputInto run words call k) (inputInto run words call (suc k))
+          ≡ accountNext line account call .held k
+      unfolding accountNext
+      next-held k less =
+          rw (
+            held-same line run words account joined k less,
+            operator-same line run words account joined k less,
+            into-same line run words account joined call k (omega arith),
+            into-same line run words account joined call (suc k) less,
+          )
+
+      -- a call that the account takes leaves nothing above the limit
+      leaves-none : NoneStands (accountCases line account call) → slotLeavesTooMuch run words call ≡ false
+      unfolding slotLeavesTooMuch leavesTooMuchAt leavesTooMuch heldNext
+      leaves-none taken =
+          ap not
+          (every-holds (λ k. not (leavesTooMuchAt run words call k)) (run .count)
+          (λ k counts.
+          let less : k < length (line .places) = rw (joined .counted) at counts in
+          let held = next-held k less in
+          let capacity = passes .capacity k less in
+          let within = next taken .held-within k less in
+          let beside = next taken .beside-within k less in
+          rw (held, le-ltb largestAmount (accountNext line account call .held k .b) (omega arith), le-ltb largestAmount (accountNext line account call .held k .h) (omega arith))))
+
+      none-stands : NoneStands (accountCases line account call) → NoneStands (slotCases run words call)
+      none-stands taken = subst NoneStands (sym cases-same) (none-of-both (accountCases line account call) _ taken (leaves-none taken, tt))
+
+      first-stands : (why : Refusal) → FirstIs (accountCases line account call) why → FirstIs (slotCases run words call) why
+      first-stands why first = subst (λ (cs : List Case). FirstIs cs why) (sym cases-same) (first-of-more why (accountCases line account call) _ first)
+
+      -- where the account takes the call each output lies in its interval
+      outputs-fit : NoneStands (accountCases line account call) → (k : ℕ) → k < length (line .places)
+          → arriving line account call (suc k) ≤ greatestOutput (operatorAt line k) (account .slot) (account .held k) (arriving line account call k)
+      unfolding arriving choiceTooLarge
+      outputs-fit taken k less =
+          let small = choice-small line account call (length (line .places)) (taken .1 .1 .1 .1) k less in
+          omega (
+            arith,
+            ltb-false,
+            least-le-greatest (operatorAt line k) (account .slot) (account .held k) (arriving line account call k) (kept .whole k less),
+          )
+
+      pub answer-same : slottedOf run words call .outcome ≡ accountAnswer line account call
+      unfolding slottedOf accountAnswer takenSlot refusedSlot
+      answer-same =
+          ⊎-elim
+          (λ taken.
+          ap (λ (slotted : Slotted). slotted .outcome) (firstOf-none (refusedSlot run) (takenSlot run words call) (slotCases run words call) (none-stands taken))
+          ∙ ap (λ (s : ℕ). Outcome.Sent (record { 0 = s })) (ap (inputInto run words call) (joined .counted) ∙ into-same line run words account joined call (length (line .places)) (le-refl _))
+          ∙ sym (firstOf-none Outcome.Refused _ (accountCases line account call) taken))
+          (λ (why, first).
+          ap (λ (slotted : Slotted). slotted .outcome) (first-answered (refusedSlot run) (takenSlot run words call) why (slotCases run words call) (first-stands why first))
+          ∙ sym (first-answered Outcome.Refused _ why (accountCases line account call) first))
+          (none-or-first (accountCases line account call))
+
+      pub joined-after : Joined line (slottedOf run words call .run) (wordsSlotted run words call) (accountAfter line account call)
+      unfolding slottedOf wordsSlotted accountAfter takenSlot refusedSlot
+      joined-after =
+          ⊎-elim
+          (λ taken.
+          rw (
+            firstOf-none (refusedSlot run) (takenSlot run words call) (slotCases run words call) (none-stands taken),
+            firstOf-none (λ why. words) (listOf (wordNext run words call) runWordCount) (slotCases run words call) (none-stands taken),
+            firstOf-none (λ why. account) (accountNext line account call) (accountCases line account call) taken,
+          )
+          (joined-next line run words account joined call (passes .few) (breaks-same ∙ taken .1 .1 .1 .0) (passes .number) (kept .whole) (outputs-fit taken)))
+          (λ (why, first).
+          rw (
+            first-answered (refusedSlot run) (takenSlot run words call) why (slotCases run words call) (first-stands why first),
+            first-answered (λ why. words) (listOf (wordNext run words call) runWordCount) why (slotCases run words call) (first-stands why first),
+            first-answered (λ why. account) (accountNext line account call) why (accountCases line account call) first,
+          )
+          joined)
+          (none-or-first (accountCases line account call))

@@ -1,0 +1,93 @@
+-- Demand 2: in any run that refusal 1 lets pass, a slot is taken if and only if its input keeps the declaration as the run has it and every choice lies in its operator's interval.
+use mathlib.Core.Path.{_≡_, refl, ap, sym, _∙_}
+use mathlib.Core.Bool.{Bool, true, false}
+use mathlib.Core.List.{List, [], _∷_, _++_}
+use mathlib.Core.Logic.{_↔_, ⊎-elim}
+use Prim.Native.Nat.{ℕ, zero, suc, _+_, _-_, _≤_, _<_}
+use native.Mathlib.Nat.{not-suc-le-zero, le-of-suc-le-suc, eq-or-lt-of-le}
+use native.Mathlib.Omega.{arith}
+use lib.Dec.{ltb}
+use borrow.Author.Tests.{ltb-false, le-ltb}
+use Rattle.quantity.specs.Refusals.{Case, _⇒_, firstOf}
+use Rattle.quantity.specs.declared.refusal.Refusal.{Refusal}
+use Rattle.quantity.specs.declared.refusal.Refusal.the-variants.{Unusable}
+use Rattle.quantity.proofs.Refusals.{NoneStands, none-of-both, none-of-each, none-where-result, firstOf-none}
+use Rattle.operator.specs.Operators.{leastOutput, greatestOutput}
+use Rattle.operator.specs.Single.{heldIn, sent, choiceAbove}
+use Rattle.operator.specs.Meter.{countedBefore, inputBreaks}
+use Rattle.operator.proofs.Laws.{least-le-greatest}
+use Rattle.operator.proofs.SingleLaws.{whole-stored}
+use Rattle.run.specs.declared.Run.{Run}
+use Rattle.run.specs.declared.slot.Outcome.{Outcome}
+use Rattle.run.specs.declared.slot.Slotted.{Slotted}
+use Rattle.run.specs.Calls.{Call, choiceFor}
+use Rattle.run.specs.Runs.{meterWords, operatorWords, stageAt, meterIn, singleIn}
+use Rattle.run.specs.Slots.{inputInto, slotBreaks, choiceAboveAt, choiceCases, slotLeavesTooMuch, slotCases, refusedSlot, takenSlot, slottedOf}
+use Rattle.run.specs.Watching.{heldAt}
+use Rattle.run.specs.Taking.{Took, LetPass, KeepsDeclared, InInterval}
+use Rattle.run.proofs.UsableRun.{UsableRun, usable-run, stage-usable, stage-number, fits-at}
+
+module _ (run : Run) (words : List ℕ) (call : Call) where
+  -- no choice is above where no such case stands, and the other way round
+  pub choices-below : (n : ℕ) → NoneStands (choiceCases run words call n) → (k : ℕ) → k < n → choiceAboveAt run words call k ≡ false
+  unfolding choiceCases
+  choices-below zero none k less = absurd (not-suc-le-zero less)
+  choices-below (suc n) none k less =
+      let (earlier, last) = none-of-each (choiceCases run words call n) _ none in
+      ⊎-elim (λ same. rw same (last .0)) (choices-below n earlier k) (eq-or-lt-of-le (le-of-suc-le-suc less))
+
+  pub below-choices : (n : ℕ) → ((k : ℕ) → k < n → choiceAboveAt run words call k ≡ false) → NoneStands (choiceCases run words call n)
+  unfolding choiceCases
+  below-choices zero each = tt
+  below-choices (suc n) each = none-of-both (choiceCases run words call n) _ (below-choices n (λ k less. each k (omega arith))) (each n (omega arith), tt)
+
+  module _ (passed : UsableRun run words) (k : ℕ) (less : k < run .count) where
+    -- the interval is never empty, so the test of a choice is that of the output
+    interval-some : leastOutput (stageAt run k .operator) (run .slot .0) (heldAt run words k) (inputInto run words call k)
+        ≤ greatestOutput (stageAt run k .operator) (run .slot .0) (heldAt run words k) (inputInto run words call k)
+    unfolding heldAt singleIn
+    interval-some =
+        let few = passed .few in
+        let fits = fits-at run words passed k (omega arith) in
+        least-le-greatest (stageAt run k .operator) (run .slot .0) (heldAt run words k) (inputInto run words call k)
+        (whole-stored (singleIn run k) (operatorWords words k) (stage-usable run words k fits) (stage-number run words k fits less))
+
+    pub within-interval : choiceAboveAt run words call k ≡ false → InInterval run words call k
+    unfolding choiceAboveAt choiceAbove heldAt singleIn inputInto sent
+    within-interval below = let some = interval-some in (omega arith, omega (arith, ltb-false))
+
+    interval-within : InInterval run words call k → choiceAboveAt run words call k ≡ false
+    unfolding choiceAboveAt choiceAbove heldAt singleIn inputInto sent
+    interval-within within = le-ltb _ (choiceFor call k) (omega (arith, within .1))
+
+  took-stands : Took (slottedOf run words call .outcome) → NoneStands (slotCases run words call)
+  unfolding slottedOf refusedSlot takenSlot
+  took-stands = none-where-result (refusedSlot run) (takenSlot run words call) (λ (answer : Slotted). Took (answer .outcome)) (λ why took. took) (slotCases run words call)
+
+  stands-took : NoneStands (slotCases run words call) → Took (slottedOf run words call .outcome)
+  unfolding slottedOf refusedSlot takenSlot
+  stands-took none = rw (firstOf-none (refusedSlot run) (takenSlot run words call) (slotCases run words call) none) tt
+
+  pub taken-iff : LetPass run words call → Took (slottedOf run words call .outcome) ↔ (KeepsDeclared run words call × ((k : ℕ) → k < run .count → InInterval run words call k))
+  unfolding slotBreaks inputBreaks meterIn
+  taken-iff passes =
+      let passed = usable-run run words (passes .usable) in (
+        λ took.
+            let none = took-stands took in
+            let fit = none-of-each (choiceCases run words call (run .count)) _ (none .1 .1 .1 .1) .0 in
+            (ltb-false _ _ (none .1 .1 .1 .0), λ k less. within-interval passed k less (choices-below (run .count) fit k less)),
+        λ (keeps, within).
+            stands-took (
+              passes .counted,
+              (
+                passes .small,
+                (
+                  passes .usable,
+                  (
+                    le-ltb _ _ keeps,
+                    none-of-both (choiceCases run words call (run .count)) _ (below-choices (run .count) (λ k less. interval-within passed k less (within k less))) (passes .stored, tt),
+                  ),
+                ),
+              ),
+            ),
+      )

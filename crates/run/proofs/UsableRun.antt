@@ -1,0 +1,92 @@
+-- What the test of a run shows: the words' length, the count, the declaration, the meter, and each stage with its words; and that a run of which these hold passes it.
+use mathlib.Core.Path.{_≡_, refl, ap, sym, _∙_}
+use mathlib.Core.Bool.{Bool, true, false, not}
+use mathlib.Core.List.{List}
+use Prim.Native.Nat.{ℕ, _≤_, _<_}
+use lib.ListN.{length}
+use lib.Dec.{leb, ltb, eqb}
+use borrow.Author.Tests.{eqb-true, eq-eqb, leb-true, le-leb, lt-ltb, le-ltb, not-true, not-false}
+use Rattle.quantity.specs.Choice.{pick, both}
+use Rattle.quantity.specs.Sums.{every}
+use Rattle.quantity.proofs.Laws.{pick-true, pick-false, either-false, either-none}
+use Rattle.quantity.proofs.Sums.{both-true, every-at}
+use Rattle.operator.specs.Declarations.{declarationInRange}
+use Rattle.operator.specs.Operators.{numberInRange}
+use Rattle.operator.specs.Meter.{meterUnusable}
+use Rattle.operator.specs.Single.{storedUnusable}
+use Rattle.operator.proofs.SingleLaws.{Usable, usable}
+use Rattle.run.specs.declared.Run.{Run}
+use Rattle.run.specs.Runs.{runWordCount, mostOperators, meterWords, operatorWords, noOperator, stageAt, meterIn, singleIn, stageMisplaced, stageUnusable, stageFits, runUnusable}
+
+pub record UsableRun (run : Run) (words : List ℕ) : Type 0 where
+  pub sized : length words ≡ runWordCount
+  pub some : 1 ≤ run .count
+  pub few : run .count ≤ mostOperators
+  pub declared : declarationInRange (run .declaration) ≡ true
+  pub meter : meterUnusable (meterIn run) (meterWords words) ≡ false
+  pub stages : every (stageFits run words) mostOperators ≡ true
+
+pub usable-run : (run : Run) (words : List ℕ) → runUnusable run words ≡ false → UsableRun run words
+unfolding runUnusable
+usable-run run words passed =
+    let (sized, rest) = either-false (not (eqb (length words) runWordCount)) _ passed in
+    let (counted, rest) = either-false (not (both (leb 1 (run .count)) (leb (run .count) mostOperators))) _ rest in
+    let (declared, rest) = either-false (not (declarationInRange (run .declaration))) _ rest in
+    let (meter, rest) = either-false (meterUnusable (meterIn run) (meterWords words)) _ rest in
+    let (stages, rest) = either-false (not (every (stageFits run words) mostOperators)) _ rest in
+    let (some, few) = both-true (leb 1 (run .count)) (leb (run .count) mostOperators) (not-false _ counted) in
+    record {
+      sized = eqb-true (length words) runWordCount (not-false _ sized);
+      some = leb-true 1 (run .count) some;
+      few = leb-true (run .count) mostOperators few;
+      declared = not-false _ declared;
+      meter = meter;
+      stages = not-false _ stages;
+    }
+
+pub run-usable : (run : Run) (words : List ℕ) → UsableRun run words → runUnusable run words ≡ false
+unfolding runUnusable
+run-usable run words passed =
+    either-none (not (eqb (length words) runWordCount)) _ (ap not (eq-eqb (length words) runWordCount (passed .sized)))
+    (either-none (not (both (leb 1 (run .count)) (leb (run .count) mostOperators))) _
+    (rw (le-leb 1 (run .count) (passed .some), le-leb (run .count) mostOperators (passed .few)))
+    (either-none (not (declarationInRange (run .declaration))) _ (ap not (passed .declared))
+    (either-none (meterUnusable (meterIn run) (meterWords words)) _ (passed .meter)
+    (either-none (not (every (stageFits run words) mostOperators)) _ (ap not (passed .stages)) refl))))
+
+-- any of these that fails makes a refusal
+pub run-unusable : (run : Run) (words : List ℕ) → (UsableRun run words → ⊥) → runUnusable run words ≡ true
+run-unusable run words fails = by-test (runUnusable run words) refl
+  where
+    by-test : (t : Bool) → runUnusable run words ≡ t → t ≡ true
+    by-test true e = refl
+    by-test false e = absurd (fails (usable-run run words e))
+
+-- a stage that fits
+module _ (run : Run) (words : List ℕ) (k : ℕ) (fits : stageFits run words k ≡ true) where
+  pub stage-usable : Usable (singleIn run k) (operatorWords words k)
+  unfolding stageFits stageUnusable
+  stage-usable = usable (singleIn run k) (operatorWords words k) (not-true _ (both-true (not (stageMisplaced run k)) (not (stageUnusable run words k)) fits .1))
+
+  placed : pick (ltb k (run .count)) (numberInRange (stageAt run k .operator)) (both (noOperator (stageAt run k .operator)) (eqb (stageAt run k .held .0) 0)) ≡ true
+  unfolding stageFits stageMisplaced
+  placed = not-not _ (both-true (not (stageMisplaced run k)) (not (stageUnusable run words k)) fits .0)
+    where
+      not-not : (t : Bool) → not (not t) ≡ true → t ≡ true
+      not-not true e = refl
+      not-not false e = e
+
+  -- one of the path has its number in its range
+  pub stage-number : k < run .count → numberInRange (singleIn run k .operator) ≡ true
+  unfolding singleIn
+  stage-number less = sym (pick-true _ _ _ (lt-ltb k (run .count) less)) ∙ placed
+
+  -- one behind the path's holds nothing
+  pub stage-nothing : run .count ≤ k → stageAt run k .held .0 ≡ 0
+  stage-nothing behind =
+      eqb-true (stageAt run k .held .0) 0
+      (both-true (noOperator (stageAt run k .operator)) (eqb (stageAt run k .held .0) 0) (sym (pick-false _ _ _ (le-ltb k (run .count) behind)) ∙ placed) .1)
+
+module _ (run : Run) (words : List ℕ) (passed : UsableRun run words) (k : ℕ) (less : k < mostOperators) where
+  pub fits-at : stageFits run words k ≡ true
+  fits-at = every-at (stageFits run words) mostOperators (passed .stages) k less

@@ -1,0 +1,9 @@
+pub mod Calls
+pub mod Account
+pub mod Runs
+pub mod Opening
+pub mod Slots
+pub mod Watching
+pub mod Taking
+pub mod Lists
+pub mod NeverLate

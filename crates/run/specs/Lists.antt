@@ -1,0 +1,32 @@
+-- A list of slot calls (section 10, 3): the first gets what opening returned and left, each later one what the call before it left.
+use Prim.Native.Nat.{ℕ}
+use mathlib.Core.List.{List, [], _∷_}
+use Rattle.sheet.specs.Paths.{Line}
+use Rattle.run.specs.Calls.{Call}
+use Rattle.run.specs.Account.{Account, accountAfter}
+use Rattle.run.specs.Opening.{openedOf, wordsOpened}
+use Rattle.run.specs.Slots.{slottedOf, wordsSlotted}
+use Rattle.run.specs.declared.Run.{Run}
+
+-- a run and its words
+pub record Running : Type 0 where
+  pub run : Run
+  pub words : List ℕ
+
+-- what opening returned and left
+unfoldable pub opened : List ℕ → List ℕ → Running
+opened sheet words = record { run = openedOf sheet words .run; words = wordsOpened sheet words }
+
+-- what a call left
+unfoldable pub slotted : Running → Call → Running
+slotted now call = record { run = slottedOf (now .run) (now .words) call .run; words = wordsSlotted (now .run) (now .words) call }
+
+-- what a list of calls left
+unfoldable pub slottedAll : Running → List Call → Running
+slottedAll now [] = now
+slottedAll now (call ∷ calls) = slottedAll (slotted now call) calls
+
+-- the account of the same calls
+unfoldable pub accountAll : Line → Account → List Call → Account
+accountAll line account [] = account
+accountAll line account (call ∷ calls) = accountAll line (accountAfter line account call) calls

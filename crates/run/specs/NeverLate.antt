@@ -1,0 +1,63 @@
+-- Demand 3: what is promised of every list of slot calls from a newly opened run.
+use Prim.Native.Nat.{ℕ, suc, _+_, _≤_, _<_}
+use mathlib.Core.Path.{_≡_}
+use mathlib.Core.Bool.{true}
+use mathlib.Core.List.{List, []}
+use mathlib.Core.Logic.{_⊎_}
+use lib.ListN.{length, getD, take}
+use Rattle.quantity.specs.Sums.{total}
+use Rattle.quantity.specs.declared.refusal.Refusal.the-variants.{Unusable}
+use Rattle.operator.specs.Held.{Held}
+use Rattle.operator.specs.Flows.{flowOf}
+use Rattle.sheet.specs.Paths.{Line}
+use Rattle.sheet.specs.Sheets.{lineIn}
+use Rattle.figures.specs.Answers.{figuresOf, noFigure}
+use Rattle.run.specs.Calls.{Call, choicesMiscounted, amountTooLarge}
+use Rattle.run.specs.Account.{Account, newAccount, slotsUsedUp, accountAnswer}
+use Rattle.run.specs.Slots.{slottedOf}
+use Rattle.run.specs.Watching.{heldAt}
+use Rattle.run.specs.Lists.{Running, opened, slottedAll, accountAll}
+use Rattle.run.specs.declared.slot.Outcome.{Outcome}
+
+-- call n of a list
+abbrev pub callAt : List Call → ℕ → Call
+callAt calls n = getD calls n (record { input = 0; choices = [] })
+
+module _ (sheet words : List ℕ) (calls : List Call) where
+  -- the path, and the delay and the capacities that `figures` answers for the sheet
+  abbrev pub line : Line
+  line = lineIn sheet
+
+  abbrev pub delay : ℕ
+  delay = figuresOf sheet .delay .0
+
+  abbrev pub capacity : ℕ → ℕ
+  capacity k = getD (figuresOf sheet .figures) k noFigure .capacity .0
+
+  -- run and words after the first n calls, and the account of these
+  abbrev pub runningAfter : ℕ → Running
+  runningAfter n = slottedAll (opened sheet words) (take n calls)
+
+  abbrev pub accountAfterCalls : ℕ → Account
+  accountAfterCalls n = accountAll line newAccount (take n calls)
+
+  -- what call n answers
+  abbrev pub answerTo : ℕ → Outcome
+  answerTo n = slottedOf (runningAfter n .run) (runningAfter n .words) (callAt calls n) .outcome
+
+  -- the account of the whole list
+  abbrev pub final : Account
+  final = accountAll line newAccount calls
+
+  pub record NeverLate : Type 0 where
+    -- each call took a slot exactly when the account takes it, with the same output; otherwise it answered the account's refusal by number and place
+    pub answers : (n : ℕ) → n < length calls → answerTo n ≡ accountAnswer line (accountAfterCalls n) (callAt calls n)
+    -- and before and after every call each operator has the account's b, h and past
+    pub holds : (n : ℕ) → n ≤ length calls → (k : ℕ) → k < length (line .places) → heldAt (runningAfter n .run) (runningAfter n .words) k ≡ accountAfterCalls n .held k
+    -- if the list took slot i + delay, all that entered by the end of slot i had left the last operator by the end of slot i + delay
+    pub in-time : (i : ℕ) → i + delay < final .slot → total (flowOf (final .entered)) (suc i) ≤ total (flowOf (final .left)) (suc (i + delay))
+    -- after every call each operator's b is at most its capacity
+    pub within : (n : ℕ) → n ≤ length calls → (k : ℕ) → k < length (line .places) → accountAfterCalls n .held k .b ≤ capacity k
+    -- a refusal 1 comes only from a wrong argument or the last slot number
+    pub unusable-only : (n : ℕ) → n < length calls → answerTo n ≡ Outcome.Refused Unusable
+        → (choicesMiscounted (length (line .places)) (callAt calls n) ≡ true) ⊎ (amountTooLarge (callAt calls n) ≡ true) ⊎ (slotsUsedUp (accountAfterCalls n) ≡ true)

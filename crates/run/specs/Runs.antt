@@ -1,0 +1,82 @@
+-- Section 6: what a run and its 2,048 words hold, as a meter and single operators; and refusal 1 of what is lent and stored.
+use Prim.Native.Nat.{ℕ, _+_, _*_}
+use mathlib.Core.Bool.{Bool, true, false, not}
+use mathlib.Core.List.{List, [], _∷_}
+use lib.ListN.{length, getD}
+use lib.Dec.{leb, ltb, eqb}
+use Rattle.quantity.specs.Choice.{pick, both}
+use Rattle.quantity.specs.Sums.{every}
+use Rattle.operator.specs.Stored.{anyOf}
+use Rattle.operator.specs.Operators.{numberInRange}
+use Rattle.operator.specs.Declarations.{declarationInRange}
+use Rattle.operator.specs.Single.{wordCount, storedUnusable}
+use Rattle.operator.specs.Meter.{meterWordCount, meterUnusable}
+use Rattle.operator.specs.declared.Operator.{Operator}
+use Rattle.operator.specs.declared.Operator.the-variants.{Limiter, Compactor, Expander, Filter, Delayer}
+use Rattle.operator.specs.declared.SingleOperator.{SingleOperator}
+use Rattle.operator.specs.declared.SourceMeter.{SourceMeter}
+use Rattle.sheet.specs.Bodies.{part}
+use Rattle.run.specs.declared.Stage.{Stage}
+use Rattle.run.specs.declared.Run.{Run}
+
+-- a run's words, and the most operators that it can have
+abbrev pub runWordCount : ℕ
+runWordCount = 2_048
+
+abbrev pub mostOperators : ℕ
+mostOperators = 16
+
+-- the meter's words are the first 1,024; word 1,024 + 64·k + a is word a of operator k
+unfoldable pub meterWords : List ℕ → List ℕ
+meterWords words = part 0 meterWordCount words
+
+abbrev pub operatorAtWord : ℕ → ℕ
+operatorAtWord k = meterWordCount + wordCount * k
+
+unfoldable pub operatorWords : List ℕ → ℕ → List ℕ
+operatorWords words k = part (operatorAtWord k) wordCount words
+
+-- a stage behind the path's operators: a limiter 0 that holds nothing
+abbrev pub noStage : Stage
+noStage = record { operator = Limiter (record { 0 = 0 }); held = record { 0 = 0 }; beside = record { 0 = 0 } }
+
+unfoldable pub noOperator : Operator → Bool
+noOperator (Limiter R) = eqb (R .0) 0
+noOperator (Compactor m) = false
+noOperator (Expander m) = false
+noOperator (Filter R) = false
+noOperator (Delayer d) = false
+
+unfoldable pub stageAt : Run → ℕ → Stage
+stageAt run k = getD (run .stages) k noStage
+
+-- the run's meter
+unfoldable pub meterIn : Run → SourceMeter
+meterIn run = record { declaration = run .declaration; slot = run .slot; block = run .block }
+
+-- operator k of the run, at its slot
+unfoldable pub singleIn : Run → ℕ → SingleOperator
+singleIn run k = record { operator = stageAt run k .operator; slot = run .slot; held = stageAt run k .held; beside = stageAt run k .beside }
+
+-- 1: operator k's number is out of its range, or a stage behind the path's operators is not the empty one
+unfoldable pub stageMisplaced : Run → ℕ → Bool
+stageMisplaced run k = not (pick (ltb k (run .count)) (numberInRange (stageAt run k .operator)) (both (noOperator (stageAt run k .operator)) (eqb (stageAt run k .held .0) 0)))
+
+-- 1: what stage k and its words store cannot be used: an amount is above the limit, or something that should be 0 is not
+unfoldable pub stageUnusable : Run → List ℕ → ℕ → Bool
+stageUnusable run words k = storedUnusable (singleIn run k) (operatorWords words k)
+
+unfoldable pub stageFits : Run → List ℕ → ℕ → Bool
+stageFits run words k = both (not (stageMisplaced run k)) (not (stageUnusable run words k))
+
+-- 1 of what is lent and stored: the words have a wrong length; the count, the declaration or a stage's number is out of its range;
+-- no slot number is left; an amount stored is above the limit; a word or field that should be 0 is not
+unfoldable pub runUnusable : Run → List ℕ → Bool
+runUnusable run words =
+    anyOf
+    (not (eqb (length words) runWordCount)
+    ∷ not (both (leb 1 (run .count)) (leb (run .count) mostOperators))
+    ∷ not (declarationInRange (run .declaration))
+    ∷ meterUnusable (meterIn run) (meterWords words)
+    ∷ not (every (stageFits run words) mostOperators)
+    ∷ [])
