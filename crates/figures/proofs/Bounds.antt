@@ -1,15 +1,19 @@
 -- Section 4's numbers fit their words: what is carried stays within its bounds behind every operator that is not refused, and no delay is above its class's burst and its slots.
-use Prim.Native.Nat.{ℕ, _+_, _≤_, min}
+use Prim.Native.Nat.{ℕ, _+_, _*_, _≤_, min}
 use mathlib.Core.Path.{_≡_, sym, ap, subst, _∙_}
 use mathlib.Core.Bool.{Bool, true, false}
-use native.Mathlib.Nat.{le-trans, le-mul-of-pos-right, mul-le-mul-left, le-min, min-le-left}
+use native.Mathlib.Nat.{le-trans, le-mul-of-pos-right, mul-le-mul, mul-le-mul-left, mul-comm, le-min, min-le-left}
 use native.Mathlib.Omega.{arith}
 use borrow.Author.Tests.{leb-true}
 use Rattle.quantity.specs.Ranges.{Range, inRange, intervalRange, rateRange, delayRange}
 use Rattle.quantity.specs.Rounding.{roundUp}
 use Rattle.quantity.specs.Choice.{pick}
+use Rattle.quantity.specs.Quantities.{unitsSum, unitsOver}
+use Rattle.quantity.specs.declared.Slots.{Slots}
+use Rattle.quantity.specs.declared.Units.{Units}
 use Rattle.quantity.specs.declared.Rate.{Rate}
 use Rattle.quantity.specs.declared.Delay.{Delay}
+use Rattle.quantity.proofs.Quantities.{units-sum, units-over}
 use Rattle.quantity.proofs.Rounding.{round-up-enough, round-up-least}
 use Rattle.quantity.proofs.Sums.{both-true}
 use Rattle.operator.specs.Classes.{Class, burst}
@@ -50,6 +54,12 @@ burst-bound c within = burst-of-kind (c .kind) (c .interval) (c .quota) (within 
 
 pub rate-within : {slowest : LeastRate} {rate : Rate} → slowest ≡ Least rate → RateWithin (slowestIn slowest) → (1 ≤ rate .0) × (rate .0 ≤ 65_535)
 rate-within e within = subst (λ (slowest : LeastRate). RateWithin (slowestIn slowest)) e within
+
+-- burst + e·P, as units added to units
+pub part-units : (burst over : Units) (rate : Rate) (e : Slots) → over ≡ unitsOver rate e → burst .0 ≤ 134_217_726 → e .0 ≤ mostWith → rate .0 ≤ 65_535 → unitsSum burst over .0 ≡ burst .0 + e .0 * rate .0
+part-units burst over rate e made small short slow =
+    let product : over .0 ≡ e .0 * rate .0 = ap (λ (units : Units). units .0) made ∙ units-over rate e ∙ mul-comm (rate .0) (e .0) in
+    units-sum burst over (omega (arith, mul-le-mul short slow)) ∙ ap (λ (n : ℕ). burst .0 + n) product
 
 slower-within : (P : Slowest) (R : ℕ) → RateWithin P → inRange rateRange R ≡ true → RateWithin (slower P R)
 unfolding slower

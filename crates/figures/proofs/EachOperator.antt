@@ -12,11 +12,14 @@ use lib.ListN.{length, getD, set, replicate, length-set, getD-replicate}
 use lib.Seq.{getD-take, length-take-le, getD-set-same, getD-set-other}
 use Rattle.quantity.specs.Choice.{pick, both, either}
 use Rattle.quantity.specs.Ranges.{inRange, intervalRange, quotaRange, wantedDelayRange}
+use Rattle.quantity.specs.Quantities.{mostSlots, slotsSum}
 use Rattle.quantity.specs.Sums.{total, listOf}
 use Rattle.quantity.specs.Refusals.{Case, firstOf}
+use Rattle.quantity.specs.declared.Slots.{Slots}
 use Rattle.quantity.specs.declared.refusal.Refusal.{Refusal}
 use Rattle.quantity.specs.declared.refusal.Refusal.the-variants.{DelayAboveWanted}
 use Rattle.quantity.proofs.Refusals.{NoneStands, none-of-both, none-of-each, firstOf-none, firstOf-append, firstOf-map, none-where-result}
+use Rattle.quantity.proofs.Quantities.{slots-sum}
 use Rattle.quantity.proofs.Laws.{pick-true, pick-false}
 use Rattle.quantity.proofs.Sums.{both-true, total-zero, total-suc, total-next, listOf-ext}
 use Rattle.operator.specs.Operators.{numberInRange}
@@ -44,12 +47,12 @@ unfoldable pub figureUpTo : Line → ℕ → ℕ → Figure
 figureUpTo line k j = pick (ltb j k) (figureAt line j) noFigure
 
 -- what holds before operator k
-pub record Walked (line : Line) (k : ℕ) (carried : Carried) (figures : List Figure) (delay : ℕ) : Type 0 where
+pub record Walked (line : Line) (k : ℕ) (carried : Carried) (figures : List Figure) (delay : Slots) : Type 0 where
   pub carries : progressIn carried ≡ before line k
   pub passed : NoneStands (operatorsCases line k)
   pub long : length figures ≡ 16
   pub written : (j : ℕ) → j < 16 → getD figures j noFigure ≡ figureUpTo line k j
-  pub summed : delay ≡ total (delayAt line) k
+  pub summed : delay .0 ≡ total (delayAt line) k
 
 -- a path value and the path that it stands for
 pub path-length : (path : Path) → path .count ≤ length (path .places) → length (standsFor path .places) ≡ path .count
@@ -110,7 +113,7 @@ module _ (line : Line) (few : length (line .places) ≤ 16) (inside : lineInRang
       omega (arith, total-suc (delayAt line) k, delays-bound k (omega arith) earlier, delay-bound k h earlier)
 
 -- before operator 0
-pub walked-start : (line : Line) (carried : Carried) (figure : Figure) → progressIn carried ≡ start (classOf (line .declaration)) → figure ≡ noFigure → Walked line 0 carried (replicate 16 figure) 0
+pub walked-start : (line : Line) (carried : Carried) (figure : Figure) → progressIn carried ≡ start (classOf (line .declaration)) → figure ≡ noFigure → Walked line 0 carried (replicate 16 figure) (record { 0 = 0 })
 unfolding before progressAt operatorsCases figureUpTo
 walked-start line carried figure e f =
     record {
@@ -177,7 +180,7 @@ ltb-next : (j k : ℕ) (t : Bool) → ltb j k ≡ t → (j ≡ k → ⊥) → t 
 ltb-next j k true e other = let less = ltb-true j k e in sym (lt-ltb j (k + 1) (omega arith))
 ltb-next j k false e other = let more = ltb-false j k e in sym (le-ltb j (k + 1) (omega arith))
 
-module _ {line : Line} {k : ℕ} {carried : Carried} {figures : List Figure} {delay : ℕ} (walked : Walked line k carried figures delay) where
+module _ {line : Line} {k : ℕ} {carried : Carried} {figures : List Figure} {delay : Slots} (walked : Walked line k carried figures delay) where
   -- what was planned of what is carried is planned of operator k
   pub walked-planned : {op : Operator} {paired : Bool} {planned : Planned} → op ≡ operatorAt line k → paired ≡ pairedAt line k → planned ≡ plannedOf (progressIn carried) op paired k → planned ≡ plannedAt line k
   walked-planned {op} {paired} e f g =
@@ -196,40 +199,40 @@ module _ {line : Line} {k : ℕ} {carried : Carried} {figures : List Figure} {de
       ∙ ap (λ (t : Bool). pick t (figureAt line j) noFigure) (ltb-next j k (ltb j k) refl (eqb-false j k other))
 
   -- one operator on
-  pub walked-next : {figure : Figure} {next : Carried} {op : Operator} → k < 16 → op ≡ operatorAt line k → Planned.Fits figure ≡ plannedAt line k → progressIn next ≡ behind (progressIn carried) op → Walked line (k + 1) next (set figures k figure) (delay + figure .delay .0)
+  pub walked-next : {figure : Figure} {next : Carried} {op : Operator} {later : Slots} → k < 16 → op ≡ operatorAt line k → Planned.Fits figure ≡ plannedAt line k → progressIn next ≡ behind (progressIn carried) op → later .0 ≡ delay .0 + figure .delay .0 → Walked line (k + 1) next (set figures k figure) later
   unfolding figureAt
-  walked-next {figure} inside e planned f =
+  walked-next {figure} inside e planned f counted =
       let own = fits-figure line k planned in
       record {
         carries = f ∙ ap₂ behind (walked .carries) e ∙ sym (before-next line k);
         passed = passed-next line k (walked .passed) (fits-passed line k planned);
         long = length-set figures k figure ∙ walked .long;
         written = λ j h. figure-next own inside j h (eqb j k) refl;
-        summed = ap₂ _+_ (walked .summed) (ap (λ (f : Figure). f .delay .0) own) ∙ sym (total-next (delayAt line) k);
+        summed = counted ∙ ap₂ _+_ (walked .summed) (ap (λ (f : Figure). f .delay .0) own) ∙ sym (total-next (delayAt line) k);
       }
 
 -- behind the last operator
-module _ {line : Line} {carried : Carried} {figures : List Figure} {delay : ℕ} (walked : Walked line (length (line .places)) carried figures delay) where
+module _ {line : Line} {carried : Carried} {figures : List Figure} {delay : Slots} (walked : Walked line (length (line .places)) carried figures delay) where
   pub walked-figures : figures ≡ listOf (figureIn line) 16
   unfolding figureUpTo figureIn
   walked-figures = listOf-ext noFigure (figureIn line) 16 figures (walked .long) (walked .written)
 
-  pub walked-delay : delay ≡ pathDelay line
+  pub walked-delay : delay .0 ≡ pathDelay line
   unfolding pathDelay
   walked-delay = walked .summed
 
   module _ {A : Type 0} (refused : Refusal → A) (result : A) where
-    pub late-answer : line .wanted < delay → refused DelayAboveWanted ≡ firstOf (lineCases line) refused result
+    pub late-answer : line .wanted < delay .0 → refused DelayAboveWanted ≡ firstOf (lineCases line) refused result
     late-answer late =
-        let stands = rw walked-delay at (lt-ltb (line .wanted) delay late) in
+        let stands = rw walked-delay at (lt-ltb (line .wanted) (delay .0) late) in
         sym
         (firstOf-append refused result (operatorsCases line (length (line .places))) _
         ∙ firstOf-none refused _ (operatorsCases line (length (line .places))) (walked .passed)
         ∙ pick-true _ _ _ stands)
 
-    pub accepted-answer : delay ≤ line .wanted → result ≡ firstOf (lineCases line) refused result
+    pub accepted-answer : delay .0 ≤ line .wanted → result ≡ firstOf (lineCases line) refused result
     accepted-answer soon =
-        let stands = rw walked-delay at (le-ltb (line .wanted) delay soon) in
+        let stands = rw walked-delay at (le-ltb (line .wanted) (delay .0) soon) in
         sym (firstOf-none refused result (lineCases line) (none-of-both (operatorsCases line (length (line .places))) _ (walked .passed) (stands, tt)))
 
 abbrev pub acceptedPath : Path → List Figure → ℕ → PathFigures
@@ -243,7 +246,7 @@ module _ (path : Path) (within : PathWithin path) (full : length (path .places) 
   path-few : length (standsFor path .places) ≤ 16
   path-few = rw path-size (within .few)
 
-  module _ {k : ℕ} {carried : Carried} {figures : List Figure} {delay : ℕ} (walked : Walked (standsFor path) k carried figures delay) (here : k < path .count) where
+  module _ {k : ℕ} {carried : Carried} {figures : List Figure} {delay : Slots} (walked : Walked (standsFor path) k carried figures delay) (here : k < path .count) where
     before-end : k < length (standsFor path .places)
     before-end = rw path-size here
 
@@ -253,30 +256,33 @@ module _ (path : Path) (within : PathWithin path) (full : length (path .places) 
       rw (← path-operator path k here) (number-inside (standsFor path) path-few (within .inside) k before-end),
     )
 
-    pub delay-fits : {figure : Figure} → Planned.Fits figure ≡ plannedAt (standsFor path) k → delay + figure .delay .0 ≤ 2_147_500_000
+    -- the sum of the delays does not stop at its largest number
+    pub delay-counted : {figure : Figure} {later : Slots} → Planned.Fits figure ≡ plannedAt (standsFor path) k → later ≡ slotsSum delay (figure .delay) → later .0 ≡ delay .0 + figure .delay .0
     unfolding figureAt
-    delay-fits planned =
+    delay-counted {figure} planned sum =
         let own = ap (λ (f : Figure). f .delay .0) (fits-figure (standsFor path) k planned) in
+        let fits : delay .0 + figure .delay .0 ≤ mostSlots =
         omega (
           arith,
           walked .summed,
           delays-bound (standsFor path) path-few (within .inside) k (le-of-lt before-end) (walked .passed),
           delay-bound (standsFor path) path-few (within .inside) k before-end (walked .passed),
-        )
+        ) in
+        ap (λ (s : Slots). s .0) sum ∙ slots-sum delay (figure .delay) fits
 
     pub refused-path : {why : Refusal} → Planned.Refused why ≡ plannedAt (standsFor path) k → refusedFigures why ≡ figuresOfPath path
     unfolding figuresOfPath
     refused-path planned = refused-answer (standsFor path) k refusedFigures _ (length (standsFor path .places)) _ before-end (walked .passed) planned
 
-  module _ {carried : Carried} {figures : List Figure} {delay : ℕ} (walked : Walked (standsFor path) (path .count) carried figures delay) where
+  module _ {carried : Carried} {figures : List Figure} {delay : Slots} (walked : Walked (standsFor path) (path .count) carried figures delay) where
     walked-end : Walked (standsFor path) (length (standsFor path .places)) carried figures delay
     walked-end = rw path-size walked
 
-    pub late-path : path .wanted .0 < delay → refusedFigures DelayAboveWanted ≡ figuresOfPath path
+    pub late-path : path .wanted .0 < delay .0 → refusedFigures DelayAboveWanted ≡ figuresOfPath path
     unfolding figuresOfPath standsFor
     late-path late = late-answer walked-end refusedFigures _ late
 
-    pub accepted-path : delay ≤ path .wanted .0 → acceptedPath path figures delay ≡ figuresOfPath path
+    pub accepted-path : delay .0 ≤ path .wanted .0 → acceptedPath path figures (delay .0) ≡ figuresOfPath path
     unfolding figuresOfPath standsFor
     accepted-path soon =
         let answer = accepted-answer walked-end refusedFigures (acceptedPath path (listOf (figureIn (standsFor path)) 16) (pathDelay (standsFor path))) soon in

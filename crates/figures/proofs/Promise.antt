@@ -1,19 +1,16 @@
 -- What the figures promise of a path that they accept, and of its sheet.
 use mathlib.Core.Path.{_≡_, refl}
-use mathlib.Core.Bool.{Bool, true, false}
+use mathlib.Core.Bool.{true}
 use mathlib.Core.List.{List, _++_}
 use Prim.Native.Nat.{ℕ, _≤_, _<_}
 use native.Mathlib.Nat.{le-refl}
-use native.Mathlib.Omega.{arith}
-use lib.ListN.{length, getD, replicate}
+use lib.ListN.{length, replicate}
 use lib.Dec.{ltb}
-use borrow.Author.Tests.{ltb-true, ltb-false, lt-ltb}
-use Rattle.quantity.specs.Choice.{pick}
+use borrow.Author.Tests.{ltb-false}
 use Rattle.quantity.specs.Limits.{largestAmount}
 use Rattle.quantity.specs.Sums.{listOf}
 use Rattle.quantity.specs.declared.refusal.Refusal.{Refusal}
 use Rattle.quantity.proofs.Laws.{either-false}
-use Rattle.quantity.proofs.Sums.{getD-listOf}
 use Rattle.quantity.proofs.Refusals.{NoneStands, none-of-each, none-where-result, firstOf-none}
 use Rattle.operator.specs.Flows.{Flow}
 use Rattle.operator.specs.Classes.{Keeps}
@@ -24,10 +21,10 @@ use Rattle.sheet.specs.Paths.{Line, valueOf, noPath}
 use Rattle.sheet.specs.Sheets.{sheetCases, lineIn, lineInRange}
 use Rattle.sheet.proofs.Accepted.{sheet-line, never-accepted}
 use Rattle.figures.specs.declared.PathFigures.{PathFigures}
-use Rattle.figures.specs.Answers.{operatorAt, before, capacityAt, pathDelay, operatorsCases, lineCases, figureAt, noFigure, figureIn, figuresOf}
+use Rattle.figures.specs.Answers.{operatorAt, before, capacityAt, pathDelay, operatorsCases, lineCases, figureIn, figuresOf}
 use Rattle.figures.specs.Figures.{capacity, changedQuota, largestChangedQuota, figureTooLarge}
 use Rattle.figures.specs.Along.{AllFit, Promised}
-use Rattle.figures.proofs.Reached.{none-at, reached-end, reached, passed-at, stepped}
+use Rattle.figures.proofs.Reached.{none-at, large-interval, reached-end, reached, passed-at, stepped}
 
 -- a path of numbers in their ranges that refusals 6 to 9 let pass
 pub promised : (line : Line) → lineInRange line ≡ true → NoneStands (lineCases line)
@@ -72,15 +69,9 @@ pub accepted-figures : (sheet : List ℕ) → figuresOf sheet .verdict ≡ Verdi
     → (figuresOf sheet .path ≡ valueOf (lineIn sheet)) × (figuresOf sheet .delay .0 ≡ pathDelay (lineIn sheet)) × (figuresOf sheet .figures ≡ listOf (figureIn (lineIn sheet)) 16)
 accepted-figures sheet accepted = rw (accepted-answer sheet accepted) (refl, refl, refl)
 
--- no figure of a path that 6 to 9 let pass has a capacity above the largest amount, by refusal 7; nor has a place behind its operators
-figure-le : (line : Line) → NoneStands (lineCases line) → (k : ℕ) (t : Bool) → ltb k (length (line .places)) ≡ t → pick t (figureAt line k) noFigure .capacity .0 ≤ largestAmount
-unfolding figureAt noFigure capacityAt figureTooLarge
-figure-le line none k true e =
-    let (operators, wanted) = none-of-each (operatorsCases line (length (line .places))) _ none in
-    let stands = none-at line (length (line .places)) operators k (ltb-true k (length (line .places)) e) in
-    ltb-false largestAmount (capacity (before line k) (operatorAt line k))
-    (either-false (ltb largestChangedQuota (changedQuota (before line k) (operatorAt line k))) (ltb largestAmount (capacity (before line k) (operatorAt line k))) (stands .1 .0) .1)
-figure-le line none k false e = omega arith
+-- a declaration in range counts over at least one slot
+pub interval-large : (line : Line) → lineInRange line ≡ true → 1 ≤ line .declaration .interval .0
+interval-large = large-interval
 
 -- a path of numbers in their ranges that refusals 6 to 9 let pass: each operator's number is in its range, and its capacity at most the largest amount
 module _ (line : Line) (inside : lineInRange line ≡ true) (none : NoneStands (lineCases line)) (k : ℕ) (less : k < length (line .places)) where
@@ -88,16 +79,13 @@ module _ (line : Line) (inside : lineInRange line ≡ true) (none : NoneStands (
   operator-inside = passed-at line inside none k less .inside
 
   pub operator-capacity-le : capacityAt line k ≤ largestAmount
-  unfolding figureAt noFigure
-  operator-capacity-le = rw (lt-ltb k (length (line .places)) less) at (figure-le line none k (ltb k (length (line .places))) refl)
+  unfolding capacityAt figureTooLarge
+  operator-capacity-le =
+      let (operators, wanted) = none-of-each (operatorsCases line (length (line .places))) _ none in
+      let stands = none-at line (length (line .places)) operators k less in
+      ltb-false largestAmount (capacity (before line k) (operatorAt line k))
+      (either-false (ltb largestChangedQuota (changedQuota (before line k) (operatorAt line k))) (ltb largestAmount (capacity (before line k) (operatorAt line k))) (stands .1 .0) .1)
 
 -- no refusal stands against an accepted sheet's fields, nor against its path
 pub accepted-none : (sheet : List ℕ) → figuresOf sheet .verdict ≡ Verdict.Accepted → NoneStands (sheetCases sheet) × NoneStands (lineCases (lineIn sheet))
 accepted-none sheet accepted = none-of-each (sheetCases sheet) (lineCases (lineIn sheet)) (accepted-stands sheet accepted)
-
-pub capacity-le : (sheet : List ℕ) → figuresOf sheet .verdict ≡ Verdict.Accepted → (k : ℕ) → k < 16 → getD (figuresOf sheet .figures) k noFigure .capacity .0 ≤ largestAmount
-unfolding figureIn
-capacity-le sheet accepted k less =
-    let line = lineIn sheet in
-    let (of-sheet, of-line) = none-of-each (sheetCases sheet) (lineCases line) (accepted-stands sheet accepted) in
-    rw (accepted-figures sheet accepted .2, getD-listOf noFigure (figureIn line) 16 k less) (figure-le line of-line k (ltb k (length (line .places))) refl)

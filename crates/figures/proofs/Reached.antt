@@ -94,14 +94,15 @@ module _ (line : Line) (r : Flow) (choices : ℕ → Flow) where
       let (E, sum, late) = timed-counted r p _ g f (total (delayAt line) (length (line .places))) (λ n. ap (pairs (expander n)) ended) (here .timed) in
       rw (← sum) (in-time-add E (delayOfPart p) r g f late (part-in-time (p .class) g (known .large) (known .kept) (p .slowest) (p .e) f (known .carries) (known .served)))
 
-module _ (line : Line) (inside : lineInRange line ≡ true) (none : NoneStands (lineCases line)) where
-  pub large-interval : 1 ≤ line .declaration .interval .0
-  unfolding lineInRange declarationInRange
-  large-interval =
-      let declared = both-true (declarationInRange (line .declaration)) (both (inRange wantedDelayRange (line .wanted)) (placesInRange (line .places))) inside .0 in
-      above-least intervalRange (line .declaration .interval .0)
-      (both-true (inRange intervalRange (line .declaration .interval .0)) (inRange quotaRange (line .declaration .quota .0)) declared .0)
+-- a declaration in range counts over at least one slot
+pub large-interval : (line : Line) → lineInRange line ≡ true → 1 ≤ line .declaration .interval .0
+unfolding lineInRange declarationInRange
+large-interval line inside =
+    let declared = both-true (declarationInRange (line .declaration)) (both (inRange wantedDelayRange (line .wanted)) (placesInRange (line .places))) inside .0 in
+    above-least intervalRange (line .declaration .interval .0)
+    (both-true (inRange intervalRange (line .declaration .interval .0)) (inRange quotaRange (line .declaration .quota .0)) declared .0)
 
+module _ (line : Line) (inside : lineInRange line ≡ true) (none : NoneStands (lineCases line)) where
   pub passed-at : (k : ℕ) → k < length (line .places) → Passed (before line k) (operatorAt line k)
   unfolding lineInRange operatorAt
   passed-at k less =
@@ -116,7 +117,7 @@ module _ (line : Line) (inside : lineInRange line ≡ true) (none : NoneStands (
     step-at k less here = step (before line k) _ _ (choices k) (here .known) (operatorAt line k) (passed-at k less) (fits k less)
 
     pub reached : (k : ℕ) → k ≤ length (line .places) → Reached line r choices k
-    reached zero h = reached-start line r choices large-interval kept
+    reached zero h = reached-start line r choices (large-interval line inside) kept
     reached (suc k) h = let here = reached k (le-of-lt h) in reached-next line r choices k here (step-at k h here)
 
     pub stepped : (k : ℕ) → k < length (line .places) → Step (before line k) (operatorAt line k) (classed line r choices k) (into line r choices k) (choices k)

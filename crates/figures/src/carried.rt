@@ -100,10 +100,11 @@ pub(crate) fn behind_delayer(carried: Carried, delay: Delay) -> Carried
 {
     let class = carried.class;
     let slowest = carried.slowest;
+    let e = carried.e.plus(Slots(delay.0));
     Carried {
         class,
         filtering: true,
-        e: Slots(carried.e.0 + delay.0),
+        e,
         slowest,
     }
 }
@@ -132,7 +133,7 @@ pub(crate) fn part_capacity(carried: Carried) -> Units
     let slowest = carried.slowest;
     match slowest {
         LeastRate::NoFilter => most_in(class, carried.e),
-        LeastRate::Least(rate) => Units(burst(class).0 + wide(carried.e.0) * wide(rate.0)),
+        LeastRate::Least(rate) => burst(class).plus(rate.over(carried.e)),
     }
 }
 
@@ -146,7 +147,7 @@ pub(crate) fn part_delay(carried: Carried) -> Slots
     match slowest {
         LeastRate::NoFilter => carried.e,
         LeastRate::Least(rate) => {
-            Slots(round_up(burst(class).0, wide(rate.0)) as u32 + carried.e.0)
+            Slots(round_up(burst(class).0, wide(rate.0)) as u32).plus(carried.e)
         }
     }
 }

@@ -20,10 +20,9 @@ ghost use mathlib.Core.Path.{_≡_};
 ghost use mathlib.Core.Bool.{true};
 ghost use Prim.Native.Nat.{_-_, _*_, _≤_};
 ghost use lib.Dec.{ltb};
-ghost use Rattle.quantity.specs.Ranges.{inRange, rateRange};
 ghost use Rattle.operator.specs.Operators.{numberInRange};
 ghost use Rattle.figures.specs.Figures.{capacity, delayOfPart, ownDelay, pairs, isFramed, framedAfterFilter, changedQuota, figureTooLarge, rateTooLow};
-ghost use Rattle.figures.specs.Carried.{classIn, progressIn, ClassWithin, Within, mostBefore, mostWith, plannedOf};
+ghost use Rattle.figures.specs.Carried.{progressIn, Within, mostBefore, mostWith, plannedOf};
 
 // Section 7, 7: the largest changed quota.
 const LARGEST_CHANGED_QUOTA: u64 = 67_108_863;
@@ -144,15 +143,13 @@ fn figure_too_large(carried: Carried, operator: Operator) -> bool
 }
 
 fn quota_above(class: FlowClass, rate: Rate) -> bool
-    requires { ⌜ ClassWithin (classIn class) × (inRange rateRange (rate .0) ≡ true) ⌝ }
     ensures { λ r. ⌜ r ≡ ltb (class .interval .0 * rate .0) (class .quota .0) ⌝ }
 {
-    wide(class.interval.0) * wide(rate.0) < class.quota.0
+    rate.over(Slots(class.interval.0)).0 < class.quota.0
 }
 
 // 8
 fn rate_too_low(carried: Carried, operator: Operator) -> bool
-    requires { ⌜ Within mostBefore (progressIn carried) × (numberInRange operator ≡ true) ⌝ }
     ensures { λ r. ⌜ r ≡ rateTooLow (progressIn carried) operator ⌝ }
 {
     let class = carried.class;

@@ -102,7 +102,7 @@ fn figures_of_path(path: Path) -> PathFigures
     let mut carried = start(declaration);
     let none = no_figure();
     let mut figures = [none; 16];
-    let mut delay: u32 = 0;
+    let mut delay = Slots(0);
     let mut k = 0;
     while k < count {
         let place = places[k];
@@ -111,19 +111,19 @@ fn figures_of_path(path: Path) -> PathFigures
             Planned::Refused(why) => return refused(why),
             Planned::Fits(figure) => {
                 figures[k] = figure;
-                delay += figure.delay.0;
+                delay = delay.plus(figure.delay);
             }
         }
         carried = behind(carried, operator);
         k += 1;
     }
-    if path.wanted.0 < delay {
+    if path.wanted.0 < delay.0 {
         return refused(Refusal::DelayAboveWanted);
     }
     PathFigures {
         verdict: Verdict::Accepted,
         path,
         figures,
-        delay: Slots(delay),
+        delay,
     }
 }

@@ -4,13 +4,10 @@ use figures::Figure;
 use libc::STDIN_FILENO;
 use libc::STDOUT_FILENO;
 use operator::Operator;
+use quantity::Units;
 use quantity::refusal::Refusal;
 use sheet::Path;
 use sheet::read::Verdict;
-ghost use Prim.Native.Nat.{ℕ, _≤_, _<_};
-ghost use lib.ListN.{getD};
-ghost use Rattle.quantity.specs.Limits.{largestAmount};
-ghost use Rattle.figures.specs.Answers.{noFigure};
 
 fn main() {
     let mut bytes = [0u8; 256];
@@ -28,7 +25,7 @@ fn list(sheet: &[u8]) {
             let capacity = sum(figures);
             lines(path, figures);
             text(b"path ");
-            number(capacity);
+            number(capacity.0);
             text(b" ");
             number(answer.delay.0 as u64);
             text(b"\n");
@@ -38,14 +35,12 @@ fn list(sheet: &[u8]) {
 }
 
 // The capacities of all sixteen places: behind the path's operators they are 0.
-fn sum(figures: [Figure; 16]) -> u64
-    requires { ⌜ ((k : ℕ) → k < 16 → getD figures k noFigure .capacity .0 ≤ largestAmount) ⌝ }
-{
-    let mut capacity: u64 = 0;
+fn sum(figures: [Figure; 16]) -> Units {
+    let mut capacity = Units(0);
     let mut k = 0;
     while k < 16 {
         let figure = figures[k];
-        capacity += figure.capacity.0;
+        capacity = capacity.plus(figure.capacity);
         k += 1;
     }
     capacity

@@ -4,3 +4,4 @@ pub mod Refusals
 pub mod Sums
 pub mod Rounding
 pub mod Limits
+pub mod Quantities

@@ -1,6 +1,7 @@
 // The quantities of document 01, section 1: each kind of number is a type of its own and carries its own least and largest value.
 
 ghost use mathlib.Core.Path.{_≡_};
+ghost use Rattle.quantity.specs.Quantities.{slotsSum, unitsSum, unitsOver};
 ghost use Rattle.quantity.specs.Ranges.{inRange, checkedInterval, checkedQuota, checkedRate, checkedDelay, checkedWantedDelay, checkedLink, intervalRange, quotaRange, rateRange, delayRange, wantedDelayRange, linkRange};
 
 pub mod refusal;
@@ -11,6 +12,17 @@ pub struct Slots(pub u32);
 impl Slots {
     // The last slot's number.
     pub const LAST: u32 = 1_073_741_822;
+
+    // Slots are added to slots alone; the sum stops at the largest number of 32 bits.
+    pub fn plus(self, other: Slots) -> Slots
+        ensures { λ r. ⌜ r ≡ slotsSum self other ⌝ }
+    {
+        if other.0 <= u32::MAX - self.0 {
+            Slots(self.0 + other.0)
+        } else {
+            Slots(u32::MAX)
+        }
+    }
 }
 
 // A number of units.
@@ -19,6 +31,17 @@ pub struct Units(pub u64);
 impl Units {
     // The largest amount that is given or stored (section 7, refusal 1).
     pub const LARGEST: u64 = 1_073_741_823;
+
+    // Units are added to units alone; the sum stops at the largest number of 64 bits.
+    pub fn plus(self, other: Units) -> Units
+        ensures { λ r. ⌜ r ≡ unitsSum self other ⌝ }
+    {
+        if other.0 <= u64::MAX - self.0 {
+            Units(self.0 + other.0)
+        } else {
+            Units(u64::MAX)
+        }
+    }
 }
 
 // Whether a value lies from the least to the largest of its kind.
@@ -115,6 +138,13 @@ impl Rate {
         ensures { λ r. ⌜ r ≡ inRange rateRange (self .0) ⌝ }
     {
         within(self.0, Rate::LEAST, Rate::LARGEST)
+    }
+
+    // The units that the rate makes in so many slots.
+    pub fn over(self, slots: Slots) -> Units
+        ensures { λ r. ⌜ r ≡ unitsOver self slots ⌝ }
+    {
+        Units((self.0 as u64) * (slots.0 as u64))
     }
 }
 

@@ -5,7 +5,7 @@ use native.Mathlib.Omega.{arith}
 use borrow.Author.Needs.{needs}
 use lib.ListN.{length, length-map}
 use Rattle.sheet.specs.Paths.{standsFor}
-use Rattle.figures.proofs.EachOperator.{Walked, plannedAt, walked-start, walked-planned, walked-next, path-operator, operator-ready, delay-fits, refused-path, late-path, accepted-path}
+use Rattle.figures.proofs.EachOperator.{Walked, plannedAt, walked-start, walked-planned, walked-next, path-operator, operator-ready, delay-counted, refused-path, late-path, accepted-path}
 use Rattle.figures.proofs.figures_of_path.Statement.{statement}
 use Rattle.figures.proofs.figures_of_path.Tie as tie
 
@@ -74,11 +74,8 @@ mul-figures c = omega arith
 array-set-from-figures : tie.Need-array-set-from-figures Inv-loop μ-loop
 array-set-from-figures c = omega arith
 
-add-delay : tie.Need-add-delay Inv-loop μ-loop
-add-delay c =
-    let s = c .before .before .before .before .before .before .before .before .before .before .before .before .before in
-    let fits = delay-fits _ (s .pre) (full s) (c .before .before .before .before .before .before .before .before .loop .inv .1) (c .before .before .before .before .before .before .before .loop-test .taken) (sym (c .before .before .figure .given .1) ∙ planned-at (c .before .before .before .before)) in
-    omega (arith, fits)
+plus-requires : tie.Need-plus-requires Inv-loop μ-loop
+plus-requires c κs = search needs
 
 behind-requires : tie.Need-behind-requires Inv-loop μ-loop
 behind-requires c κs = operator-ready _ (c .before .before .before .before .before .before .before .before .before .before .before .before .before .pre) (full (c .before .before .before .before .before .before .before .before .before .before .before .before .before)) (c .before .before .before .before .before .before .before .before .loop .inv .1) (c .before .before .before .before .before .before .before .loop-test .taken)
@@ -94,9 +91,10 @@ loop-again c =
     let s = c .before .before .before .before .before .before .before .before .before .before .before .before .before .before in
     let here = c .before .before .before .before .before .before .before .before .loop-test .taken in
     let few = s .pre .few in
-    let walked = c .before .before .before .before .before .before .before .before .before .loop .inv .1 in (
+    let walked = c .before .before .before .before .before .before .before .before .before .loop .inv .1 in
+    let planned = sym (c .before .before .before .figure .given .1) ∙ planned-at (c .before .before .before .before .before) in (
       omega (arith, here),
-      walked-next walked (omega (arith, here, few)) (sym (path-operator _ _ here)) (sym (c .before .before .before .figure .given .1) ∙ planned-at (c .before .before .before .before .before)) (c .behind .ensures),
+      walked-next walked (omega (arith, here, few)) (sym (path-operator _ _ here)) planned (c .behind .ensures) (delay-counted _ (s .pre) (full s) walked here planned (c .before .plus .ensures)),
     )
 
 refused-requires-2 : tie.Need-refused-requires-2 Inv-loop μ-loop
@@ -104,13 +102,13 @@ refused-requires-2 c κs = search needs
 
 returns-2 : tie.Need-returns-2 Inv-loop μ-loop
 returns-2 c =
-    let s = c .before .before .before .before .before .before .before .before .before in
-    c .refused2 .ensures ∙ late-path _ (s .pre) (full s) (walked-through (c .before .before .before)) (c .before .if1 .taken)
+    let s = c .before .before .before .before .before .before .before .before .before .before in
+    c .refused2 .ensures ∙ late-path _ (s .pre) (full s) (walked-through (c .before .before .before .before)) (c .before .if1 .taken)
 
 returns-3 : tie.Need-returns-3 Inv-loop μ-loop
 returns-3 c =
-    let s = c .before .before .before .before .before .before .before .before in
-    accepted-path _ (s .pre) (full s) (walked-through (c .before .before)) (c .if1 .left)
+    let s = c .before .before .before .before .before .before .before .before .before in
+    accepted-path _ (s .pre) (full s) (walked-through (c .before .before .before)) (c .if1 .left)
 
 pub figures-of-path-spec : {M : Type 1} → statement M
 figures-of-path-spec =
@@ -131,7 +129,7 @@ figures-of-path-spec =
     enum-known-figure
     mul-figures
     array-set-from-figures
-    add-delay
+    plus-requires
     behind-requires
     add-k
     loop-less

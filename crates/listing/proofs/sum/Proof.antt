@@ -1,14 +1,11 @@
--- Sixteen capacities of at most the largest amount fit 64 bits.
-use Prim.Native.Nat.{_-_, _*_, _≤_}
-use native.Mathlib.Omega.{arith}
+-- The index stays within the sixteen places.
+use Prim.Native.Nat.{_-_, _≤_}
 use borrow.Author.Needs.{needs}
-use Rattle.quantity.specs.Limits.{largestAmount}
-use Rattle.figures.specs.Answers.{noFigure}
 use Rattle.listing.proofs.sum.Statement.{statement}
 use Rattle.listing.proofs.sum.Tie as tie
 
 abbrev Inv-loop : tie.InvT-loop
-Inv-loop figures capacity₀ k₀ capacity k = (k ≤ 16) × (capacity ≤ k * largestAmount)
+Inv-loop figures capacity₀ k₀ capacity k = k ≤ 16
 
 abbrev μ-loop : tie.MeasureT-loop
 μ-loop figures capacity₀ k₀ capacity k = 16 - k
@@ -22,12 +19,8 @@ mul-figure c = search needs
 array-copy-out-figure : tie.Need-array-copy-out-figure Inv-loop μ-loop
 array-copy-out-figure c = search needs
 
-add-capacity : tie.Need-add-capacity Inv-loop μ-loop
-unfolding noFigure
-add-capacity c =
-    let start = c .before .before .before .before in
-    let one = start .pre (c .before .before .before .loop .k) (omega arith) in
-    omega arith
+plus-requires : tie.Need-plus-requires Inv-loop μ-loop
+plus-requires c κs = search needs
 
 add-k : tie.Need-add-k Inv-loop μ-loop
 add-k c = search needs
@@ -36,11 +29,7 @@ loop-less : tie.Need-loop-less Inv-loop μ-loop
 loop-less c = search needs
 
 loop-again : tie.Need-loop-again Inv-loop μ-loop
-unfolding noFigure
-loop-again c =
-    let start = c .before .before .before .before in
-    let one = start .pre (c .before .before .before .loop .k) (omega arith) in
-    omega arith
+loop-again c = search needs
 
 returns : tie.Need-returns Inv-loop μ-loop
 returns c = search needs
@@ -54,7 +43,7 @@ sum-spec =
     loop-holds
     mul-figure
     array-copy-out-figure
-    add-capacity
+    plus-requires
     add-k
     loop-less
     loop-again

@@ -1,6 +1,9 @@
 -- Burst is at most 134,217,726 and is rounded up to no more; with and without a filter the definition has its case.
+use Prim.Native.Nat.{_+_, _≤_}
 use borrow.Author.Needs.{needs}
 use native.Mathlib.Omega.{arith}
+use Rattle.quantity.specs.Quantities.{mostSlots}
+use Rattle.quantity.proofs.Quantities.{slots-sum}
 use Rattle.figures.specs.Figures.{partDelay}
 use Rattle.figures.specs.Carried.{classIn}
 use Rattle.figures.proofs.Bounds.{burst-bound, rate-within, round-up-at-most}
@@ -29,10 +32,8 @@ cast-t9 c = let s = c .before .before .before .before .before .before .before in
     let rate = rate-within (c .before .before .before .before .slowest .given .1) (s .pre .slowest) in
     omega (arith, round-up-at-most (c .before .before .burst .result .0) (c .before .wide .result) (omega arith), burst-bound (classIn (s .args .carried .class)) (s .pre .class))
 
-add-t10 : tie.Need-add-t10
-add-t10 c = let s = c .before .before .before .before .before .before .before .before in
-    let rate = rate-within (c .before .before .before .before .before .slowest .given .1) (s .pre .slowest) in
-    omega (arith, round-up-at-most (c .before .before .before .burst .result .0) (c .before .before .wide .result) (omega arith), burst-bound (classIn (s .args .carried .class)) (s .pre .class))
+plus-requires : tie.Need-plus-requires
+plus-requires c κs = search needs
 
 returns : tie.Need-returns
 unfolding partDelay
@@ -40,7 +41,12 @@ returns c = rw (c .before .enum-told .given .1)
 
 returns-2 : tie.Need-returns-2
 unfolding partDelay
-returns-2 c = rw (c .before .before .before .before .before .slowest .given .1, c .before .round-up .ensures, c .before .before .before .burst .ensures, c .before .before .wide .ensures)
+returns-2 c = let s = c .before .before .before .before .before .before .before .before in
+    let slowest = c .before .before .before .before .before .slowest .given .1 in
+    let rate = rate-within slowest (s .pre .slowest) in
+    let few = round-up-at-most (c .before .before .before .burst .result .0) (c .before .before .wide .result) (omega arith) in
+    let fits : c .before .round-up .result + s .args .carried .e .0 ≤ mostSlots = omega (arith, few, burst-bound (classIn (s .args .carried .class)) (s .pre .class)) in
+    rw (slowest, c .plus .ensures, slots-sum _ _ fits, c .before .round-up .ensures, c .before .before .before .burst .ensures, c .before .before .wide .ensures)
 
 pub part-delay-spec : {M : Type 1} → statement M
 part-delay-spec =
@@ -52,6 +58,6 @@ part-delay-spec =
     wide-requires
     round-up-requires
     cast-t9
-    add-t10
+    plus-requires
     returns
     returns-2)

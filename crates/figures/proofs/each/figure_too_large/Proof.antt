@@ -1,7 +1,7 @@
 -- The two tests are those of the definition, in its order.
 use borrow.Author.Needs.{needs}
 use borrow.Author.Tests.{lt-ltb, le-ltb}
-use Rattle.figures.specs.Figures.{capacity, figureTooLarge}
+use Rattle.figures.specs.Figures.{figureTooLarge}
 use Rattle.figures.proofs.each.figure_too_large.Statement.{statement}
 use Rattle.figures.proofs.each.figure_too_large.Tie as tie
 

@@ -1,8 +1,6 @@
 -- Each operator has its case of the definition.
 use borrow.Author.Needs.{needs}
-use Rattle.operator.specs.Operators.{numberInRange}
 use Rattle.figures.specs.Figures.{rateTooLow}
-use Rattle.figures.proofs.Bounds.{inside-of}
 use Rattle.figures.proofs.each.rate_too_low.Statement.{statement}
 use Rattle.figures.proofs.each.rate_too_low.Tie as tie
 
@@ -10,8 +8,7 @@ enum-known-operator : tie.Need-enum-known-operator
 enum-known-operator c = search needs
 
 quota-above-requires : tie.Need-quota-above-requires
-unfolding numberInRange
-quota-above-requires c κs = let s = c .before .before .before .before in (s .pre .0 .class, inside-of (c .before .operator .given .1) (s .pre .1))
+quota-above-requires c κs = search needs
 
 enum-told : tie.Need-enum-told
 enum-told c = search needs
@@ -23,8 +20,7 @@ enum-known-operator-2 : tie.Need-enum-known-operator-2
 enum-known-operator-2 c = search needs
 
 quota-above-requires-2 : tie.Need-quota-above-requires-2
-unfolding numberInRange
-quota-above-requires-2 c κs = let s = c .before .before .before .before in (s .pre .0 .class, inside-of (c .before .operator2 .given .1) (s .pre .1))
+quota-above-requires-2 c κs = search needs
 
 enum-told-3 : tie.Need-enum-told-3
 enum-told-3 c = search needs
