@@ -8,7 +8,6 @@ use native.Mathlib.Nat.{add-zero, add-suc, lt-of-not-le, le-div-iff-mul-le, div-
 use native.Mathlib.Decide.{decLe}
 use native.Mathlib.Omega.{arith}
 use lib.ListN.{length, List·getD-eq-default}
-use lib.Dec.{leb}
 use borrow.Author.Tests.{leb-true, le-leb}
 use Rattle.quantity.specs.Sums.{total, every}
 use Rattle.quantity.proofs.Sums.{total-suc, total-zero, total-le, every-at, every-holds}

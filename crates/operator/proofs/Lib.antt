@@ -9,9 +9,12 @@ mod Expander
 mod FilterPart
 mod Misreadings
 pub mod Metering
+pub mod Keeping
 mod StoredLaws
 mod UsableMeter
 pub mod SingleLaws
 pub mod Stands
-pub mod Keeping
+pub mod WithinLaws
+mod StepAnswers
+pub mod MeterWithinLaws
 mod MeterAnswers

@@ -19,7 +19,7 @@ use Rattle.quantity.specs.Sums.{total, listOf}
 use Rattle.quantity.specs.declared.refusal.Refusal.the-variants.{InputBreaksDeclaration}
 use Rattle.quantity.proofs.Sums.{total-suc, total-next, total-le, total-none, total-same, total-le-end, total-changed, term-le-total, every-holds, length-listOf, getD-listOf}
 use Rattle.operator.specs.Declarations.{declarationInRange}
-use Rattle.operator.specs.Flows.{Flow, flowOf, Smooth, Uniform}
+use Rattle.operator.specs.Flows.{Flow, flowOf, Smooth}
 use Rattle.operator.specs.Classes.{KeepsKind, Keeps}
 use Rattle.operator.specs.Keeping.{startOf}
 use Rattle.operator.specs.Meter.{meterWordCount, usesBlock, meterWordsUsed, meterUnusable, countsWith, countedBefore, inputBreaks, meterNext, meterWordNext, meterOf, meterWordsAfter}

@@ -2,18 +2,18 @@
 use mathlib.Core.Path.{_≡_, refl, ap, sym, _∙_, fun-ext}
 use mathlib.Core.Bool.{Bool, true, false}
 use mathlib.Core.List.{List}
-use Prim.Native.Nat.{ℕ, _+_, _≤_, _<_}
+use Prim.Native.Nat.{ℕ, _≤_}
 use native.Mathlib.Nat.{le-dest, lt-of-not-le}
 use native.Mathlib.Decide.{decLe}
 use native.Mathlib.Omega.{arith}
 use lib.ListN.{length, List·getD-eq-default}
-use lib.Dec.{leb, ltb, eqb}
-use borrow.Author.Tests.{le-ltb, lt-ltb, le-leb, eq-eqb, ltb-true, ltb-false}
+use lib.Dec.{ltb}
+use borrow.Author.Tests.{le-ltb, le-leb, eq-eqb, ltb-false}
 use Rattle.quantity.specs.Choice.{pick}
 use Rattle.quantity.specs.Limits.{largestAmount, lastSlot}
-use Rattle.quantity.specs.Sums.{total, every, listOf}
+use Rattle.quantity.specs.Sums.{total, listOf}
 use Rattle.quantity.specs.declared.Slots.{Slots}
-use Rattle.quantity.proofs.Laws.{pick-true, pick-false}
+use Rattle.quantity.proofs.Laws.{pick-false}
 use Rattle.quantity.proofs.Sums.{total-zero, total-none, total-rest, total-same, term-le-total, every-holds, length-listOf, getD-listOf}
 use Rattle.operator.specs.Held.{Held, nothing, keeps}
 use Rattle.operator.specs.Limiter.{limiterAfter}

@@ -92,21 +92,21 @@ module _ (x : SourceMeter) (words : List ℕ) where
       (either-second (not (storedFits (usesBlock (x .declaration .kind)) (x .block .0))) _
       (either-first (not (every (wordFits (meterWordsUsed (x .declaration .kind) (x .declaration .interval .0)) words) meterWordCount)) _ (ap not misfit))))
 
-module _ (x : SourceMeter) (words : List ℕ) (usable : UsableMeter x words) (ranged : Ranged (x .declaration)) where
+module _ (x : SourceMeter) (words : List ℕ) (ranged : Ranged (x .declaration)) where
   slot-word : x .slot .0 % x .declaration .interval .0 < meterWordCount
   slot-word = omega (arith, mod-lt (x .slot .0) {m = x .declaration .interval .0} (omega arith))
 
   -- the word that the next input replaces is among the words, and no larger than their sum
-  pub slot-within : x .slot .0 % x .declaration .interval .0 < length words
-  slot-within = rw (usable .sized) slot-word
+  pub slot-within : length words ≡ meterWordCount → x .slot .0 % x .declaration .interval .0 < length words
+  slot-within sized = rw sized slot-word
 
   pub slot-le-total : wordAt words (x .slot .0 % x .declaration .interval .0) ≤ total (wordAt words) meterWordCount
   slot-le-total = term-le-total (wordAt words) meterWordCount (x .slot .0 % x .declaration .interval .0) slot-word
 
   -- under a uniform declaration the sum of all words is that of the first m
-  pub uniform-total : x .declaration .kind ≡ Kind.Uniform → total (wordAt words) meterWordCount ≡ total (wordAt words) (x .declaration .interval .0)
+  pub uniform-total : UsableMeter x words → x .declaration .kind ≡ Kind.Uniform → total (wordAt words) meterWordCount ≡ total (wordAt words) (x .declaration .interval .0)
   unfolding meterWordsUsed
-  uniform-total uniform =
+  uniform-total usable uniform =
       let fit : every (wordFits (x .declaration .interval .0) words) (length words) ≡ true = rw (usable .sized) (rw uniform at (usable .words-fit)) in
       let same = total-used (x .declaration .interval .0) words fit (rw (usable .sized) (ranged .fits)) in
       rw (usable .sized) at same
@@ -124,4 +124,4 @@ module _ (x : SourceMeter) (words : List ℕ) where
   pub counted-uniform : UsableMeter x words → Ranged (x .declaration) → x .declaration .kind ≡ Kind.Uniform
       → total (wordAt words) meterWordCount - wordAt words (x .slot .0 % x .declaration .interval .0) ≡ countedBefore x words
   unfolding countedBefore countsWith
-  counted-uniform usable ranged uniform = rw (uniform, uniform-total x words usable ranged uniform)
+  counted-uniform usable ranged uniform = rw (uniform, uniform-total x words ranged usable uniform)

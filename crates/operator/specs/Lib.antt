@@ -12,6 +12,8 @@ pub mod Whole
 pub mod Declarations
 pub mod Stored
 pub mod Single
+pub mod Within
 pub mod Meter
+pub mod MeterWithin
 pub mod Metering
 pub mod Keeping

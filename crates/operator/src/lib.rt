@@ -7,11 +7,15 @@ use quantity::Rate;
 use quantity::Slots;
 use quantity::Units;
 ghost use mathlib.Core.Path.{_≡_};
+ghost use mathlib.Core.Bool.{not};
+ghost use mathlib.Core.List.{[], _∷_};
 ghost use Prim.Native.Nat.{_≤_};
+ghost use lib.Dec.{ltb, eqb};
 ghost use lib.ListN.{length};
 ghost use Rattle.quantity.specs.Choice.{both};
 ghost use Rattle.quantity.specs.Sums.{total, every};
-ghost use Rattle.operator.specs.Stored.{wordAt, storedFits, wordFits};
+ghost use Rattle.quantity.specs.Limits.{largestAmount, lastSlot};
+ghost use Rattle.operator.specs.Stored.{wordAt, storedFits, wordFits, anyOf};
 ghost use Rattle.operator.specs.Operators.{numberInRange};
 ghost use Rattle.operator.specs.Declarations.{declarationInRange};
 
@@ -100,6 +104,22 @@ fn scan(words: &[u32], used: usize) -> Scanned
         j = j + 1;
     }
     Scanned { fits, units }
+}
+
+// Refusal 1, of numbers: not so many words are lent as there should be, no slot number is left, or one of two amounts is above the limit.
+fn unfit(lent: usize, count: usize, slot: u32, first: u64, second: u64) -> bool
+    ensures { λ r. ⌜ r ≡ anyOf (not (eqb lent count) ∷ ltb lastSlot slot ∷ ltb largestAmount first ∷ ltb largestAmount second ∷ []) ⌝ }
+{
+    if lent != count {
+        return true;
+    }
+    if Slots::LAST < slot {
+        return true;
+    }
+    if Units::LARGEST < first {
+        return true;
+    }
+    Units::LARGEST < second
 }
 
 // A stored amount is at most the limit; where it is not used it is 0.

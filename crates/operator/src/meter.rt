@@ -1,6 +1,7 @@
 // A meter: whether a slot's input keeps the declaration (document 01, sections 2, 6 and 7).
-// An input is decided before anything is written.
+// An input goes through three parts: what is lent and stored is tested and counted, then the quota decides, then the input is written.
 
+use crate::Declaration;
 use crate::Kind;
 use crate::SourceMeter;
 use quantity::Slots;
@@ -13,6 +14,7 @@ ghost use Rattle.quantity.specs.Choice.{pick};
 ghost use Rattle.quantity.specs.Sums.{total};
 ghost use Rattle.operator.specs.Stored.{wordAt};
 ghost use Rattle.operator.specs.Declarations.{declarationInRange};
+ghost use Rattle.operator.specs.MeterWithin.{countedOf, withinQuota, notedOf, wordsNoted};
 ghost use Rattle.operator.specs.Meter.{roomOf, meterOf, meterWordsAfter, meterUnusable, usesBlock, meterWordsUsed, countedBefore, meterWordCount};
 
 // The words of a meter.
@@ -30,23 +32,75 @@ pub enum Metered {
     Refused(Refusal),
 }
 
+// The units that count with the next input.
+pub enum Counted {
+    Before(Units),
+    Refused(Refusal),
+}
+
+// Test: the units that count with the next input.
+pub fn counted_before(state: SourceMeter, words: &[u32]) -> Counted
+    ensures { λ r. ⌜ r ≡ countedOf state (now (words .entry)) ⌝ }
+{
+    match stored_in(state, words) {
+        Stored::Unusable => Counted::Refused(Refusal::Unusable),
+        Stored::Words(units) => {
+            let declaration = state.declaration;
+            if !declaration.in_range() {
+                return Counted::Refused(Refusal::OutOfRange(0));
+            }
+            Counted::Before(Units(counts_with(state, words, units)))
+        }
+    }
+}
+
+// Decide: whether, with the units that count with it, an input is within the quota.
+pub fn within_quota(declaration: Declaration, counted: Units, input: Units) -> bool
+    ensures { λ r. ⌜ r ≡ withinQuota declaration (counted .0) (input .0) ⌝ }
+{
+    let quota = declaration.quota.0 as u64;
+    if quota < counted.0 {
+        return false;
+    }
+    input.0 <= quota - counted.0
+}
+
+// Write: the next state, and the word of the input under a uniform declaration. `counted` is what counted_before answered; no word is tested.
+pub fn note(state: SourceMeter, words: &mut [u32], counted: Units, input: Units) -> Metered
+    ensures { λ r. ⌜ (r ≡ notedOf state (now (words .entry)) (counted .0) (input .0)) × (now (words .exit) ≡ wordsNoted state (now (words .entry)) (counted .0) (input .0)) ⌝ }
+{
+    if crate::unfit(words.len(), WORDS, state.slot.0, counted.0, input.0) {
+        return Metered::Refused(Refusal::Unusable);
+    }
+    let declaration = state.declaration;
+    if !declaration.in_range() {
+        return Metered::Refused(Refusal::OutOfRange(0));
+    }
+    if !within_quota(declaration, counted, input) {
+        return Metered::Refused(Refusal::InputBreaksDeclaration);
+    }
+    let kind = declaration.kind;
+    if uses_block(kind) {
+        return Metered::Taken(next(state, counted.0 + input.0));
+    }
+    let at = (state.slot.0 % declaration.interval.0) as usize;
+    words[at] = input.0 as u32;
+    Metered::Taken(next(state, 0))
+}
+
 // The most that the next slot's input may be.
 pub fn room_left(state: SourceMeter, words: &[u32]) -> Room
     ensures { λ r. ⌜ r ≡ roomOf state (now (words .entry)) ⌝ }
 {
-    match stored_in(state, words) {
-        Stored::Unusable => Room::Refused(Refusal::Unusable),
-        Stored::Words(units) => {
+    match counted_before(state, words) {
+        Counted::Refused(why) => Room::Refused(why),
+        Counted::Before(counted) => {
             let declaration = state.declaration;
-            if !declaration.in_range() {
-                return Room::Refused(Refusal::OutOfRange(0));
-            }
-            let counted = counted_before(state, words, units);
             let quota = declaration.quota.0 as u64;
-            if quota < counted {
+            if quota < counted.0 {
                 return Room::Refused(Refusal::InputBreaksDeclaration);
             }
-            Room::AtMost(Units(quota - counted))
+            Room::AtMost(Units(quota - counted.0))
         }
     }
 }
@@ -58,21 +112,15 @@ pub fn take(state: SourceMeter, words: &mut [u32], input: Units) -> Metered
     if Units::LARGEST < input.0 {
         return Metered::Refused(Refusal::Unusable);
     }
-    match room_left(state, &words[..]) {
-        Room::Refused(why) => Metered::Refused(why),
-        Room::AtMost(most) => {
-            if most.0 < input.0 {
+    match counted_before(state, &words[..]) {
+        Counted::Refused(why) => Metered::Refused(why),
+        Counted::Before(counted) => {
+            let declaration = state.declaration;
+            // usable words may together be above the limit: refusal 13 here, and 1 where note is given so much
+            if !within_quota(declaration, counted, input) {
                 return Metered::Refused(Refusal::InputBreaksDeclaration);
             }
-            let declaration = state.declaration;
-            let counted = declaration.quota.0 as u64 - most.0;
-            let kind = declaration.kind;
-            if uses_block(kind) {
-                return Metered::Taken(next(state, counted + input.0));
-            }
-            let at = (state.slot.0 % declaration.interval.0) as usize;
-            words[at] = input.0 as u32;
-            Metered::Taken(next(state, 0))
+            note(state, words, counted, input)
         }
     }
 }
@@ -118,7 +166,7 @@ fn stored_in(state: SourceMeter, words: &[u32]) -> Stored
 }
 
 // The units that count with the next input: the block's so far, or those of the words but the one that the input replaces.
-fn counted_before(state: SourceMeter, words: &[u32], units: u64) -> u64
+fn counts_with(state: SourceMeter, words: &[u32], units: u64) -> u64
     requires { ⌜ (meterUnusable state (now words) ≡ false) × (declarationInRange (state .declaration) ≡ true) × (units ≡ total (wordAt (now words)) meterWordCount) ⌝ }
     ensures { λ r. ⌜ r ≡ countedBefore state (now (words .entry)) ⌝ }
 {

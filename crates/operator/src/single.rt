@@ -1,5 +1,5 @@
-// A single operator: the least and greatest output of a step, and the step (document 01, sections 3, 6 and 7).
-// A step is decided before anything is written.
+// A single operator: the least and greatest output of a step, the step, and its parts (document 01, sections 3, 6 and 7).
+// A step is three parts: what is lent and stored is tested, then all is decided on numbers, then what stays is written.
 
 use crate::Operator;
 use crate::Scanned;
@@ -8,29 +8,48 @@ use quantity::Slots;
 use quantity::Units;
 use quantity::refusal::Refusal;
 ghost use mathlib.Core.Path.{_≡_};
-ghost use mathlib.Core.Bool.{true, false, not};
-ghost use mathlib.Core.List.{[], _∷_};
+ghost use mathlib.Core.Bool.{true};
 ghost use Prim.Native.Nat.{ℕ, _+_, _-_, _%_, _≤_, _<_, min};
-ghost use lib.Dec.{ltb, eqb};
+ghost use lib.Dec.{eqb};
 ghost use lib.ListN.{length};
 ghost use Rattle.quantity.specs.Choice.{pick};
 ghost use Rattle.quantity.specs.Sums.{total, every};
 ghost use Rattle.quantity.specs.Limits.{largestAmount, lastSlot};
-ghost use Rattle.quantity.specs.Refusals.{_⇒_, firstOf};
-ghost use Rattle.quantity.specs.declared.refusal.Refusal.the-variants.{Unusable, OutOfRange};
 ghost use Rattle.operator.specs.Held.{Held};
 ghost use Rattle.operator.specs.Delayer.{ofAge};
 ghost use Rattle.operator.specs.Operators.{leastOutput, greatestOutput, heldAfter, numberInRange};
-ghost use Rattle.operator.specs.Single.{boundsOf, stepOf, wordsAfter, mostGiven, mostOnTheWay};
-ghost use Rattle.operator.specs.Single.{wordCount, wordsUsed, usesHeld, usesBeside, heldIn};
 ghost use Rattle.operator.specs.Stored.{wordAt, wordFits};
-ghost use Rattle.operator.specs.Single.{storedUnusable, unusable, leavesTooMuch, stateNext, wordsNext};
+ghost use Rattle.operator.specs.Single.{boundsOf, stepOf, wordsAfter, mostGiven, mostOnTheWay};
+ghost use Rattle.operator.specs.Single.{wordCount, wordsUsed, usesHeld, usesBeside};
+ghost use Rattle.operator.specs.Within.{storedOf, undecidable, decidedOf, keptOf, wordsKept};
 
 // The words of an operator.
 const WORDS: usize = 64;
 
 // What sixteen operators at the limit and an input can bring to an operator within a path.
 const ON_THE_WAY: u64 = 18_253_610_991;
+
+// Section 3's b, unless what is lent and stored cannot be used.
+pub enum Stored {
+    Holds(Units),
+    Unusable,
+}
+
+// What a decision answers: the output, what stays and a filter's h then.
+pub enum Decided {
+    Sends {
+        output: Units,
+        kept: Units,
+        beside: Units,
+    },
+    Refused(Refusal),
+}
+
+// What keeping answers: the next state.
+pub enum Kept {
+    Next(SingleOperator),
+    Refused(Refusal),
+}
 
 // What a step's output may be.
 pub enum Bounds {
@@ -72,87 +91,9 @@ pub fn step_within(state: SingleOperator, words: &mut [u32], input: Units, choic
     step_at_most(ON_THE_WAY, state, words, input, choice)
 }
 
-fn bounds_at_most(most: u64, state: SingleOperator, words: &[u32], input: Units) -> Bounds
-    requires { ⌜ most ≤ mostOnTheWay ⌝ }
-    ensures { λ r. ⌜ r ≡ boundsOf most state (now (words .entry)) (input .0) ⌝ }
-{
-    match prepare(most, state, words, input.0) {
-        Ready::Refused(why) => Bounds::Refused(why),
-        Ready::Held(held) => {
-            let operator = state.operator;
-            let slot = state.slot.0;
-            let low = least(operator, slot, held, state.beside.0, input.0, words);
-            let high = greatest(operator, low, held + input.0);
-            Bounds::Outputs {
-                least: Units(low),
-                greatest: Units(high),
-            }
-        }
-    }
-}
-
-fn step_at_most(
-    most: u64,
-    state: SingleOperator,
-    words: &mut [u32],
-    input: Units,
-    choice: Units,
-) -> Stepped
-    requires { ⌜ most ≤ mostOnTheWay ⌝ }
-    ensures { λ r. ⌜ (r ≡ stepOf most state (now (words .entry)) (input .0) (choice .0)) × (now (words .exit) ≡ wordsAfter most state (now (words .entry)) (input .0) (choice .0)) ⌝ }
-{
-    if Units::LARGEST < choice.0 {
-        return Stepped::Refused(Refusal::Unusable);
-    }
-    match prepare(most, state, &words[..], input.0) {
-        Ready::Refused(why) => Stepped::Refused(why),
-        Ready::Held(held) => {
-            let operator = state.operator;
-            let slot = state.slot.0;
-            let low = least(operator, slot, held, state.beside.0, input.0, &words[..]);
-            let high = greatest(operator, low, held + input.0);
-            if choice_above(low, high, choice.0) {
-                return Stepped::Refused(Refusal::ChoiceAboveGreatest(0));
-            }
-            send(state, words, held, input.0, low + choice.0)
-        }
-    }
-}
-
-// Whether a call goes on, and then section 3's b.
-enum Ready {
-    Held(u64),
-    Refused(Refusal),
-}
-
-// Refusal 1, then 5.
-fn prepare(most: u64, state: SingleOperator, words: &[u32], input: u64) -> Ready
-    ensures { λ r. ⌜ r ≡ firstOf ((unusable most state (now (words .entry)) input ⇒ Unusable) ∷ (not (numberInRange (state .operator)) ⇒ OutOfRange 0) ∷ []) Ready.Refused (Ready.Held (heldIn state (now (words .entry)) .b)) ⌝ }
-{
-    if most < input {
-        return Ready::Refused(Refusal::Unusable);
-    }
-    match stored_in(state, words) {
-        Stored::Unusable => Ready::Refused(Refusal::Unusable),
-        Stored::Held(held) => {
-            let operator = state.operator;
-            if operator.number_in_range() {
-                Ready::Held(held)
-            } else {
-                Ready::Refused(Refusal::OutOfRange(0))
-            }
-        }
-    }
-}
-
-// Section 3's b, unless what is lent and stored cannot be used.
-enum Stored {
-    Held(u64),
-    Unusable,
-}
-
-fn stored_in(state: SingleOperator, words: &[u32]) -> Stored
-    ensures { λ r. ⌜ r ≡ pick (storedUnusable state (now (words .entry))) Stored.Unusable (Stored.Held (heldIn state (now (words .entry)) .b)) ⌝ }
+// Test: section 3's b, unless what is lent and stored cannot be used.
+pub fn stored_in(state: SingleOperator, words: &[u32]) -> Stored
+    ensures { λ r. ⌜ r ≡ storedOf state (now (words .entry)) ⌝ }
 {
     if words.len() != WORDS {
         return Stored::Unusable;
@@ -175,7 +116,144 @@ fn stored_in(state: SingleOperator, words: &[u32]) -> Stored
         return Stored::Unusable;
     }
     // one of the two is 0
-    Stored::Held(state.held.0 + scanned.units)
+    Stored::Holds(Units(state.held.0 + scanned.units))
+}
+
+// Decide, on numbers: the output, what stays and a filter's h then, whatever they are. `held` is what stored_in answered; no word is tested.
+pub fn decide(
+    state: SingleOperator,
+    words: &[u32],
+    held: Units,
+    input: Units,
+    choice: Units,
+) -> Decided
+    ensures { λ r. ⌜ r ≡ decidedOf state (now (words .entry)) (held .0) (input .0) (choice .0) ⌝ }
+{
+    if undecidable(state, words, held.0, input.0, choice.0) {
+        return Decided::Refused(Refusal::Unusable);
+    }
+    let operator = state.operator;
+    if !operator.number_in_range() {
+        return Decided::Refused(Refusal::OutOfRange(0));
+    }
+    let there = held.0 + input.0;
+    let low = least(
+        operator,
+        state.slot.0,
+        held.0,
+        state.beside.0,
+        input.0,
+        words,
+    );
+    if less(greatest(operator, low, there), low) < choice.0 {
+        return Decided::Refused(Refusal::ChoiceAboveGreatest(0));
+    }
+    let output = low + choice.0;
+    Decided::Sends {
+        output: Units(output),
+        kept: Units(less(there, output)),
+        beside: Units(beside_after(operator, state.beside.0, input.0)),
+    }
+}
+
+// Keep: the next state; every unit in the words is a slot older, the input is new and the newest stay, `kept` of them in all.
+pub fn keep(
+    state: SingleOperator,
+    words: &mut [u32],
+    input: Units,
+    kept: Units,
+    beside: Units,
+) -> Kept
+    ensures { λ r. ⌜ (r ≡ keptOf state (now (words .entry)) (kept .0) (beside .0)) × (now (words .exit) ≡ wordsKept state (now (words .entry)) (input .0) (kept .0) (beside .0)) ⌝ }
+{
+    if crate::unfit(words.len(), WORDS, state.slot.0, kept.0, beside.0) {
+        return Kept::Refused(Refusal::Unusable);
+    }
+    let operator = state.operator;
+    if !operator.number_in_range() {
+        return Kept::Refused(Refusal::OutOfRange(0));
+    }
+    keep_newest(words, words_used(operator), input.0, kept.0);
+    Kept::Next(SingleOperator {
+        operator,
+        slot: Slots(state.slot.0 + 1),
+        held: Units(held_apart(operator, kept.0)),
+        beside,
+    })
+}
+
+fn bounds_at_most(most: u64, state: SingleOperator, words: &[u32], input: Units) -> Bounds
+    requires { ⌜ most ≤ mostOnTheWay ⌝ }
+    ensures { λ r. ⌜ r ≡ boundsOf most state (now (words .entry)) (input .0) ⌝ }
+{
+    if most < input.0 {
+        return Bounds::Refused(Refusal::Unusable);
+    }
+    match stored_in(state, words) {
+        Stored::Unusable => Bounds::Refused(Refusal::Unusable),
+        Stored::Holds(held) => {
+            let operator = state.operator;
+            if !operator.number_in_range() {
+                return Bounds::Refused(Refusal::OutOfRange(0));
+            }
+            let low = least(
+                operator,
+                state.slot.0,
+                held.0,
+                state.beside.0,
+                input.0,
+                words,
+            );
+            let high = greatest(operator, low, held.0 + input.0);
+            Bounds::Outputs {
+                least: Units(low),
+                greatest: Units(high),
+            }
+        }
+    }
+}
+
+// What keep tests of the units that stay is refusal 1, tested last.
+fn step_at_most(
+    most: u64,
+    state: SingleOperator,
+    words: &mut [u32],
+    input: Units,
+    choice: Units,
+) -> Stepped
+    requires { ⌜ most ≤ mostOnTheWay ⌝ }
+    ensures { λ r. ⌜ (r ≡ stepOf most state (now (words .entry)) (input .0) (choice .0)) × (now (words .exit) ≡ wordsAfter most state (now (words .entry)) (input .0) (choice .0)) ⌝ }
+{
+    if most < input.0 {
+        return Stepped::Refused(Refusal::Unusable);
+    }
+    match stored_in(state, &words[..]) {
+        Stored::Unusable => Stepped::Refused(Refusal::Unusable),
+        Stored::Holds(held) => match decide(state, &words[..], held, input, choice) {
+            Decided::Refused(why) => Stepped::Refused(why),
+            Decided::Sends {
+                output,
+                kept,
+                beside,
+            } => match keep(state, words, input, kept, beside) {
+                Kept::Refused(why) => Stepped::Refused(why),
+                Kept::Next(next) => Stepped::Sent { output, next },
+            },
+        },
+    }
+}
+
+// Refusal 1 of a decision.
+fn undecidable(state: SingleOperator, words: &[u32], held: u64, input: u64, choice: u64) -> bool
+    ensures { λ r. ⌜ r ≡ undecidable state (now (words .entry)) held input choice ⌝ }
+{
+    if crate::unfit(words.len(), WORDS, state.slot.0, held, state.beside.0) {
+        return true;
+    }
+    if ON_THE_WAY < input {
+        return true;
+    }
+    Units::LARGEST < choice
 }
 
 // Whether every word fits, by how many the operator uses, and the sum of the words.
@@ -184,34 +262,6 @@ fn scan(operator: Operator, words: &[u32]) -> Scanned
     ensures { λ r. ⌜ (r .fits ≡ every (wordFits (wordsUsed operator) (now (words .entry))) wordCount) × (r .units ≡ total (wordAt (now (words .entry))) wordCount) ⌝ }
 {
     crate::scan(words, words_used(operator))
-}
-
-// Sends so many units, unless what stays would be too much to store.
-fn send(state: SingleOperator, words: &mut [u32], held: u64, input: u64, output: u64) -> Stepped
-    requires { ⌜ (storedUnusable state (now words) ≡ false) × (numberInRange (state .operator) ≡ true) × (held ≡ heldIn state (now words) .b) ⌝ }
-    requires { ⌜ (input ≤ mostOnTheWay) × (output ≤ held + input) ⌝ }
-    ensures { λ r. ⌜ r ≡ pick (leavesTooMuch state (now (words .entry)) input output) (Stepped.Refused Unusable) (Stepped.Sent (record { 0 = output }) (stateNext state (now (words .entry)) input output)) ⌝ }
-    ensures { λ r. ⌜ now (words .exit) ≡ pick (leavesTooMuch state (now (words .entry)) input output) (now (words .entry)) (wordsNext state (now (words .entry)) input output) ⌝ }
-{
-    let operator = state.operator;
-    let kept = held + input - output;
-    if Units::LARGEST < kept {
-        return Stepped::Refused(Refusal::Unusable);
-    }
-    let beside = beside_after(operator, state.beside.0, input);
-    if Units::LARGEST < beside {
-        return Stepped::Refused(Refusal::Unusable);
-    }
-    keep_newest(words, words_used(operator), input, kept);
-    Stepped::Sent {
-        output: Units(output),
-        next: SingleOperator {
-            operator,
-            slot: Slots(state.slot.0 + 1),
-            held: Units(held_apart(operator, kept)),
-            beside: Units(beside),
-        },
-    }
 }
 
 // Every unit is a slot older, the input is new, and the newest stay, `kept` of them in all: oldest leave first.
@@ -233,11 +283,12 @@ fn keep_newest(words: &mut [u32], count: usize, input: u64, kept: u64)
     }
 }
 
-// Section 3's least output.
+// Section 3's least output; a word by itself, whatever it is, is not more than could be there.
 fn least(operator: Operator, slot: u32, held: u64, beside: u64, input: u64, words: &[u32]) -> u64
     requires { ⌜ (numberInRange operator ≡ true) × (length (now words) ≡ wordCount) × (slot ≤ lastSlot) ⌝ }
     requires { ⌜ (held ≤ largestAmount) × (beside ≤ largestAmount) × (input ≤ mostOnTheWay) ⌝ }
     ensures { λ r. ⌜ r ≡ leastOutput operator slot (record { b = held; h = beside; past = wordAt (now (words .entry)) }) input ⌝ }
+    ensures { λ r. ⌜ r ≤ mostOnTheWay + largestAmount ⌝ }
 {
     let there = held + input;
     match operator {
@@ -265,18 +316,10 @@ fn greatest(operator: Operator, low: u64, there: u64) -> u64
     }
 }
 
-// Whether a choice is above greatest minus least.
-fn choice_above(low: u64, high: u64, choice: u64) -> bool
-    requires { ⌜ low ≤ high ⌝ }
-    ensures { λ r. ⌜ r ≡ ltb (high - low) choice ⌝ }
-{
-    high - low < choice
-}
-
 // So many units in a slot divisible by the interval, else none.
 fn at_multiple(slot: u32, interval: u32, units: u64) -> u64
     requires { ⌜ 0 < interval ⌝ }
-    ensures { λ r. ⌜ r ≡ pick (eqb (slot % interval) 0) units 0 ⌝ }
+    ensures { λ r. ⌜ (r ≡ pick (eqb (slot % interval) 0) units 0) × (r ≤ units) ⌝ }
 {
     if slot % interval == 0 { units } else { 0 }
 }

@@ -1,96 +1,72 @@
--- By kind: the block's units, or the sum of the words less the word that the input replaces.
-use mathlib.Core.Path.{_∙_, ap}
-use Prim.Native.Nat.{ℕ, _-_, _%_}
+-- Each way out by what the tests before it told: the stored words, then the declaration's ranges.
+use mathlib.Core.Path.{_≡_, sym, ap, _∙_}
+use mathlib.Core.Bool.{true, false}
+use Prim.Native.Nat.{ℕ}
 use native.Mathlib.Omega.{arith}
+use borrow.Author.Tests.{not-true, not-false}
+use Rattle.quantity.specs.Sums.{total}
+use Rattle.quantity.proofs.Laws.{picked-true, picked-false, pick-false}
 use Rattle.operator.specs.Stored.{wordAt}
-use Rattle.operator.proofs.UsableMeter.{declaration-ranged, usable-meter, slot-within, slot-le-total, counted-first, counted-later, counted-uniform}
+use Rattle.operator.specs.Declarations.{declarationInRange}
+use Rattle.operator.specs.Meter.{meterWordCount, meterUnusable}
+use Rattle.operator.specs.declared.meter.Counted.{Counted}
+use Rattle.operator.proofs.MeterWithinLaws.{counted-unusable, counted-outside, counted-next}
 use borrow.Author.Needs.{needs}
 use Rattle.operator.proofs.meter.counted_before.Statement.{statement}
 use Rattle.operator.proofs.meter.counted_before.Tie as tie
 
-rem-at : tie.Need-rem-at
-rem-at c =
-    let start = c .before .before .before in
-    omega (arith, declaration-ranged (start .args .state .declaration) (start .pre .1) .large)
+-- where words were found, the meter can be used, and their sum was found
+usable : (c : tie.After-units) → meterUnusable (c .before .before .before .before .args .state) (c .before .before .before .before .args .words .now) ≡ false
+usable c =
+    picked-false _ _ _ (sym (c .units .given .1) ∙ c .before .before .stored-in .ensures)
+    (λ e. let never : _≡_ {A = ℕ} 0 1 = cc in omega arith)
+
+summed : (c : tie.After-units) → c .units .given .0 .0 ≡ total (wordAt (c .before .before .before .before .args .words .now)) meterWordCount
+summed c =
+    let found = sym (c .units .given .1) ∙ c .before .before .stored-in .ensures ∙ pick-false _ _ _ (usable c) in
+    cc
+
+-- past the second test the declaration is in range
+ranged : (c : tie.Else1) → declarationInRange (c .before .before .before .before .before .before .before .before .args .state .declaration) ≡ true
+ranged c = sym (c .before .in-range .ensures) ∙ not-false _ (c .if1 .left)
+
+stored-in-requires : tie.Need-stored-in-requires
+stored-in-requires c κs = search needs
 
 enum-told : tie.Need-enum-told
 enum-told c = search needs
 
-enum-told-2 : tie.Need-enum-told-2
-enum-told-2 c = search needs
+enum-known-units : tie.Need-enum-known-units
+enum-known-units c = search needs
 
-cast-replaced : tie.Need-cast-replaced
-cast-replaced c =
-    let start = c .before .before .before .before .before in
-    let state = start .args .state in
-    let words = start .args .words .now in
-    let usable = usable-meter state words (start .pre .0) in
-    let ranged = declaration-ranged (state .declaration) (start .pre .1) in
-    omega (arith, slot-within state words usable ranged, usable .sized)
-
-mul-result : tie.Need-mul-result
-mul-result c =
-    let start = c .before .before .before .before .before in
-    let state = start .args .state in
-    let words = start .args .words .now in
-    let usable = usable-meter state words (start .pre .0) in
-    let ranged = declaration-ranged (state .declaration) (start .pre .1) in
-    omega (arith, slot-within state words usable ranged, usable .sized)
-
-shared-slice-read-result : tie.Need-shared-slice-read-result
-shared-slice-read-result c =
-    let start = c .before .before .before .before .before .before in
-    let state = start .args .state in
-    let words = start .args .words .now in
-    let usable = usable-meter state words (start .pre .0) in
-    let ranged = declaration-ranged (state .declaration) (start .pre .1) in
-    slot-within state words usable ranged
-
-cast-result : tie.Need-cast-result
-cast-result c =
-    let state = c .before .before .before .before .before .before .args .state in
-    omega (arith, c .shared-slice-known .given (state .slot .0 % state .declaration .interval .0))
-
-sub-result : tie.Need-sub-result
-sub-result c =
-    let start = c .before .before .before .before .before .before in
-    let state = start .args .state in
-    let words = start .args .words .now in
-    let usable = usable-meter state words (start .pre .0) in
-    let ranged = declaration-ranged (state .declaration) (start .pre .1) in
-    omega (arith, slot-le-total state words usable ranged)
+in-range-requires : tie.Need-in-range-requires
+in-range-requires c κs = search needs
 
 returns : tie.Need-returns
-returns c =
-    let start = c .before .before .before .before .before .before in
-    counted-first (start .args .state) (start .args .words .now) (c .before .enum-told .given .1) (c .if1 .taken)
+returns c = counted-outside _ _ (usable (c .before .before .before .before)) (sym (c .before .in-range .ensures) ∙ not-true _ (c .if1 .taken))
+
+counts-with-requires : tie.Need-counts-with-requires
+counts-with-requires c κs = (usable (c .before .before .before .before), ranged c, summed (c .before .before .before .before))
 
 returns-2 : tie.Need-returns-2
 returns-2 c =
-    let start = c .before .before .before .before .before .before in
-    counted-later (start .args .state) (start .args .words .now) (c .before .enum-told .given .1) (c .if1 .left)
+    counted-unusable _ _
+    (picked-true _ _ _ (sym (c .enum-told .given .1) ∙ c .before .before .stored-in .ensures) (λ e. let never : _≡_ {A = ℕ} 0 1 = cc in omega arith))
 
 returns-3 : tie.Need-returns-3
 returns-3 c =
-    let start = c .before .before .before .before .before .before in
-    let state = start .args .state in
-    let words = start .args .words .now in
-    let usable = usable-meter state words (start .pre .0) in
-    let ranged = declaration-ranged (state .declaration) (start .pre .1) in
-    ap (λ (units : ℕ). units - wordAt words (state .slot .0 % state .declaration .interval .0)) (start .pre .2) ∙ counted-uniform state words usable ranged (c .before .enum-told2 .given .1)
+    let known = c .before in
+    ap (λ (n : ℕ). Counted.Before record { 0 = n }) (c .counts-with .ensures) ∙ sym (counted-next _ _ (usable (known .before .before .before .before)) (ranged known))
 
 pub counted-before-spec : {M : Type 1} → statement M
 counted-before-spec =
     tie.close
     (tie.spec
-    rem-at
+    stored-in-requires
     enum-told
-    enum-told-2
-    cast-replaced
-    mul-result
-    shared-slice-read-result
-    cast-result
-    sub-result
+    enum-known-units
+    in-range-requires
     returns
+    counts-with-requires
     returns-2
     returns-3)

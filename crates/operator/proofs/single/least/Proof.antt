@@ -74,25 +74,27 @@ cast-result c = omega (arith, c .shared-slice-known2 .given (c .before .before .
 
 returns : tie.Need-returns
 unfolding leastOutput limiterLeast compactorLeast expanderLeast filterLeast besideAfter delayerLeast
-returns c = rw (c .before .before .operator .given .1) (c .limiter-sends .ensures)
+returns c = (rw (c .before .before .operator .given .1) (c .limiter-sends .ensures), omega (arith, c .limiter-sends .ensures))
 
 returns-2 : tie.Need-returns-2
 unfolding leastOutput limiterLeast compactorLeast expanderLeast filterLeast besideAfter delayerLeast
-returns-2 c = rw (c .before .before .operator2 .given .1) (c .at-multiple .ensures)
+returns-2 c = (rw (c .before .before .operator2 .given .1) (c .at-multiple .ensures .0), omega (arith, c .at-multiple .ensures .1))
 
 returns-3 : tie.Need-returns-3
 unfolding leastOutput limiterLeast compactorLeast expanderLeast filterLeast besideAfter delayerLeast
-returns-3 c = rw (c .before .before .operator3 .given .1) (c .at-multiple2 .ensures)
+returns-3 c = (rw (c .before .before .operator3 .given .1) (c .at-multiple2 .ensures .0), omega (arith, c .at-multiple2 .ensures .1))
 
 returns-4 : tie.Need-returns-4
 unfolding leastOutput limiterLeast compactorLeast expanderLeast filterLeast besideAfter delayerLeast
-returns-4 c = rw (c .before .before .before .operator4 .given .1) (omega (arith, c .less .ensures, c .before .limited .ensures))
+returns-4 c = (rw (c .before .before .before .operator4 .given .1) (omega (arith, c .less .ensures, c .before .limited .ensures)), omega (arith, c .less .ensures))
 
 returns-5 : tie.Need-returns-5
 unfolding leastOutput limiterLeast compactorLeast expanderLeast filterLeast besideAfter delayerLeast numberInRange
 returns-5 c =
-    let inside = sym (ap numberInRange (c .before .before .before .operator5 .given .1)) ∙ c .before .before .before .before .before .before .pre .0 .0 in
-    rw (c .before .before .before .operator5 .given .1) (sym (of-age-past _ _ _ (least-le delayRange _ inside)))
+    let inside = sym (ap numberInRange (c .before .before .before .operator5 .given .1)) ∙ c .before .before .before .before .before .before .pre .0 .0 in (
+      rw (c .before .before .before .operator5 .given .1) (sym (of-age-past _ _ _ (least-le delayRange _ inside))),
+      omega (arith, c .shared-slice-known2 .given (c .before .before .before .operator5 .given .0 .0 .0 - 1)),
+    )
 
 pub least-spec : {M : Type 1} → statement M
 least-spec =

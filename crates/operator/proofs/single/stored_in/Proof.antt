@@ -4,10 +4,8 @@ use mathlib.Core.Bool.{Bool, true, false}
 use Prim.Native.Nat.{ℕ}
 use native.Mathlib.Omega.{arith}
 use borrow.Author.Tests.{not-true, not-false}
-use Rattle.quantity.proofs.Laws.{pick-true, pick-false}
 use Rattle.operator.specs.Stored.{storedFits}
-use Rattle.operator.specs.declared.single.Stored.{Stored}
-use Rattle.operator.proofs.SingleLaws.{Usable, stored-usable, stored-unusable, held-le, b-sum}
+use Rattle.operator.proofs.SingleLaws.{Usable, stored-refused, stored-found, held-le, b-sum}
 use borrow.Author.Needs.{needs}
 use Rattle.operator.proofs.single.stored_in.Statement.{statement}
 use Rattle.operator.proofs.single.stored_in.Tie as tie
@@ -31,10 +29,10 @@ passed c =
     }
 
 returns : tie.Need-returns
-returns c = sym (pick-true _ _ _ (stored-unusable _ _ (λ stored. c .if1 .taken (stored .sized))))
+returns c = stored-refused _ _ (λ stored. c .if1 .taken (stored .sized))
 
 returns-2 : tie.Need-returns-2
-returns-2 c = sym (pick-true _ _ _ (stored-unusable _ _ (λ stored. omega arith)))
+returns-2 c = stored-refused _ _ (λ stored. omega arith)
 
 uses-held-requires : tie.Need-uses-held-requires
 uses-held-requires c κs = search needs
@@ -43,7 +41,7 @@ stored-fits-requires : tie.Need-stored-fits-requires
 stored-fits-requires c κs = search needs
 
 returns-3 : tie.Need-returns-3
-returns-3 c = sym (pick-true _ _ _ (stored-unusable _ _ (λ stored. contradiction (stored .held-fits) (fits-answered (c .before .before .uses-held .ensures) _ (c .before .stored-fits .ensures) ∙ not-true _ (c .if3 .taken)))))
+returns-3 c = stored-refused _ _ (λ stored. contradiction (stored .held-fits) (fits-answered (c .before .before .uses-held .ensures) _ (c .before .stored-fits .ensures) ∙ not-true _ (c .if3 .taken)))
 
 uses-beside-requires : tie.Need-uses-beside-requires
 uses-beside-requires c κs = search needs
@@ -52,16 +50,16 @@ stored-fits-requires-2 : tie.Need-stored-fits-requires-2
 stored-fits-requires-2 c κs = search needs
 
 returns-4 : tie.Need-returns-4
-returns-4 c = sym (pick-true _ _ _ (stored-unusable _ _ (λ stored. contradiction (stored .beside-fits) (fits-answered (c .before .before .uses-beside .ensures) _ (c .before .stored-fits2 .ensures) ∙ not-true _ (c .if4 .taken)))))
+returns-4 c = stored-refused _ _ (λ stored. contradiction (stored .beside-fits) (fits-answered (c .before .before .uses-beside .ensures) _ (c .before .stored-fits2 .ensures) ∙ not-true _ (c .if4 .taken)))
 
 scan-requires : tie.Need-scan-requires
 scan-requires c κs = search needs
 
 returns-5 : tie.Need-returns-5
-returns-5 c = sym (pick-true _ _ _ (stored-unusable _ _ (λ stored. contradiction (stored .words-fit) (sym (c .before .before .scan .ensures .0) ∙ not-true _ (c .if5 .taken)))))
+returns-5 c = stored-refused _ _ (λ stored. contradiction (stored .words-fit) (sym (c .before .before .scan .ensures .0) ∙ not-true _ (c .if5 .taken)))
 
 returns-6 : tie.Need-returns-6
-returns-6 c = sym (pick-true _ _ _ (stored-unusable _ _ (λ stored. omega (arith, c .before .before .before .before .scan .ensures .1, c .if6 .taken))))
+returns-6 c = stored-refused _ _ (λ stored. omega (arith, c .before .before .before .before .scan .ensures .1, c .if6 .taken))
 
 add-t9 : tie.Need-add-t9
 add-t9 c = omega (arith, held-le _ _ (passed (c .before .before)), passed (c .before .before))
@@ -69,7 +67,7 @@ add-t9 c = omega (arith, held-le _ _ (passed (c .before .before)), passed (c .be
 returns-7 : tie.Need-returns-7
 returns-7 c =
     let stored = passed (c .before .before) in
-    sym (pick-false _ _ _ (stored-usable _ _ stored) ∙ ap Stored.Held (sym (b-sum _ _ stored) ∙ rw (c .before .before .before .before .before .before .scan .ensures .1)))
+    stored-found _ _ stored _ (rw (c .before .before .before .before .before .before .scan .ensures .1) (b-sum _ _ stored))
 
 pub stored-in-spec : {M : Type 1} → statement M
 stored-in-spec =

@@ -1,0 +1,100 @@
+-- A step in three, for whoever runs several operators: test what is lent and stored, decide on numbers, keep what stays. Each is defined on all inputs.
+use Prim.Native.Nat.{ℕ, _+_, _-_, min}
+use mathlib.Core.Bool.{Bool, not}
+use mathlib.Core.List.{List, [], _∷_}
+use lib.ListN.{length}
+use lib.Dec.{ltb, eqb}
+use Rattle.quantity.specs.Choice.{pick}
+use Rattle.quantity.specs.Sums.{total, listOf}
+use Rattle.quantity.specs.Limits.{largestAmount, lastSlot}
+use Rattle.quantity.specs.Refusals.{Case, _⇒_, firstOf}
+use Rattle.quantity.specs.declared.refusal.Refusal.the-variants.{Unusable, OutOfRange, ChoiceAboveGreatest}
+use Rattle.operator.specs.Held.{Held}
+use Rattle.operator.specs.Delayer.{ofAge}
+use Rattle.operator.specs.Stored.{wordAt, anyOf}
+use Rattle.operator.specs.Operators.{leastOutput, greatestOutput, heldAfter, numberInRange}
+use Rattle.operator.specs.Single.{wordCount, mostOnTheWay, wordsUsed, usesHeld, heldIn, storedUnusable}
+use Rattle.operator.specs.declared.SingleOperator.{SingleOperator}
+use Rattle.operator.specs.declared.single.Stored.{Stored}
+use Rattle.operator.specs.declared.single.Decided.{Decided}
+use Rattle.operator.specs.declared.single.Kept.{Kept}
+
+-- Test: section 3's b, unless what is lent and stored cannot be used
+unfoldable pub storedOf : SingleOperator → List ℕ → Stored
+storedOf x words = pick (storedUnusable x words) Stored.Unusable (Stored.Holds (record { 0 = heldIn x words .b }))
+
+-- what is held, where b is given beside the words
+abbrev pub heldWith : SingleOperator → List ℕ → ℕ → Held
+heldWith x words b = record { b = b; h = x .beside .0; past = wordAt words }
+
+-- 1 of a decision: the words have a wrong length, no slot number is left, an amount is above its limit
+unfoldable pub undecidable : SingleOperator → List ℕ → ℕ → ℕ → ℕ → Bool
+undecidable x words b input choice =
+    anyOf
+    (not (eqb (length words) wordCount)
+    ∷ ltb lastSlot (x .slot .0)
+    ∷ ltb largestAmount b
+    ∷ ltb largestAmount (x .beside .0)
+    ∷ ltb mostOnTheWay input
+    ∷ ltb largestAmount choice
+    ∷ [])
+
+-- what is sent: the least and the choice
+unfoldable pub sentWith : SingleOperator → List ℕ → ℕ → ℕ → ℕ → ℕ
+sentWith x words b input choice = leastOutput (x .operator) (x .slot .0) (heldWith x words b) input + choice
+
+-- 14: the choice is above greatest minus least
+unfoldable pub choiceAboveWith : SingleOperator → List ℕ → ℕ → ℕ → ℕ → Bool
+choiceAboveWith x words b input choice =
+    ltb (greatestOutput (x .operator) (x .slot .0) (heldWith x words b) input - leastOutput (x .operator) (x .slot .0) (heldWith x words b) input) choice
+
+-- what is held once s is sent
+abbrev pub heldOnce : SingleOperator → List ℕ → ℕ → ℕ → ℕ → Held
+heldOnce x words b input s = heldAfter (x .operator) (heldWith x words b) input s
+
+-- Decide: what is sent, what stays and a filter's h then, whatever they are; or 1, 5 or 14
+unfoldable pub decidedOf : SingleOperator → List ℕ → ℕ → ℕ → ℕ → Decided
+decidedOf x words b input choice =
+    firstOf
+    ((undecidable x words b input choice ⇒ Unusable)
+    ∷ (not (numberInRange (x .operator)) ⇒ OutOfRange 0)
+    ∷ (choiceAboveWith x words b input choice ⇒ ChoiceAboveGreatest 0)
+    ∷ [])
+    Decided.Refused
+    (Decided.Sends
+    (record { 0 = sentWith x words b input choice })
+    (record { 0 = heldOnce x words b input (sentWith x words b input choice) .b })
+    (record { 0 = heldOnce x words b input (sentWith x words b input choice) .h }))
+
+-- of the units of age a, the input being of age 0, what stays where the newest stay, `kept` of them in all: the younger ones take their room first
+unfoldable pub newestOf : SingleOperator → List ℕ → ℕ → ℕ → ℕ → ℕ
+newestOf x words input kept a = min (ofAge (heldIn x words) input a) (kept - total (ofAge (heldIn x words) input) a)
+
+-- 1 and 5 of keeping
+abbrev pub keepCases : SingleOperator → List ℕ → ℕ → ℕ → List Case
+keepCases x words kept beside =
+    (anyOf (not (eqb (length words) wordCount) ∷ ltb lastSlot (x .slot .0) ∷ ltb largestAmount kept ∷ ltb largestAmount beside ∷ []) ⇒ Unusable)
+    ∷ (not (numberInRange (x .operator)) ⇒ OutOfRange 0)
+    ∷ []
+
+-- the state of the slot after, with so many units kept and so many beside
+unfoldable pub stateKept : SingleOperator → ℕ → ℕ → SingleOperator
+stateKept x kept beside =
+    record {
+      operator = x .operator;
+      slot = record { 0 = x .slot .0 + 1 };
+      held = record { 0 = pick (usesHeld (x .operator)) kept 0 };
+      beside = record { 0 = beside };
+    }
+
+-- word a then: of the words that the operator uses the newest, the others as they were
+unfoldable pub wordKept : SingleOperator → List ℕ → ℕ → ℕ → ℕ → ℕ
+wordKept x words input kept a = pick (ltb a (wordsUsed (x .operator))) (newestOf x words input kept a) (wordAt words a)
+
+-- Keep: the state of the slot after
+unfoldable pub keptOf : SingleOperator → List ℕ → ℕ → ℕ → Kept
+keptOf x words kept beside = firstOf (keepCases x words kept beside) Kept.Refused (Kept.Next (stateKept x kept beside))
+
+-- and what the words hold then: every unit is a slot older, the input is new; a refused call writes nothing
+unfoldable pub wordsKept : SingleOperator → List ℕ → ℕ → ℕ → ℕ → List ℕ
+wordsKept x words input kept beside = firstOf (keepCases x words kept beside) (λ why. words) (listOf (wordKept x words input kept) wordCount)
