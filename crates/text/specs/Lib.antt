@@ -1,0 +1,5 @@
+pub mod Lines
+pub mod Rows
+pub mod Decimals
+pub mod DecimalRows
+pub mod Hexadecimals
