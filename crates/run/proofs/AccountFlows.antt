@@ -9,15 +9,11 @@ use native.Mathlib.Numerals.{add-one}
 use native.Mathlib.Omega.{arith}
 use lib.ListN.{length}
 use borrow.Author.Tests.{ltb-false, not-false}
-use Rattle.quantity.specs.Choice.{both}
-use Rattle.quantity.specs.Ranges.{inRange, intervalRange, quotaRange, wantedDelayRange}
 use Rattle.quantity.specs.Sums.{total, every}
-use Rattle.quantity.proofs.Laws.{least-le}
-use Rattle.quantity.proofs.Sums.{both-true, total-same}
+use Rattle.quantity.proofs.Sums.{total-same}
 use Rattle.quantity.proofs.Refusals.{NoneStands}
 use Rattle.operator.specs.Held.{Held}
 use Rattle.operator.specs.Operators.{greatestOutput}
-use Rattle.operator.specs.Declarations.{declarationInRange}
 use Rattle.operator.specs.Whole.{Whole}
 use Rattle.operator.specs.Flows.{Flow, flowOf, heldOn, outputOn, Fitting}
 use Rattle.operator.specs.Classes.{Keeps}
@@ -26,10 +22,10 @@ use Rattle.operator.specs.Keeping.{keepsClass}
 use Rattle.operator.proofs.Keeping.{keeps-decided}
 use Rattle.operator.proofs.Laws.{least-le-greatest, whole-on, none-fits}
 use Rattle.sheet.specs.Paths.{Line}
-use Rattle.sheet.specs.Sheets.{placesInRange, lineInRange}
+use Rattle.sheet.specs.Sheets.{lineInRange}
 use Rattle.figures.specs.Answers.{operatorAt, capacityAt, pathDelay, lineCases}
 use Rattle.figures.specs.Along.{flowInto, AllFit, Promised}
-use Rattle.figures.proofs.Promise.{promised}
+use Rattle.figures.proofs.Promise.{promised, interval-large}
 use Rattle.run.specs.Calls.{Call, choiceFor}
 use Rattle.run.specs.Account.{Account, newAccount, arriving, breaksDeclaration, choiceTooLarge, accountCases, accountNext}
 use Rattle.run.specs.Lists.{accountAll}
@@ -149,14 +145,6 @@ module _ (line : Line) (account : Account) (call : Call) (follows : Follows line
         (λ t sooner. ⊎-elim (λ here. rw here (fits-here small)) (fits-before t) (eq-or-lt-of-le (le-of-suc-le-suc sooner)))
         (none-after (chosenNext k) (suc (account .slot)) (longer-length (follows .chosen k) (choiceFor call k) (account .slot) (follows .counted-chosen k)))
 
--- a declaration in range counts over at least one slot
-pub large-interval : (line : Line) → lineInRange line ≡ true → 1 ≤ line .declaration .interval .0
-unfolding lineInRange declarationInRange
-large-interval line inside =
-    let declared = both-true (declarationInRange (line .declaration)) (both (inRange wantedDelayRange (line .wanted)) (placesInRange (line .places))) inside .0 in
-    least-le intervalRange (line .declaration .interval .0)
-    (both-true (inRange intervalRange (line .declaration .interval .0)) (inRange quotaRange (line .declaration .quota .0)) declared .0)
-
 -- what the flows are promised, at the account's slot
 follows-kept : (line : Line) (account : Account) (follows : Follows line account)
     → Promised line (flowOf (account .entered)) (λ k. flowOf (follows .chosen k)) → AccountKept line account
@@ -178,7 +166,7 @@ follows-kept line account follows kept =
 
 module _ (line : Line) (inside : lineInRange line ≡ true) where
   declaration-kept : (units : List ℕ) → keepsClass (classOf (line .declaration)) units ≡ true → Keeps (classOf (line .declaration)) (flowOf units)
-  declaration-kept units = keeps-decided (classOf (line .declaration)) units (large-interval line inside) .0
+  declaration-kept units = keeps-decided (classOf (line .declaration)) units (interval-large line inside) .0
 
   follows-new : Follows line newAccount
   unfolding heldOn keepsClass every

@@ -2,49 +2,45 @@
 use mathlib.Core.Path.{_≡_, refl, ap, ap₂, sym, subst, _∙_}
 use mathlib.Core.Bool.{Bool, true, false, not}
 use mathlib.Core.List.{List, [], _∷_, _++_}
-use mathlib.Core.Logic.{_⊎_, inl, inr, _↔_, ⊎-elim}
+use mathlib.Core.Logic.{_⊎_, _↔_, ⊎-elim}
 use Prim.Native.Nat.{ℕ, zero, suc, _+_, _-_, _≤_, _<_}
 use native.Mathlib.Nat.{lt-of-not-le, le-refl}
 use native.Mathlib.Decide.{decLe}
 use native.Mathlib.Omega.{arith}
 use lib.ListN.{length}
 use lib.Dec.{leb, ltb, eqb}
-use borrow.Author.Tests.{lt-ltb, le-ltb, le-leb, ltb-true, ltb-false, eq-eqb, not-false}
-use Rattle.quantity.specs.Choice.{pick, both, either}
+use borrow.Author.Tests.{lt-ltb, le-ltb, ltb-false, not-false}
+use Rattle.quantity.specs.Choice.{both}
 use Rattle.quantity.specs.Limits.{largestAmount, lastSlot}
 use Rattle.quantity.specs.Sums.{every, listOf}
-use Rattle.quantity.specs.Refusals.{Case, _⇒_, firstOf}
+use Rattle.quantity.specs.Refusals.{Case, _⇒_}
 use Rattle.quantity.specs.declared.refusal.Refusal.{Refusal}
-use Rattle.quantity.specs.declared.refusal.Refusal.the-variants.{Unusable, InputBreaksDeclaration, ChoiceAboveGreatest}
-use Rattle.quantity.proofs.Laws.{pick-true, pick-false, either-first, either-second, either-none}
-use Rattle.quantity.proofs.Sums.{both-true, every-holds}
-use Rattle.quantity.proofs.Refusals.{NoneStands, none-of-both, none-of-each, firstOf-none}
-use Rattle.operator.specs.Held.{Held, nothing}
-use Rattle.operator.specs.Operators.{leastOutput, greatestOutput, heldAfter, numberInRange}
+use Rattle.quantity.specs.declared.refusal.Refusal.the-variants.{Unusable, ChoiceAboveGreatest}
+use Rattle.quantity.proofs.Laws.{either-first, either-second}
+use Rattle.quantity.proofs.Sums.{every-holds}
+use Rattle.quantity.proofs.Refusals.{NoneStands, none-of-both, firstOf-none, FirstIs, none-or-first, first-answered, first-of-more}
+use Rattle.operator.specs.Held.{nothing}
+use Rattle.operator.specs.Operators.{greatestOutput, heldAfter, numberInRange}
 use Rattle.operator.specs.Declarations.{declarationInRange}
 use Rattle.operator.specs.Classes.{Keeps}
 use Rattle.operator.specs.Flows.{flowOf}
 use Rattle.operator.specs.Metering.{classOf}
-use Rattle.operator.specs.Keeping.{keepsClass}
-use Rattle.operator.specs.Stored.{storedFits, wordFits}
-use Rattle.operator.specs.Single.{wordCount, heldIn, heldNext, storedUnusable, choiceAbove, leavesTooMuch}
-use Rattle.operator.specs.Meter.{meterWordCount, meterUnusable, inputBreaks, usesBlock, meterWordsUsed}
+use Rattle.operator.specs.Single.{heldIn, heldNext, choiceAbove, leavesTooMuch}
+use Rattle.operator.specs.Meter.{meterWordCount, meterUnusable}
 use Rattle.operator.proofs.Keeping.{keeps-decided}
 use Rattle.operator.proofs.Laws.{least-le-greatest}
 use Rattle.operator.proofs.Metering.{sound-usable, sound-keeps}
 use Rattle.operator.proofs.SingleLaws.{stored-usable}
-use Rattle.operator.proofs.Stands.{Stands, stands-new, stands-usable}
+use Rattle.operator.proofs.Stands.{stands-new, stands-usable}
 use Rattle.sheet.specs.Paths.{Line}
 use Rattle.figures.specs.Answers.{operatorAt, capacityAt}
-use Rattle.run.specs.declared.Stage.{Stage}
 use Rattle.run.specs.declared.Run.{Run}
 use Rattle.run.specs.declared.slot.Outcome.{Outcome}
 use Rattle.run.specs.declared.slot.Slotted.{Slotted}
-use Rattle.run.specs.Calls.{Call, choiceFor, choicesMiscounted, amountTooLarge}
+use Rattle.run.specs.Calls.{Call, choiceFor, choicesMiscounted}
 use Rattle.run.specs.Account.{Account, arriving, slotsUsedUp, breaksDeclaration, choiceTooLarge, choicesTooLarge, accountCases, accountAnswer, accountNext, accountAfter}
-use Rattle.run.specs.Runs.{runWordCount, mostOperators, meterWords, operatorWords, noStage, noOperator, stageAt, meterIn, singleIn, stageMisplaced, stageUnusable, stageFits, runUnusable}
-use Rattle.run.specs.Slots.{inputInto, slotBreaks, choiceAboveAt, choiceCases, leavesTooMuchAt, slotLeavesTooMuch, slotCases, refusedSlot, takenSlot, runNext, wordNext, slottedOf, wordsSlotted}
-use Rattle.run.proofs.Standing.{FirstIs, none-or-first, first-answered, first-of-more}
+use Rattle.run.specs.Runs.{runWordCount, mostOperators, meterWords, operatorWords, noStage, noOperator, meterIn, singleIn, stageMisplaced, stageUnusable, stageFits, runUnusable}
+use Rattle.run.specs.Slots.{inputInto, slotBreaks, choiceAboveAt, choiceCases, leavesTooMuchAt, slotLeavesTooMuch, slotCases, refusedSlot, takenSlot, wordNext, slottedOf, wordsSlotted}
 use Rattle.run.proofs.UsableRun.{run-usable}
 use Rattle.run.proofs.AccountCalls.{choice-small}
 use Rattle.run.proofs.AccountFlows.{AccountKept}

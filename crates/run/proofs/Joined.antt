@@ -1,32 +1,27 @@
 -- What joins run and words to the account: the meter is sound for what entered, and each operator's state and words stand for the account's b, h and past.
 -- It holds of a newly opened run, and a slot that the account takes keeps it.
 use mathlib.Core.Path.{_≡_, refl, ap, ap₂, sym, _∙_}
-use mathlib.Core.Bool.{Bool, true, false}
-use mathlib.Core.List.{List, [], _∷_, _++_}
+use mathlib.Core.Bool.{true, false}
+use mathlib.Core.List.{List, []}
 use Prim.Native.Nat.{ℕ, zero, suc, _+_, _-_, _≤_, _<_}
 use native.Mathlib.Omega.{arith}
 use native.Mathlib.Nat.{lt-of-not-le, zero-add}
 use native.Mathlib.Decide.{decLe}
-use lib.ListN.{length, getD, replicate, length-replicate, getD-replicate, List·getD-eq-default}
+use lib.ListN.{length, replicate, length-replicate, getD-replicate, List·getD-eq-default}
 use lib.Dec.{ltb}
-use lib.Seq.{ext-getD}
-use borrow.Author.Tests.{lt-ltb, le-ltb, ltb-false}
+use borrow.Author.Tests.{lt-ltb, le-ltb}
 use Rattle.quantity.specs.Choice.{pick}
 use Rattle.quantity.specs.Sums.{listOf}
 use Rattle.quantity.proofs.Laws.{pick-true, pick-false}
 use Rattle.quantity.proofs.Sums.{length-listOf, getD-listOf, listOf-ext}
-use Rattle.operator.specs.Held.{Held}
-use Rattle.operator.specs.Operators.{leastOutput, greatestOutput, heldAfter, numberInRange}
+use Rattle.operator.specs.Operators.{leastOutput, greatestOutput, numberInRange}
 use Rattle.operator.specs.Declarations.{declarationInRange}
 use Rattle.operator.specs.Whole.{Whole}
 use Rattle.operator.specs.Stored.{wordAt}
 use Rattle.operator.specs.Single.{wordCount, heldIn, heldNext, sent, stateNext, wordsNext}
-use Rattle.operator.specs.Meter.{meterWordCount, inputBreaks, meterNext, meterWordNext}
-use Rattle.operator.specs.Metering.{Fed, newMeter}
-use Rattle.operator.specs.declared.Declaration.{Declaration}
-use Rattle.operator.specs.declared.Operator.{Operator}
-use Rattle.operator.specs.declared.SingleOperator.{SingleOperator}
-use Rattle.operator.proofs.Metering.{Sound, afterTaken, sound-new, sound-next}
+use Rattle.operator.specs.Meter.{meterWordCount, meterNext, meterWordNext}
+use Rattle.operator.specs.Metering.{Fed}
+use Rattle.operator.proofs.Metering.{Sound, sound-new, sound-next}
 use Rattle.operator.proofs.Stands.{Stands, stands-new, stands-next}
 use Rattle.sheet.specs.Paths.{Line, noPlace}
 use Rattle.sheet.specs.declared.Place.{Place}

@@ -1,4 +1,3 @@
-mod Standing
 mod Parts
 mod FlowsAgree
 mod AccountCalls
@@ -8,3 +7,10 @@ mod UsableRun
 mod Answered
 pub mod NeverLate
 pub mod Taking
+mod Writing
+mod DecideLaws
+mod TestLaws
+mod OpeningLaws
+mod WithPart
+mod WriteLaws
+mod SlotLaws

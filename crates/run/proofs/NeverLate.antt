@@ -1,45 +1,41 @@
 -- Demand 3: by induction over the calls run and words stay joined to the account, and of the account the figures' promise holds.
 use mathlib.Core.Path.{_≡_, refl, ap, sym, _∙_}
-use mathlib.Core.Bool.{Bool, true, false}
+use mathlib.Core.Bool.{true}
 use mathlib.Core.List.{List, [], _∷_, _++_}
 use mathlib.Core.Logic.{_⊎_, inl, inr, ⊎-elim}
 use Prim.Native.Nat.{ℕ, zero, suc, _+_, _≤_, _<_}
 use native.Mathlib.Omega.{arith}
 use lib.ListN.{length, getD, take}
 use borrow.Author.Tests.{lt-ltb}
-use lib.Seq.{take-suc, take-length}
-use Rattle.quantity.specs.Choice.{pick, both}
-use Rattle.quantity.specs.Limits.{largestAmount}
+use lib.Seq.{take-suc}
+use Rattle.quantity.specs.Choice.{both}
 use Rattle.quantity.specs.Ranges.{inRange, wantedDelayRange}
 use Rattle.quantity.specs.Sums.{listOf}
-use Rattle.quantity.specs.Refusals.{Case, _⇒_, firstOf}
 use Rattle.quantity.specs.declared.refusal.Refusal.{Refusal}
-use Rattle.quantity.specs.declared.refusal.Refusal.the-variants.{Unusable, InputBreaksDeclaration, ChoiceAboveGreatest}
+use Rattle.quantity.specs.declared.refusal.Refusal.the-variants.{Unusable}
 use Rattle.quantity.proofs.Laws.{pick-true}
 use Rattle.quantity.proofs.Sums.{both-true, getD-listOf}
-use Rattle.quantity.proofs.Refusals.{NoneStands, none-of-each, none-where-result, firstOf-none}
+use Rattle.quantity.proofs.Refusals.{NoneStands, none-of-each, none-where-result, firstOf-none, FirstIs, none-or-first, first-answered, first-of-each}
 use Rattle.operator.specs.Declarations.{declarationInRange}
 use Rattle.sheet.specs.Paths.{Line}
 use Rattle.sheet.specs.Sheets.{sheetCases, lineIn, lineInRange, placesInRange}
 use Rattle.sheet.specs.declared.read.Verdict.{Verdict}
-use Rattle.sheet.proofs.Accepted.{SheetLine, sheet-line, never-accepted}
+use Rattle.sheet.proofs.Accepted.{sheet-line, never-accepted}
 use Rattle.figures.specs.declared.Figure.{Figure}
 use Rattle.figures.specs.declared.PathFigures.{PathFigures}
-use Rattle.figures.specs.Answers.{operatorAt, capacityAt, pathDelay, lineCases, figureAt, figureIn, noFigure, refusedFigures, acceptedFigures, figuresOf}
-use Rattle.figures.proofs.Promise.{accepted-figures, operator-inside, operator-capacity-le}
-use Rattle.run.specs.declared.Run.{Run}
+use Rattle.figures.specs.Answers.{capacityAt, lineCases, figureAt, figureIn, noFigure, refusedFigures, acceptedFigures, figuresOf}
+use Rattle.figures.proofs.Promise.{accepted-figures, interval-large, operator-inside, operator-capacity-le}
 use Rattle.run.specs.declared.opening.Opened.{Opened}
 use Rattle.run.specs.declared.slot.Outcome.{Outcome}
 use Rattle.run.specs.Calls.{Call, choicesMiscounted, amountTooLarge}
-use Rattle.run.specs.Account.{Account, newAccount, slotsUsedUp, breaksDeclaration, choiceTooLarge, choicesTooLarge, accountCases, accountAnswer, accountNext, accountAfter}
-use Rattle.run.specs.Runs.{runWordCount, mostOperators}
+use Rattle.run.specs.Account.{Account, newAccount, slotsUsedUp, choicesTooLarge, accountCases, accountAnswer, accountNext, accountAfter}
+use Rattle.run.specs.Runs.{runWordCount}
 use Rattle.run.specs.Opening.{newRun, openCases, refusedOpening, openedOf, wordsOpened}
-use Rattle.run.specs.Slots.{slottedOf, wordsSlotted}
+use Rattle.run.specs.Slots.{slottedOf}
 use Rattle.run.specs.Watching.{heldAt}
 use Rattle.run.specs.Lists.{Running, opened, slotted, slottedAll, accountAll}
 use Rattle.run.specs.NeverLate.{callAt, NeverLate}
-use Rattle.run.proofs.Standing.{FirstIs, none-or-first, first-answered, first-of-each}
-use Rattle.run.proofs.AccountFlows.{AccountKept, large-interval, account-kept}
+use Rattle.run.proofs.AccountFlows.{AccountKept, account-kept}
 use Rattle.run.proofs.Joined.{Joined, joined-new}
 use Rattle.run.proofs.Answered.{Passes, answer-same, joined-after}
 
@@ -113,7 +109,7 @@ module _ (sheet words : List ℕ) (accepted : openedOf sheet words .verdict ≡ 
       record {
         some = sheet-line sheet sheet-stands .some;
         few = sheet-line sheet sheet-stands .few;
-        large = large-interval path path-inside;
+        large = interval-large path path-inside;
         declared = both-true (declarationInRange (path .declaration)) (both (inRange wantedDelayRange (path .wanted)) (placesInRange (path .places))) path-inside .0;
         number = operator-inside path path-inside path-stands;
         capacity = operator-capacity-le path path-inside path-stands;

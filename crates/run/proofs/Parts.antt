@@ -1,18 +1,18 @@
 -- The parts of a run's words: where a word of the meter or of an operator stands among all, and what a part of a list given by its elements is.
-use mathlib.Core.Path.{_≡_, refl, ap, ap₂, sym, _∙_}
+use mathlib.Core.Path.{_≡_, _∙_}
 use mathlib.Core.List.{List}
-use Prim.Native.Nat.{ℕ, _+_, _-_, _*_, _/_, _%_, _≤_, _<_, min}
+use Prim.Native.Nat.{ℕ, _+_, _-_, _*_, _/_, _%_, _≤_, _<_}
 use native.Mathlib.Nat.{mul-add-div, mul-add-mod-self-left, div-eq-of-lt, mod-eq-of-lt, add-zero}
 use native.Mathlib.Omega.{arith}
-use lib.ListN.{length, getD, take, drop, length-take, length-drop, List·getD-eq-default}
+use lib.ListN.{length, length-take, length-drop}
 use lib.Seq.{getD-take, getD-drop}
 use Rattle.quantity.specs.Sums.{listOf}
-use Rattle.quantity.proofs.Sums.{length-listOf, getD-listOf, listOf-ext}
+use Rattle.quantity.proofs.Sums.{listOf-ext}
 use Rattle.operator.specs.Single.{wordCount}
 use Rattle.operator.specs.Stored.{wordAt}
 use Rattle.operator.specs.Meter.{meterWordCount}
 use Rattle.sheet.specs.Bodies.{part}
-use Rattle.run.specs.Runs.{runWordCount, mostOperators, meterWords, operatorAtWord, operatorWords}
+use Rattle.run.specs.Runs.{runWordCount, mostOperators, operatorAtWord}
 
 -- a part's length and its elements
 module _ (at width : ℕ) (words : List ℕ) (within : at + width ≤ length words) where

@@ -1,28 +1,23 @@
 -- Demand 2: in any run that refusal 1 lets pass, a slot is taken if and only if its input keeps the declaration as the run has it and every choice lies in its operator's interval.
-use mathlib.Core.Path.{_≡_, refl, ap, sym, _∙_}
-use mathlib.Core.Bool.{Bool, true, false}
-use mathlib.Core.List.{List, [], _∷_, _++_}
+use mathlib.Core.Path.{_≡_}
+use mathlib.Core.Bool.{false}
+use mathlib.Core.List.{List}
 use mathlib.Core.Logic.{_↔_, ⊎-elim}
-use Prim.Native.Nat.{ℕ, zero, suc, _+_, _-_, _≤_, _<_}
+use Prim.Native.Nat.{ℕ, zero, suc, _-_, _≤_, _<_}
 use native.Mathlib.Nat.{not-suc-le-zero, le-of-suc-le-suc, eq-or-lt-of-le}
 use native.Mathlib.Omega.{arith}
-use lib.Dec.{ltb}
 use borrow.Author.Tests.{ltb-false, le-ltb}
-use Rattle.quantity.specs.Refusals.{Case, _⇒_, firstOf}
-use Rattle.quantity.specs.declared.refusal.Refusal.{Refusal}
-use Rattle.quantity.specs.declared.refusal.Refusal.the-variants.{Unusable}
 use Rattle.quantity.proofs.Refusals.{NoneStands, none-of-both, none-of-each, none-where-result, firstOf-none}
 use Rattle.operator.specs.Operators.{leastOutput, greatestOutput}
-use Rattle.operator.specs.Single.{heldIn, sent, choiceAbove}
-use Rattle.operator.specs.Meter.{countedBefore, inputBreaks}
+use Rattle.operator.specs.Single.{sent, choiceAbove}
+use Rattle.operator.specs.Meter.{inputBreaks}
 use Rattle.operator.proofs.Laws.{least-le-greatest}
 use Rattle.operator.proofs.SingleLaws.{whole-stored}
 use Rattle.run.specs.declared.Run.{Run}
-use Rattle.run.specs.declared.slot.Outcome.{Outcome}
 use Rattle.run.specs.declared.slot.Slotted.{Slotted}
 use Rattle.run.specs.Calls.{Call, choiceFor}
-use Rattle.run.specs.Runs.{meterWords, operatorWords, stageAt, meterIn, singleIn}
-use Rattle.run.specs.Slots.{inputInto, slotBreaks, choiceAboveAt, choiceCases, slotLeavesTooMuch, slotCases, refusedSlot, takenSlot, slottedOf}
+use Rattle.run.specs.Runs.{operatorWords, stageAt, meterIn, singleIn}
+use Rattle.run.specs.Slots.{inputInto, slotBreaks, choiceAboveAt, choiceCases, slotCases, refusedSlot, takenSlot, slottedOf}
 use Rattle.run.specs.Watching.{heldAt}
 use Rattle.run.specs.Taking.{Took, LetPass, KeepsDeclared, InInterval}
 use Rattle.run.proofs.UsableRun.{UsableRun, usable-run, stage-usable, stage-number, fits-at}

@@ -13,7 +13,6 @@ use Rattle.quantity.proofs.Sums.{both-true, every-at}
 use Rattle.operator.specs.Declarations.{declarationInRange}
 use Rattle.operator.specs.Operators.{numberInRange}
 use Rattle.operator.specs.Meter.{meterUnusable}
-use Rattle.operator.specs.Single.{storedUnusable}
 use Rattle.operator.proofs.SingleLaws.{Usable, usable}
 use Rattle.run.specs.declared.Run.{Run}
 use Rattle.run.specs.Runs.{runWordCount, mostOperators, meterWords, operatorWords, noOperator, stageAt, meterIn, singleIn, stageMisplaced, stageUnusable, stageFits, runUnusable}
@@ -66,11 +65,11 @@ run-unusable run words fails = by-test (runUnusable run words) refl
 module _ (run : Run) (words : List ℕ) (k : ℕ) (fits : stageFits run words k ≡ true) where
   pub stage-usable : Usable (singleIn run k) (operatorWords words k)
   unfolding stageFits stageUnusable
-  stage-usable = usable (singleIn run k) (operatorWords words k) (not-true _ (both-true (not (stageMisplaced run k)) (not (stageUnusable run words k)) fits .1))
+  stage-usable = usable (singleIn run k) (operatorWords words k) (not-true _ (both-true (not (stageMisplaced (stageAt run k) (ltb k (run .count)))) (not (stageUnusable run words k)) fits .1))
 
   placed : pick (ltb k (run .count)) (numberInRange (stageAt run k .operator)) (both (noOperator (stageAt run k .operator)) (eqb (stageAt run k .held .0) 0)) ≡ true
   unfolding stageFits stageMisplaced
-  placed = not-not _ (both-true (not (stageMisplaced run k)) (not (stageUnusable run words k)) fits .0)
+  placed = not-not _ (both-true (not (stageMisplaced (stageAt run k) (ltb k (run .count)))) (not (stageUnusable run words k)) fits .0)
     where
       not-not : (t : Bool) → not (not t) ≡ true → t ≡ true
       not-not true e = refl

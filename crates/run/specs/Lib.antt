@@ -4,6 +4,7 @@ pub mod Runs
 pub mod Opening
 pub mod Slots
 pub mod Watching
-pub mod Taking
 pub mod Lists
 pub mod NeverLate
+pub mod Taking
+pub mod Steps

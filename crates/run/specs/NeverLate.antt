@@ -7,7 +7,6 @@ use mathlib.Core.Logic.{_⊎_}
 use lib.ListN.{length, getD, take}
 use Rattle.quantity.specs.Sums.{total}
 use Rattle.quantity.specs.declared.refusal.Refusal.the-variants.{Unusable}
-use Rattle.operator.specs.Held.{Held}
 use Rattle.operator.specs.Flows.{flowOf}
 use Rattle.sheet.specs.Paths.{Line}
 use Rattle.sheet.specs.Sheets.{lineIn}

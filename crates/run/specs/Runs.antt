@@ -1,11 +1,12 @@
 -- Section 6: what a run and its 2,048 words hold, as a meter and single operators; and refusal 1 of what is lent and stored.
 use Prim.Native.Nat.{ℕ, _+_, _*_}
-use mathlib.Core.Bool.{Bool, true, false, not}
+use mathlib.Core.Bool.{Bool, false, not}
 use mathlib.Core.List.{List, [], _∷_}
 use lib.ListN.{length, getD}
 use lib.Dec.{leb, ltb, eqb}
 use Rattle.quantity.specs.Choice.{pick, both}
 use Rattle.quantity.specs.Sums.{every}
+use Rattle.quantity.specs.declared.Slots.{Slots}
 use Rattle.operator.specs.Stored.{anyOf}
 use Rattle.operator.specs.Operators.{numberInRange}
 use Rattle.operator.specs.Declarations.{declarationInRange}
@@ -54,20 +55,24 @@ stageAt run k = getD (run .stages) k noStage
 unfoldable pub meterIn : Run → SourceMeter
 meterIn run = record { declaration = run .declaration; slot = run .slot; block = run .block }
 
--- operator k of the run, at its slot
-unfoldable pub singleIn : Run → ℕ → SingleOperator
-singleIn run k = record { operator = stageAt run k .operator; slot = run .slot; held = stageAt run k .held; beside = stageAt run k .beside }
+-- a stage at a slot, as a single operator
+abbrev pub singleOf : Stage → Slots → SingleOperator
+singleOf stage slot = record { operator = stage .operator; slot = slot; held = stage .held; beside = stage .beside }
 
--- 1: operator k's number is out of its range, or a stage behind the path's operators is not the empty one
-unfoldable pub stageMisplaced : Run → ℕ → Bool
-stageMisplaced run k = not (pick (ltb k (run .count)) (numberInRange (stageAt run k .operator)) (both (noOperator (stageAt run k .operator)) (eqb (stageAt run k .held .0) 0)))
+-- operator k of the run
+unfoldable pub singleIn : Run → ℕ → SingleOperator
+singleIn run k = singleOf (stageAt run k) (run .slot)
+
+-- 1: the number of an operator of the path is out of its range, or a stage behind them is not the empty one
+unfoldable pub stageMisplaced : Stage → Bool → Bool
+stageMisplaced stage named = not (pick named (numberInRange (stage .operator)) (both (noOperator (stage .operator)) (eqb (stage .held .0) 0)))
 
 -- 1: what stage k and its words store cannot be used: an amount is above the limit, or something that should be 0 is not
 unfoldable pub stageUnusable : Run → List ℕ → ℕ → Bool
 stageUnusable run words k = storedUnusable (singleIn run k) (operatorWords words k)
 
 unfoldable pub stageFits : Run → List ℕ → ℕ → Bool
-stageFits run words k = both (not (stageMisplaced run k)) (not (stageUnusable run words k))
+stageFits run words k = both (not (stageMisplaced (stageAt run k) (ltb k (run .count)))) (not (stageUnusable run words k))
 
 -- 1 of what is lent and stored: the words have a wrong length; the count, the declaration or a stage's number is out of its range;
 -- no slot number is left; an amount stored is above the limit; a word or field that should be 0 is not

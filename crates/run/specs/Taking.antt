@@ -1,9 +1,8 @@
 -- Demand 2: when a slot is taken, in any run that refusal 1 lets pass, opened or not.
-use Prim.Native.Nat.{ℕ, suc, _+_, _≤_, _<_}
+use Prim.Native.Nat.{ℕ, suc, _+_, _≤_}
 use mathlib.Core.Path.{_≡_}
 use mathlib.Core.Bool.{false}
 use mathlib.Core.List.{List}
-use Rattle.quantity.specs.declared.Units.{Units}
 use Rattle.operator.specs.Operators.{leastOutput, greatestOutput}
 use Rattle.operator.specs.Meter.{countedBefore}
 use Rattle.run.specs.declared.Run.{Run}

@@ -2,12 +2,30 @@
 
 use operator::Declaration;
 use operator::Operator;
+use operator::SingleOperator;
+use operator::SourceMeter;
+use quantity::Rate;
 use quantity::Slots;
 use quantity::Units;
+ghost use mathlib.Core.Path.{_≡_};
+ghost use Rattle.run.specs.Runs.{noStage, meterIn, singleOf};
 
+mod decide;
 pub mod opening;
 pub mod slot;
+mod test;
 pub mod watch;
+mod write;
+
+// The words of a run; its meter's are the first, and each operator's follow.
+const WORDS: usize = 2048;
+
+const METER_WORDS: usize = 1024;
+
+const OPERATOR_WORDS: usize = 64;
+
+// The most operators of a path.
+const OPERATORS: usize = 16;
 
 // An operator of the path with section 3's b and a filter's h. A delayer's b is in its words alone.
 pub struct Stage {
@@ -24,4 +42,44 @@ pub struct Run {
     pub block: Units,
     pub count: usize,
     pub stages: [Stage; 16],
+}
+
+// The stage behind the path's operators: a limiter 0 that holds nothing.
+fn no_stage() -> Stage
+    ensures { λ r. ⌜ r ≡ noStage ⌝ }
+{
+    Stage {
+        operator: Operator::Limiter(Rate(0)),
+        held: Units(0),
+        beside: Units(0),
+    }
+}
+
+// The run's meter.
+fn meter_of(run: Run) -> SourceMeter
+    ensures { λ r. ⌜ r ≡ meterIn run ⌝ }
+{
+    let declaration = run.declaration;
+    let slot = run.slot;
+    let block = run.block;
+    SourceMeter {
+        declaration,
+        slot,
+        block,
+    }
+}
+
+// A stage at a slot, as a single operator.
+fn single_of(stage: Stage, slot: Slots) -> SingleOperator
+    ensures { λ r. ⌜ r ≡ singleOf stage slot ⌝ }
+{
+    let operator = stage.operator;
+    let held = stage.held;
+    let beside = stage.beside;
+    SingleOperator {
+        operator,
+        slot,
+        held,
+        beside,
+    }
 }

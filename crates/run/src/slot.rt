@@ -1,8 +1,22 @@
-// A slot of a run (document 01, sections 3, 6 and 7).
+// A slot of a run: test, decide, write (document 01, sections 3, 6 and 7).
 
 use crate::Run;
+use crate::decide::decide_all;
+use crate::test::test;
+use crate::write::write;
+use operator::meter::within_quota;
 use quantity::Units;
 use quantity::refusal::Refusal;
+ghost use mathlib.Core.Path.{_≡_};
+ghost use mathlib.Core.Bool.{not};
+ghost use lib.Dec.{leb};
+ghost use lib.ListN.{length, getD};
+ghost use Rattle.quantity.specs.Choice.{both};
+ghost use Rattle.quantity.specs.Limits.{largestAmount};
+ghost use Rattle.quantity.specs.Sums.{every};
+ghost use Rattle.run.specs.Calls.{choicesMiscounted, amountTooLarge};
+ghost use Rattle.run.specs.Slots.{refusedSlot, slottedOf, wordsSlotted};
+ghost use Rattle.run.specs.Steps.{callOf};
 
 // What a slot call answers: the last operator's output, or why it is refused.
 pub enum Outcome {
@@ -14,4 +28,70 @@ pub enum Outcome {
 pub struct Slotted {
     pub outcome: Outcome,
     pub run: Run,
+}
+
+// One slot: the input, and a choice for each operator. Everything is decided before a word is written.
+pub fn slot(run: Run, words: &mut [u32], input: Units, choices: &[u64]) -> Slotted
+    ensures { λ r. ⌜ (r ≡ slottedOf run (now (words .entry)) (callOf input (now (choices .entry)))) × (now (words .exit) ≡ wordsSlotted run (now (words .entry)) (callOf input (now (choices .entry)))) ⌝ }
+{
+    if !arguments_fit(run.count, input, choices) {
+        return refused(run, Refusal::Unusable);
+    }
+    let tested = test(run, &words[..]);
+    if !tested.usable {
+        return refused(run, Refusal::Unusable);
+    }
+    let declaration = run.declaration;
+    let counted = tested.counted;
+    if !within_quota(declaration, counted, input) {
+        return refused(run, Refusal::InputBreaksDeclaration);
+    }
+    let held = tested.held;
+    let planned = decide_all(run, &words[..], held, input, choices);
+    let outcome = planned.outcome;
+    match outcome {
+        Outcome::Refused(why) => refused(run, why),
+        Outcome::Sent(output) => {
+            let moves = planned.moves;
+            let next = write(run, words, counted, input, moves);
+            Slotted {
+                outcome: Outcome::Sent(output),
+                run: next,
+            }
+        }
+    }
+}
+
+fn refused(run: Run, why: Refusal) -> Slotted
+    ensures { λ r. ⌜ r ≡ refusedSlot run why ⌝ }
+{
+    Slotted {
+        outcome: Outcome::Refused(why),
+        run,
+    }
+}
+
+// Whether there are as many choices as operators, and no amount is above the limit.
+fn arguments_fit(operators: usize, input: Units, choices: &[u64]) -> bool
+    ensures { λ r. ⌜ r ≡ both (not (choicesMiscounted operators (callOf input (now (choices .entry))))) (not (amountTooLarge (callOf input (now (choices .entry))))) ⌝ }
+{
+    if choices.len() != operators {
+        return false;
+    }
+    if Units::LARGEST < input.0 {
+        return false;
+    }
+    amounts_fit(choices)
+}
+
+fn amounts_fit(amounts: &[u64]) -> bool
+    ensures { λ r. ⌜ r ≡ every (λ k. leb (getD (now (amounts .entry)) k 0) largestAmount) (length (now (amounts .entry))) ⌝ }
+{
+    let mut fit = true;
+    let mut k = 0;
+    while k < amounts.len() {
+        fit = fit && amounts[k] <= Units::LARGEST;
+        k += 1;
+    }
+    fit
 }

@@ -1,0 +1,303 @@
+-- What the loop over a run's operators has decided before operator k, and what it answers: the first choice that is above, 1 again, or the output.
+use Prim.Native.Nat.{ℕ, zero, suc, _+_, _-_, _*_, _≤_, _<_}
+use mathlib.Core.Path.{_≡_, refl, sym, ap, ap₂, _∙_}
+use mathlib.Core.Bool.{Bool, true, false, not}
+use mathlib.Core.List.{List, [], _∷_, _++_}
+use mathlib.Core.Logic.{inl, inr, ⊎-elim}
+use native.Mathlib.Nat.{not-suc-le-zero, le-of-suc-le-suc, eq-or-lt-of-le}
+use native.Mathlib.Numerals.{add-one}
+use native.Mathlib.Omega.{arith}
+use borrow.Author.Tests.{ltb-true, ltb-false, lt-ltb, le-leb, lt-leb, leb-true, eqb-true, eqb-false, not-false}
+use lib.Dec.{leb, ltb, eqb}
+use lib.ListN.{length, getD, set, replicate, take, drop, length-set}
+use lib.Seq.{getD-set-same, getD-set-other}
+use Rattle.quantity.specs.Choice.{pick, both, either}
+use Rattle.quantity.specs.Limits.{largestAmount}
+use Rattle.quantity.specs.Sums.{every, listOf}
+use Rattle.quantity.specs.Refusals.{Case, _⇒_}
+use Rattle.quantity.specs.declared.Slots.{Slots}
+use Rattle.quantity.specs.declared.Units.{Units}
+use Rattle.quantity.specs.declared.refusal.Refusal.{Refusal}
+use Rattle.quantity.specs.declared.refusal.Refusal.the-variants.{Unusable, ChoiceAboveGreatest}
+use Rattle.quantity.proofs.Laws.{pick-true, either-false}
+use Rattle.quantity.proofs.Sums.{every-at, every-next, getD-listOf}
+use Rattle.quantity.proofs.Refusals.{NoneStands, none-of-both, firstOf-none, FirstIs, first-answered, first-of-more}
+use Rattle.operator.specs.Operators.{numberInRange}
+use Rattle.operator.specs.Single.{wordCount, heldIn, leavesTooMuch}
+use Rattle.operator.specs.Within.{decidedOf}
+use Rattle.operator.specs.declared.SingleOperator.{SingleOperator}
+use Rattle.operator.specs.declared.single.Decided.{Decided}
+use Rattle.operator.proofs.SingleLaws.{Usable, b-le}
+use Rattle.operator.proofs.WithinLaws.{sent-fits, decided-next}
+use Rattle.sheet.specs.Bodies.{part}
+use Rattle.run.specs.declared.Stage.{Stage}
+use Rattle.run.specs.declared.Run.{Run}
+use Rattle.run.specs.declared.slot.Outcome.{Outcome}
+use Rattle.run.specs.declared.decide.Move.{Move}
+use Rattle.run.specs.Calls.{Call, choiceFor, choicesMiscounted, amountTooLarge}
+use Rattle.run.specs.Runs.{mostOperators, operatorAtWord, operatorWords, noStage, stageAt, singleOf, singleIn, runUnusable}
+use Rattle.run.specs.Slots.{inputInto, choiceAboveAt, choiceCases, leavesTooMuchAt, slotLeavesTooMuch, slotOutput}
+use Rattle.run.specs.Steps.{callOf, noMove, heldThen, moveOf, storable, planOf}
+use Rattle.run.specs.Watching.{heldAt, unitsHeld}
+use Rattle.run.proofs.UsableRun.{UsableRun, usable-run, stage-usable, stage-number, fits-at}
+
+-- an operator's words as the code lends them
+abbrev lent : List ℕ → ℕ → List ℕ
+lent words k = take (operatorAtWord k + wordCount - operatorAtWord k) (drop (operatorAtWord k) words)
+
+lent-words : (words : List ℕ) (k : ℕ) → lent words k ≡ operatorWords words k
+unfolding operatorWords part
+lent-words words k = let width : operatorAtWord k + wordCount - operatorAtWord k ≡ wordCount = omega arith in ap (λ (n : ℕ). take n (drop (operatorAtWord k) words)) width
+
+pub decided-lent : (words : List ℕ) (k b input choice : ℕ) {x y : SingleOperator} {decided : Decided} → x ≡ y → decided ≡ decidedOf x (lent words k) b input choice → decided ≡ decidedOf y (operatorWords words k) b input choice
+decided-lent words k b input choice same e = e ∙ ap₂ (λ (x : SingleOperator) (ws : List ℕ). decidedOf x ws b input choice) same (lent-words words k)
+
+-- The test of what is stored.
+
+pub storable-first : (b h : ℕ) → b ≤ largestAmount → leb h largestAmount ≡ storable b h
+unfolding storable
+storable-first b h fits = rw (le-leb b largestAmount fits)
+
+pub storable-not : (b h : ℕ) → largestAmount < b → false ≡ storable b h
+unfolding storable
+storable-not b h above = rw (lt-leb b largestAmount above)
+
+leb-not : (b : ℕ) (t : Bool) → ltb largestAmount b ≡ t → leb b largestAmount ≡ not t
+leb-not b true e = lt-leb b largestAmount (ltb-true largestAmount b e)
+leb-not b false e = le-leb b largestAmount (ltb-false largestAmount b e)
+
+both-not : (s t : Bool) → both (not s) (not t) ≡ not (either s t)
+both-not true t = refl
+both-not false t = refl
+
+storable-same : (run : Run) (words : List ℕ) (call : Call) (k : ℕ) → storable (heldThen run words call k .b) (heldThen run words call k .h) ≡ not (leavesTooMuchAt run words call k)
+unfolding storable leavesTooMuchAt leavesTooMuch heldThen
+storable-same run words call k =
+    let held = heldThen run words call k in
+    ap₂ both (leb-not (held .b) _ refl) (leb-not (held .h) _ refl) ∙ both-not (ltb largestAmount (held .b)) (ltb largestAmount (held .h))
+
+-- so joined to what was tested before
+pub both-first : {r s : Bool} (t : Bool) → t ≡ true → r ≡ s → r ≡ both t s
+both-first {r} {s} t taken e = e ∙ sym (ap (λ (x : Bool). both x s) taken)
+
+pub both-none : (t s : Bool) → t ≡ false → t ≡ both t s
+both-none t s left = left ∙ sym (ap (λ (x : Bool). both x s) left)
+
+-- what the loop has of the run and of the call, and what is known of them
+pub record Given (words choices : List ℕ) (held : List Units) (stages : List Stage) (slot : Slots) (count : ℕ) (input : Units) (run : Run) : Type 0 where
+  pub usable : UsableRun run words
+  pub stages-same : stages ≡ run .stages
+  pub slot-same : slot ≡ run .slot
+  pub count-same : count ≡ run .count
+  pub held-same : held ≡ listOf (unitsHeld run words) mostOperators
+  pub counted : length choices ≡ count
+  pub input-le : input .0 ≤ largestAmount
+  pub choice-le : (k : ℕ) → k < count → getD choices k 0 ≤ largestAmount
+
+-- so at the call
+pub given : (run : Run) (words : List ℕ) (held : List Units) (input : Units) (choices : List ℕ)
+    → runUnusable run words ≡ false → held ≡ listOf (unitsHeld run words) mostOperators
+    → choicesMiscounted (run .count) (callOf input choices) ≡ false → amountTooLarge (callOf input choices) ≡ false
+    → Given words choices held (run .stages) (run .slot) (run .count) input run
+unfolding choicesMiscounted amountTooLarge
+given run words held input choices passed same miscounted large =
+    let counted : length choices ≡ run .count = eqb-true (length choices) (run .count) (not-false _ miscounted) in
+    let (first, rest) = either-false (ltb largestAmount (input .0)) _ large in
+    let each = every-at (λ k. leb (choiceFor (callOf input choices) k) largestAmount) (length choices) (not-false _ rest) in
+    record {
+      usable = usable-run run words passed;
+      stages-same = refl;
+      slot-same = refl;
+      count-same = refl;
+      held-same = same;
+      counted = counted;
+      input-le = ltb-false largestAmount (input .0) first;
+      choice-le = λ k less. leb-true (getD choices k 0) largestAmount (each k (rw counted less));
+    }
+
+-- what holds before operator k
+pub record Deciding (run : Run) (words : List ℕ) (call : Call) (k : ℕ) (arriving : Units) (fits : Bool) (moves : List Move) : Type 0 where
+  pub arrives : arriving .0 ≡ inputInto run words call k
+  pub small : arriving .0 ≤ largestAmount * (k + 1)
+  pub passed : NoneStands (choiceCases run words call k)
+  pub stored : fits ≡ every (λ j. not (leavesTooMuchAt run words call j)) k
+  pub long : length moves ≡ mostOperators
+  pub written : (j : ℕ) → j < k → getD moves j noMove ≡ moveOf run words call j
+
+-- before operator 0
+pub deciding-start : (run : Run) (words choices : List ℕ) (input : Units) (move : Move) → input .0 ≤ largestAmount → Deciding run words (callOf input choices) 0 input true (replicate mostOperators move)
+unfolding inputInto choiceCases every
+deciding-start run words choices input move small =
+    record {
+      arrives = refl;
+      small = omega arith;
+      passed = tt;
+      stored = refl;
+      long = refl;
+      written = λ j less. absurd (not-suc-le-zero less);
+    }
+
+-- what is decided of operator k
+abbrev pub decidedAt : Run → List ℕ → Call → ℕ → Decided
+decidedAt run words call k =
+    pick (choiceAboveAt run words call k) (Decided.Refused (ChoiceAboveGreatest 0))
+    (Decided.Sends (record { 0 = inputInto run words call (suc k) }) (record { 0 = heldThen run words call k .b }) (record { 0 = heldThen run words call k .h }))
+
+-- operator k sends this, and has that then
+pub record Sending (run : Run) (words : List ℕ) (call : Call) (k : ℕ) (output kept beside : Units) : Type 0 where
+  pub below : choiceAboveAt run words call k ≡ false
+  pub out : output ≡ record { 0 = inputInto run words call (suc k) }
+  pub keeps : kept ≡ record { 0 = heldThen run words call k .b }
+  pub holds : beside ≡ record { 0 = heldThen run words call k .h }
+
+refused-picked : (t : Bool) (first : Refusal) (output kept beside : Units) {why : Refusal} → Decided.Refused why ≡ pick t (Decided.Refused first) (Decided.Sends output kept beside) → t ≡ true
+refused-picked true first output kept beside e = refl
+refused-picked false first output kept beside e = cc
+
+sends-picked : (t : Bool) (first : Refusal) (s b h : Units) {output kept beside : Units} → Decided.Sends output kept beside ≡ pick t (Decided.Refused first) (Decided.Sends s b h)
+    → (t ≡ false) × ((output ≡ s) × ((kept ≡ b) × (beside ≡ h)))
+sends-picked true first s b h e = let z : _≡_ {A = Bool} true false = cc in (z, ((cc), ((cc), (cc))))
+sends-picked false first s b h e = (refl, ((cc), ((cc), (cc))))
+
+module _ (run : Run) (words : List ℕ) (call : Call) (k : ℕ) where
+  pub refused-above : {why : Refusal} → Decided.Refused why ≡ decidedAt run words call k → choiceAboveAt run words call k ≡ true
+  refused-above decided = refused-picked (choiceAboveAt run words call k) _ _ _ _ decided
+
+  pub sends-within : {output kept beside : Units} → Decided.Sends output kept beside ≡ decidedAt run words call k → Sending run words call k output kept beside
+  sends-within decided =
+      let (below, (out, (keeps, holds))) = sends-picked (choiceAboveAt run words call k) _ _ _ _ decided in
+      record { below = below; out = out; keeps = keeps; holds = holds }
+
+-- the first of two lists that stands, where none of the first list does
+first-behind : (why : Refusal) (cs ds : List Case) → NoneStands cs → FirstIs ds why → FirstIs (cs ++ ds) why
+first-behind why [] ds none first = first
+first-behind why (c ∷ cs) ds none first = inr (none .0, first-behind why cs ds (none .1) first)
+
+module _ (run : Run) (words : List ℕ) (call : Call) where
+  first-above : (k : ℕ) → NoneStands (choiceCases run words call k) → choiceAboveAt run words call k ≡ true → (n : ℕ) → k < n → FirstIs (choiceCases run words call n) (ChoiceAboveGreatest k)
+  unfolding choiceCases
+  first-above k passed above zero less = absurd (not-suc-le-zero less)
+  first-above k passed above (suc n) less =
+      ⊎-elim
+      (λ same. rw (← same) (first-behind _ (choiceCases run words call k) _ passed (inl (above, refl))))
+      (λ sooner. first-of-more _ (choiceCases run words call n) _ (first-above k passed above n sooner))
+      (eq-or-lt-of-le (le-of-suc-le-suc less))
+
+  -- 1 again, of all operators
+  abbrev last : List Case
+  last = (slotLeavesTooMuch run words call ⇒ Unusable) ∷ []
+
+  abbrev cases : List Case
+  cases = choiceCases run words call (run .count) ++ last
+
+  abbrev output : Outcome
+  output = Outcome.Sent (record { 0 = slotOutput run words call })
+
+  first-plan : (why : Refusal) → FirstIs cases why → Outcome.Refused why ≡ planOf run words call
+  unfolding planOf
+  first-plan why first = sym (first-answered Outcome.Refused output why cases first)
+
+  -- 14 of operator k
+  pub refused-plan : (k : ℕ) → NoneStands (choiceCases run words call k) → choiceAboveAt run words call k ≡ true → k < run .count → Outcome.Refused (ChoiceAboveGreatest k) ≡ planOf run words call
+  refused-plan k passed above less =
+      first-plan (ChoiceAboveGreatest k) (first-of-more (ChoiceAboveGreatest k) (choiceCases run words call (run .count)) last (first-above k passed above (run .count) less))
+
+  -- behind the last operator
+  module _ {arriving : Units} {fits : Bool} {moves : List Move} (deciding : Deciding run words call (run .count) arriving fits moves) where
+    pub unusable-plan : fits ≡ false → Outcome.Refused Unusable ≡ planOf run words call
+    unfolding slotLeavesTooMuch
+    unusable-plan misfits =
+        first-plan Unusable (first-behind Unusable (choiceCases run words call (run .count)) last (deciding .passed) (inl (ap not (sym (deciding .stored) ∙ misfits), refl)))
+
+    pub sent-plan : fits ≡ true → Outcome.Sent arriving ≡ planOf run words call
+    unfolding planOf slotLeavesTooMuch
+    sent-plan fit =
+        ap (λ (n : ℕ). Outcome.Sent (record { 0 = n })) (deciding .arrives)
+        ∙ sym (firstOf-none Outcome.Refused output cases (none-of-both (choiceCases run words call (run .count)) last (deciding .passed) (ap not (sym (deciding .stored) ∙ fit), tt)))
+
+-- one operator on
+module _ {words choices : List ℕ} {held : List Units} {stages : List Stage} {slot : Slots} {count : ℕ} {input : Units} {run : Run} (known : Given words choices held stages slot count input run)
+    {k : ℕ} {arriving : Units} {fits : Bool} {moves : List Move} (deciding : Deciding run words (callOf input choices) k arriving fits moves) (here : k < count) where
+  abbrev call : Call
+  call = callOf input choices
+
+  inside : k < run .count
+  inside = rw (← known .count-same) here
+
+  below : k < mostOperators
+  below = let few = known .usable .few in omega (arith, inside)
+
+  stored : Usable (singleIn run k) (operatorWords words k)
+  stored = stage-usable run words k (fits-at run words (known .usable) k below)
+
+  number : numberInRange (singleIn run k .operator) ≡ true
+  number = stage-number run words k (fits-at run words (known .usable) k below) inside
+
+  single-same : singleOf (getD stages k noStage) slot ≡ singleIn run k
+  unfolding singleIn stageAt
+  single-same = rw (known .stages-same, known .slot-same)
+
+  units-same : (d : Units) → getD held k d .0 ≡ heldIn (singleIn run k) (operatorWords words k) .b
+  unfolding unitsHeld heldAt
+  units-same d =
+      ap (λ (list : List Units). getD list k d .0) (known .held-same)
+      ∙ ap (λ (u : Units). u .0) (getD-listOf d (unitsHeld run words) mostOperators k below)
+      ∙ pick-true _ _ _ (lt-ltb k (run .count) inside)
+
+  -- what stage k with its words decides is operator k's decision
+  pub decided-here : {decided : Decided} (d : Units) → decided ≡ decidedOf (singleOf (getD stages k noStage) slot) (operatorWords words k) (getD held k d .0) (arriving .0) (getD choices k 0)
+      → decided ≡ decidedAt run words call k
+  unfolding choiceAboveAt inputInto heldThen
+  decided-here {decided} d e =
+      let x = singleIn run k in
+      let ws = operatorWords words k in
+      e
+      ∙ ap (λ (x : SingleOperator). decidedOf x ws (getD held k d .0) (arriving .0) (getD choices k 0)) single-same
+      ∙ ap₂ (λ (b r : ℕ). decidedOf x ws b r (getD choices k 0)) (units-same d) (deciding .arrives)
+      ∙ decided-next x ws stored number (inputInto run words call k) (getD choices k 0)
+      (omega (arith, deciding .arrives, deciding .small, below)) (known .choice-le k here)
+
+  move-next : {next : Move} → next ≡ moveOf run words call k → (j : ℕ) → j < k + 1 → (t : Bool) → eqb j k ≡ t → getD (set moves k next) j noMove ≡ moveOf run words call j
+  move-next {next} e j less true same =
+      let at-k = eqb-true j k same in
+      rw at-k (getD-set-same moves k next noMove (rw (deciding .long) below) ∙ e)
+  move-next {next} e j less false other =
+      let differ = eqb-false j k other in
+      getD-set-other moves k j next noMove differ ∙ deciding .written j (earlier differ)
+    where
+      earlier : (j ≡ k → ⊥) → j < k
+      earlier differ = ⊎-elim (λ same. absurd (differ same)) (λ sooner. sooner) (eq-or-lt-of-le (le-of-suc-le-suc (rw add-one at less)))
+
+  module _ {output kept beside : Units} (sending : Sending run words call k output kept beside) where
+    output-same : output .0 ≡ inputInto run words call (suc k)
+    output-same = ap (λ (u : Units). u .0) (sending .out)
+
+    into-le : inputInto run words call (suc k) ≤ heldIn (singleIn run k) (operatorWords words k) .b + inputInto run words call k
+    unfolding inputInto choiceAboveAt
+    into-le = sent-fits (singleIn run k) (operatorWords words k) stored number (inputInto run words call k) (choiceFor call k) (sending .below)
+
+    move-same : record { input = arriving; kept = kept; beside = beside } ≡ moveOf run words call k
+    unfolding moveOf
+    move-same = let into : arriving ≡ record { 0 = inputInto run words call k } = ap (λ (n : ℕ). record { 0 = n }) (deciding .arrives) in rw (into, sending .keeps, sending .holds)
+
+    stored-next : {fits-too : Bool} → fits-too ≡ both fits (storable (kept .0) (beside .0)) → fits-too ≡ every (λ j. not (leavesTooMuchAt run words call j)) (k + 1)
+    stored-next e =
+        e
+        ∙ ap₂ both (deciding .stored) (rw (sending .keeps, sending .holds) (storable-same run words call k))
+        ∙ sym (every-next (λ j. not (leavesTooMuchAt run words call j)) k)
+
+    passed-next : NoneStands (choiceCases run words call (k + 1))
+    unfolding choiceCases
+    passed-next = rw add-one (none-of-both (choiceCases run words call k) _ (deciding .passed) (sending .below, tt))
+
+    pub deciding-next : {fits-too : Bool} → fits-too ≡ both fits (storable (kept .0) (beside .0))
+        → Deciding run words call (k + 1) output fits-too (set moves k (record { input = arriving; kept = kept; beside = beside }))
+    deciding-next e =
+        record {
+          arrives = rw add-one output-same;
+          small = omega (arith, output-same, into-le, deciding .arrives, deciding .small, b-le (singleIn run k) (operatorWords words k) stored);
+          passed = passed-next;
+          stored = stored-next e;
+          long = length-set moves k _ ∙ deciding .long;
+          written = λ j less. move-next move-same j less (eqb j k) refl;
+        }

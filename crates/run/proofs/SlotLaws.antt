@@ -1,0 +1,187 @@
+-- What a slot answers at each of its ways out: the first refusal of its list, or the next run with its words.
+use mathlib.Core.Path.{_≡_, refl, ap, ap₂, sym, _∙_, fun-ext}
+use mathlib.Core.Bool.{Bool, true, false, not}
+use mathlib.Core.List.{List, [], _∷_, _++_}
+use mathlib.Core.Logic.{inl, inr, ⊎-elim}
+use Prim.Native.Nat.{ℕ, _+_, _≤_, _<_}
+use native.Mathlib.Omega.{arith}
+use lib.Dec.{leb}
+use lib.ListN.{length, getD}
+use borrow.Author.Tests.{lt-ltb, le-ltb, eq-eqb, ne-eqb}
+use Rattle.quantity.specs.Choice.{pick, both}
+use Rattle.quantity.specs.Limits.{largestAmount}
+use Rattle.quantity.specs.Sums.{every, listOf}
+use Rattle.quantity.specs.Refusals.{Case, _⇒_, firstOf}
+use Rattle.quantity.specs.declared.Units.{Units}
+use Rattle.quantity.specs.declared.refusal.Refusal.{Refusal}
+use Rattle.quantity.specs.declared.refusal.Refusal.the-variants.{Unusable, InputBreaksDeclaration}
+use Rattle.quantity.proofs.Sums.{every-next}
+use Rattle.quantity.proofs.Refusals.{NoneStands, none-where-result, firstOf-none, FirstIs, none-or-first, first-answered}
+use Rattle.operator.specs.MeterWithin.{withinQuota}
+use Rattle.operator.proofs.MeterWithinLaws.{within-breaks}
+use Rattle.run.specs.declared.Run.{Run}
+use Rattle.run.specs.declared.decide.Move.{Move}
+use Rattle.run.specs.declared.slot.Outcome.{Outcome}
+use Rattle.run.specs.declared.slot.Slotted.{Slotted}
+use Rattle.run.specs.declared.test.Tested.{Tested}
+use Rattle.run.specs.Calls.{Call, choiceFor, choicesMiscounted, amountTooLarge}
+use Rattle.run.specs.Runs.{runWordCount, mostOperators, meterWords, meterIn, runUnusable}
+use Rattle.run.specs.Slots.{slotBreaks, choiceCases, slotLeavesTooMuch, slotCases, slotOutput, wordNext, refusedSlot, takenSlot, slottedOf, wordsSlotted}
+use Rattle.run.specs.Steps.{notTested, countedIn, testedOf, noMove, moveOf, planOf, runWritten, wordWritten}
+use Rattle.run.specs.Taking.{Took}
+use Rattle.run.specs.Watching.{unitsHeld}
+use Rattle.run.proofs.Writing.{run-written, word-written}
+
+never : _≡_ {A = Bool} true false → ⊥
+never e = let z : _≡_ {A = ℕ} 0 1 = cc in omega arith
+
+-- The arguments.
+
+-- one more amount is tested, unless one did not fit
+module _ (test : ℕ → Bool) (k : ℕ) {fit next : Bool} (passed : fit ≡ every test k) where
+  pub test-more : fit ≡ true → next ≡ test k → next ≡ every test (k + 1)
+  test-more fits here = here ∙ sym (every-next test k ∙ ap (λ (t : Bool). both t (test k)) (sym passed ∙ fits))
+
+  pub test-none : fit ≡ false → next ≡ fit → next ≡ every test (k + 1)
+  test-none fails same = same ∙ fails ∙ sym (every-next test k ∙ ap (λ (t : Bool). both t (test k)) (sym passed ∙ fails))
+
+module _ (operators : ℕ) (call : Call) where
+  abbrev pub Fit : Bool → Type 0
+  Fit fit = fit ≡ both (not (choicesMiscounted operators call)) (not (amountTooLarge call))
+
+  pub miscounted-unfit : (length (call .choices) ≡ operators → ⊥) → Fit false
+  unfolding choicesMiscounted
+  miscounted-unfit other = rw (ne-eqb (length (call .choices)) operators other)
+
+  module _ (counted : length (call .choices) ≡ operators) where
+    well-counted : choicesMiscounted operators call ≡ false
+    unfolding choicesMiscounted
+    well-counted = ap not (eq-eqb (length (call .choices)) operators counted)
+
+    pub input-unfit : largestAmount < call .input → Fit false
+    unfolding amountTooLarge
+    input-unfit above = rw (well-counted, lt-ltb largestAmount (call .input) above)
+
+    pub choices-fit : call .input ≤ largestAmount → {fit : Bool} → fit ≡ every (λ k. leb (choiceFor call k) largestAmount) (length (call .choices)) → Fit fit
+    unfolding amountTooLarge
+    choices-fit within same = rw (well-counted, le-ltb largestAmount (call .input) within) (same ∙ sym (not-not _))
+      where
+        not-not : (t : Bool) → not (not t) ≡ t
+        not-not true = refl
+        not-not false = refl
+
+  pub arguments-pass : {fit : Bool} → Fit fit → fit ≡ true → (choicesMiscounted operators call ≡ false) × (amountTooLarge call ≡ false)
+  arguments-pass tested passed = by-tests (choicesMiscounted operators call) (amountTooLarge call) (sym tested ∙ passed)
+    where
+      by-tests : (a b : Bool) → both (not a) (not b) ≡ true → (a ≡ false) × (b ≡ false)
+      by-tests false false e = (refl, refl)
+      by-tests false true e = (refl, sym e)
+      by-tests true b e = absurd (never (sym e))
+
+-- What was tested.
+
+module _ (run : Run) (words : List ℕ) where
+  abbrev passing : Tested
+  passing = record { usable = true; counted = record { 0 = countedIn run words }; held = listOf (unitsHeld run words) mostOperators }
+
+  module _ {tested : Tested} (found : tested ≡ testedOf run words) where
+    unusable-then : tested .usable ≡ false → runUnusable run words ≡ true
+    unfolding testedOf
+    unusable-then unfit = by-test (runUnusable run words) found
+      where
+        by-test : (t : Bool) → tested ≡ pick t notTested passing → t ≡ true
+        by-test true same = refl
+        by-test false same = absurd (never (sym (ap (λ (t : Tested). t .usable) same) ∙ unfit))
+
+    pub stored-passes : tested .usable ≡ true → (runUnusable run words ≡ false) × (tested .counted .0 ≡ countedIn run words) × (tested .held ≡ listOf (unitsHeld run words) mostOperators)
+    unfolding testedOf
+    stored-passes fit = by-test (runUnusable run words) refl found
+      where
+        by-test : (t : Bool) → runUnusable run words ≡ t → tested ≡ pick t notTested passing
+            → (runUnusable run words ≡ false) × (tested .counted .0 ≡ countedIn run words) × (tested .held ≡ listOf (unitsHeld run words) mostOperators)
+        by-test true e same = absurd (never (sym fit ∙ ap (λ (t : Tested). t .usable) same))
+        by-test false e same = (e, ap (λ (t : Tested). t .counted .0) same, ap (λ (t : Tested). t .held) same)
+
+-- The ways out.
+
+module _ (run : Run) (words : List ℕ) (call : Call) where
+  -- what is answered, and what the words are then
+  abbrev Answer : Slotted → List ℕ → Type 0
+  Answer answer after = (answer ≡ slottedOf run words call) × (after ≡ wordsSlotted run words call)
+
+  refused-first : {why : Refusal} → FirstIs (slotCases run words call) why → {answer : Slotted} → answer ≡ refusedSlot run why → Answer answer words
+  unfolding slottedOf wordsSlotted
+  refused-first {why} first same = (
+    same ∙ sym (first-answered (refusedSlot run) (takenSlot run words call) why (slotCases run words call) first),
+    sym (first-answered (λ why. words) (listOf (wordNext run words call) runWordCount) why (slotCases run words call) first),
+  )
+
+  pub refused-arguments : {fit : Bool} → Fit (run .count) call fit → fit ≡ false → {answer : Slotted} → answer ≡ refusedSlot run Unusable → Answer answer words
+  refused-arguments tested unfit = refused-first (by-tests (choicesMiscounted (run .count) call) (amountTooLarge call) refl refl (sym tested ∙ unfit))
+    where
+      by-tests : (a b : Bool) → choicesMiscounted (run .count) call ≡ a → amountTooLarge call ≡ b → both (not a) (not b) ≡ false → FirstIs (slotCases run words call) Unusable
+      by-tests true b e f none = inl (e, refl)
+      by-tests false true e f none = inr (e, inl (f, refl))
+      by-tests false false e f none = absurd (never none)
+
+  module _ (counted : choicesMiscounted (run .count) call ≡ false) (small : amountTooLarge call ≡ false) where
+    pub refused-stored : {tested : Tested} → tested ≡ testedOf run words → tested .usable ≡ false → {answer : Slotted} → answer ≡ refusedSlot run Unusable → Answer answer words
+    refused-stored found unfit = refused-first (inr (counted, inr (small, inl (unusable-then run words found unfit, refl))))
+
+    module _ (usable : runUnusable run words ≡ false) {units : ℕ} (same-units : units ≡ countedIn run words) where
+      breaks-tested : not (withinQuota (run .declaration) units (call .input)) ≡ slotBreaks run words call
+      unfolding countedIn slotBreaks meterIn
+      breaks-tested = rw same-units (within-breaks (meterIn run) (meterWords words) (call .input))
+
+      pub refused-input : withinQuota (run .declaration) units (call .input) ≡ false → {answer : Slotted} → answer ≡ refusedSlot run InputBreaksDeclaration → Answer answer words
+      refused-input above = refused-first (inr (counted, inr (small, inr (usable, inl (sym breaks-tested ∙ ap not above, refl)))))
+
+      module _ (keeps : withinQuota (run .declaration) units (call .input) ≡ true) {planned : Outcome} (plan : planned ≡ planOf run words call) where
+        abbrev decisions : List Case
+        decisions = choiceCases run words call (run .count) ++ ((slotLeavesTooMuch run words call ⇒ Unusable) ∷ [])
+
+        abbrev sends : Outcome
+        sends = Outcome.Sent (record { 0 = slotOutput run words call })
+
+        decided : planned ≡ firstOf decisions Outcome.Refused sends
+        unfolding planOf
+        decided = plan
+
+        kept-declared : slotBreaks run words call ≡ false
+        kept-declared = sym breaks-tested ∙ ap not keeps
+
+        pub refused-planned : {why : Refusal} → Outcome.Refused why ≡ planned → {answer : Slotted} → answer ≡ refusedSlot run why → Answer answer words
+        refused-planned {why} refused = refused-first (inr (counted, inr (small, inr (usable, inr (kept-declared, ⊎-elim sent first (none-or-first decisions))))))
+          where
+            sent : NoneStands decisions → FirstIs decisions why
+            sent none = let same : Outcome.Refused why ≡ sends = refused ∙ decided ∙ firstOf-none Outcome.Refused sends decisions none in
+                absurd (let z : _≡_ {A = ℕ} 0 1 = cc in omega arith)
+
+            first : ((other : Refusal) × FirstIs decisions other) → FirstIs decisions why
+            first (other, stands) =
+                let same : Outcome.Refused why ≡ Outcome.Refused other = refused ∙ decided ∙ first-answered Outcome.Refused sends other decisions stands in
+                let why-same : why ≡ other = cc in
+                rw why-same stands
+
+        module _ {output : Units} (sent : Outcome.Sent output ≡ planned) where
+          took : Took planned
+          took = rw (← sent) tt
+
+          none-decided : NoneStands decisions
+          none-decided = none-where-result Outcome.Refused sends Took (λ why refused. refused) decisions (rw decided at took)
+
+          none-stands : NoneStands (slotCases run words call)
+          none-stands = (counted, (small, (usable, (kept-declared, none-decided))))
+
+          module _ (moves : List Move) (moved : Took planned → (k : ℕ) → k < run .count → getD moves k noMove ≡ moveOf run words call k) where
+            pub taken : {next : Run} → next ≡ runWritten run words units (call .input) moves → {after : List ℕ} → after ≡ listOf (wordWritten run words units (call .input) moves) runWordCount
+                → Answer (record { outcome = Outcome.Sent output; run = next }) after
+            unfolding slottedOf wordsSlotted takenSlot
+            taken made left = (
+              ap₂ (λ (outcome : Outcome) (run : Run). record { outcome = outcome; run = run }) (sent ∙ decided ∙ firstOf-none Outcome.Refused sends decisions none-decided)
+                  (made ∙ rw same-units (run-written run words call none-stands moves (moved took)))
+                  ∙ sym (firstOf-none (refusedSlot run) (takenSlot run words call) (slotCases run words call) none-stands),
+              left
+                  ∙ rw same-units (ap (λ (word : ℕ → ℕ). listOf word runWordCount) (fun-ext (word-written run words call none-stands moves (moved took))))
+                  ∙ sym (firstOf-none (λ why. words) (listOf (wordNext run words call) runWordCount) (slotCases run words call) none-stands),
+            )

@@ -1,0 +1,277 @@
+-- Writing operator by operator: before stage k the words of the meter and of the stages before it are written, and every other is as it was. Behind the last stage that is what a slot writes.
+use mathlib.Core.Path.{_≡_, refl, ap, sym, _∙_}
+use mathlib.Core.Bool.{Bool, true, false}
+use mathlib.Core.List.{List, [], _∷_, _++_}
+use mathlib.Core.Logic.{_⊎_, inl, inr, ⊎-elim}
+use Prim.Native.Nat.{ℕ, _+_, _-_, _/_, _%_, _<_}
+use native.Mathlib.Nat.{eq-or-lt-of-le, lt-of-not-le, zero-add, div-add-mod', mod-lt}
+use native.Mathlib.Decide.{decLe}
+use native.Mathlib.Omega.{arith}
+use lib.Dec.{ltb}
+use lib.ListN.{length, getD, set, take, drop, length-set}
+use lib.Seq.{getD-set-same, getD-set-other}
+use borrow.Author.Tests.{ltb-true, ltb-false, lt-ltb, le-ltb}
+use Rattle.quantity.specs.Choice.{pick}
+use Rattle.quantity.specs.Sums.{listOf}
+use Rattle.quantity.specs.Refusals.{Case, firstOf}
+use Rattle.quantity.specs.declared.Slots.{Slots}
+use Rattle.quantity.proofs.Laws.{pick-true, pick-false}
+use Rattle.quantity.proofs.Sums.{length-listOf, listOf-ext}
+use Rattle.operator.specs.Stored.{wordAt}
+use Rattle.operator.specs.Single.{wordCount}
+use Rattle.operator.specs.Within.{keepCases, keptOf, wordKept, wordsKept}
+use Rattle.operator.specs.Meter.{meterWordCount, meterWordNext}
+use Rattle.operator.specs.MeterWithin.{noteCases, notedOf, wordsNoted}
+use Rattle.operator.specs.declared.SingleOperator.{SingleOperator}
+use Rattle.operator.specs.declared.SourceMeter.{SourceMeter}
+use Rattle.operator.specs.declared.single.Kept.{Kept}
+use Rattle.operator.specs.declared.meter.Metered.{Metered}
+use Rattle.sheet.specs.Bodies.{part}
+use Rattle.run.specs.declared.Stage.{Stage}
+use Rattle.run.specs.declared.Run.{Run}
+use Rattle.run.specs.declared.decide.Move.{Move}
+use Rattle.run.specs.Runs.{runWordCount, mostOperators, meterWords, operatorAtWord, operatorWords, noStage, stageAt, meterIn, singleOf}
+use Rattle.run.specs.Steps.{noMove, withPart, meterWritten, stageWritten, stageWords, runWritten, stageWord, wordWritten}
+use Rattle.run.proofs.Parts.{length-part, part-at}
+use Rattle.run.proofs.Joined.{length-operatorWords, operator-word}
+use Rattle.run.proofs.WithPart.{put-back, meter-sized, meter-replaced, meter-beside, operator-sized, operator-replaced, meter-before, operator-before, operator-behind}
+
+-- Whether refused or not, as many words are left as were lent.
+
+module _ (n : ℕ) (words next : List ℕ) (was : length words ≡ n) (will : length next ≡ n) where
+  length-either : (t : Bool) (other : List ℕ) → length other ≡ n → length (pick t words other) ≡ n
+  length-either true other size = was
+  length-either false other size = size
+
+  length-firstOf : (cs : List Case) → length (firstOf cs (λ why. words) next) ≡ n
+  length-firstOf [] = will
+  length-firstOf (c ∷ cs) = length-either (c .stands) (firstOf cs (λ why. words) next) (length-firstOf cs)
+
+length-noted : (x : SourceMeter) (words : List ℕ) (counted input : ℕ) → length words ≡ meterWordCount → length (wordsNoted x words counted input) ≡ meterWordCount
+unfolding wordsNoted
+length-noted x words counted input size =
+    length-firstOf meterWordCount words (listOf (meterWordNext x words input) meterWordCount) size (length-listOf (meterWordNext x words input) meterWordCount)
+    (noteCases x words counted input)
+
+length-stage : (stage : Stage) (slot : Slots) (words : List ℕ) (moved : Move) → length words ≡ wordCount → length (stageWords stage slot words moved) ≡ wordCount
+unfolding stageWords wordsKept
+length-stage stage slot words moved size =
+    let kept = wordKept (singleOf stage slot) words (moved .input .0) (moved .kept .0) in
+    length-firstOf wordCount words (listOf kept wordCount) size (length-listOf kept wordCount) (keepCases (singleOf stage slot) words (moved .kept .0) (moved .beside .0))
+
+length-meterWords : (words : List ℕ) → length words ≡ runWordCount → length (meterWords words) ≡ meterWordCount
+unfolding meterWords
+length-meterWords words sized = length-part 0 meterWordCount words (omega arith)
+
+meter-word : (words : List ℕ) → length words ≡ runWordCount → (j : ℕ) → j < meterWordCount → wordAt (meterWords words) j ≡ wordAt words j
+unfolding meterWords
+meter-word words sized j less = part-at 0 meterWordCount words (omega arith) j less ∙ ap (wordAt words) (zero-add j)
+
+-- The meter.
+
+abbrev pub meterThen : SourceMeter → Metered → SourceMeter
+meterThen meter (Metered.Taken next) = next
+meterThen meter (Metered.Refused why) = meter
+
+module _ (run : Run) (words : List ℕ) (counted input : ℕ) where
+  abbrev noted : List ℕ
+  noted = wordsNoted (meterIn run) (meterWords words) counted input
+
+  meter-taken : (answer : Metered) → answer ≡ notedOf (meterIn run) (meterWords words) counted input → meterThen (meterIn run) answer ≡ meterWritten run words counted input
+  unfolding meterWritten
+  meter-taken (Metered.Taken next) e = rw (← e)
+  meter-taken (Metered.Refused why) e = rw (← e)
+
+  pub meter-written : length words ≡ runWordCount → {meter : SourceMeter} → meter ≡ meterIn run → {answer : Metered} → answer ≡ notedOf meter (meterWords words) counted input
+      → {new : List ℕ} → new ≡ wordsNoted meter (meterWords words) counted input
+      → (meterThen meter answer ≡ meterWritten run words counted input) × (take 0 words ++ (new ++ drop meterWordCount (drop 0 words)) ≡ withPart 0 noted words)
+  meter-written sized same {answer} answered left =
+      let sizes = length-noted (meterIn run) (meterWords words) counted input (length-meterWords words sized) in
+      (rw same (meter-taken answer (rw same at answered)), rw (left, same) (put-back 0 meterWordCount noted words sizes))
+
+  pub metered-size : length words ≡ runWordCount → {after : List ℕ} → after ≡ withPart 0 noted words → length after ≡ runWordCount
+  metered-size sized same = rw same (meter-sized words noted sized (length-noted (meterIn run) (meterWords words) counted input (length-meterWords words sized)))
+
+-- A stage.
+
+abbrev pub stageThen : Stage → Kept → Stage
+stageThen stage (Kept.Next next) = record { operator = next .operator; held = next .held; beside = next .beside }
+stageThen stage (Kept.Refused why) = stage
+
+module _ (stage : Stage) (slot : Slots) (words : List ℕ) (k : ℕ) (moved : Move) where
+  abbrev kept : List ℕ
+  kept = stageWords stage slot (operatorWords words k) moved
+
+  stage-taken : (answer : Kept) → answer ≡ keptOf (singleOf stage slot) (operatorWords words k) (moved .kept .0) (moved .beside .0)
+      → stageThen stage answer ≡ stageWritten stage slot (operatorWords words k) moved
+  unfolding stageWritten
+  stage-taken (Kept.Next next) e = rw (← e)
+  stage-taken (Kept.Refused why) e = rw (← e)
+
+  abbrev lent : ℕ
+  lent = operatorAtWord k + wordCount - operatorAtWord k
+
+  pub stage-written : length words ≡ runWordCount → k < mostOperators → {single : SingleOperator} → single ≡ singleOf stage slot
+      → {answer : Kept} → answer ≡ keptOf single (take lent (drop (operatorAtWord k) words)) (moved .kept .0) (moved .beside .0)
+      → {new : List ℕ} → new ≡ wordsKept single (take lent (drop (operatorAtWord k) words)) (moved .input .0) (moved .kept .0) (moved .beside .0)
+      → (stageThen stage answer ≡ stageWritten stage slot (operatorWords words k) moved)
+      × (take (operatorAtWord k) words ++ (new ++ drop lent (drop (operatorAtWord k) words)) ≡ withPart (operatorAtWord k) kept words)
+  unfolding operatorWords part stageWords
+  stage-written sized less same {answer} answered left =
+      let wide : lent ≡ wordCount = omega arith in
+      let sizes = length-stage stage slot (operatorWords words k) moved (length-operatorWords words sized k less) in
+      (stage-taken answer (rw (wide, same) at answered), rw (left, wide, same) (put-back (operatorAtWord k) wordCount kept words sizes))
+
+-- What is done of each place below k, and of no other.
+
+module _ {A : Type 0} (n : ℕ) (done was : ℕ → A) where
+  abbrev pub UpTo : ℕ → (ℕ → A) → Type 0
+  UpTo k here = (i : ℕ) → i < n → here i ≡ pick (ltb i k) (done i) (was i)
+
+  up-to-none : (here : ℕ → A) → ((i : ℕ) → i < n → here i ≡ was i) → UpTo 0 here
+  up-to-none here same i less = same i less ∙ sym (pick-false _ _ _ (le-ltb i 0 (omega arith)))
+
+  -- at k it is not done yet
+  up-to-here : (k : ℕ) (here : ℕ → A) → UpTo k here → k < n → here k ≡ was k
+  up-to-here k here upto less = upto k less ∙ pick-false _ _ _ (le-ltb k k (omega arith))
+
+  up-to-next : (k : ℕ) (here next : ℕ → A) → UpTo k here → next k ≡ done k → ((i : ℕ) → i < n → (i < k) ⊎ (k < i) → next i ≡ here i) → UpTo (k + 1) next
+  up-to-next k here next upto new other i less =
+      elim (decLe i k) [
+        | yes below ↦
+            ⊎-elim
+            (λ same. rw same (new ∙ sym (pick-true _ _ _ (lt-ltb k (k + 1) (omega arith)))))
+            (λ under. other i less (inl under) ∙ upto i less ∙ pick-true _ _ _ (lt-ltb i k under) ∙ sym (pick-true _ _ _ (lt-ltb i (k + 1) (omega arith))))
+            (eq-or-lt-of-le below)
+        | no above ↦
+            let over = lt-of-not-le above in
+            other i less (inr over) ∙ upto i less ∙ pick-false _ _ _ (le-ltb i k (omega arith)) ∙ sym (pick-false _ _ _ (le-ltb i (k + 1) (omega arith)))
+      ]
+
+-- what a stage and its words are once written, over the words behind the meter's
+abbrev wordsDone : Run → List ℕ → List Move → ℕ → List ℕ
+wordsDone run words moves i = stageWords (stageAt run i) (run .slot) (operatorWords words i) (getD moves i noMove)
+
+abbrev stageDone : Run → List ℕ → List Move → ℕ → Stage
+stageDone run words moves i = stageWritten (stageAt run i) (run .slot) (operatorWords words i) (getD moves i noMove)
+
+-- before stage k, where `words` are those with the meter's written
+pub record Written (run : Run) (words : List ℕ) (moves : List Move) (k : ℕ) (after : List ℕ) (stages : List Stage) : Type 0 where
+  pub sized : length after ≡ runWordCount
+  pub meter : meterWords after ≡ meterWords words
+  pub operator : UpTo mostOperators (wordsDone run words moves) (operatorWords words) k (operatorWords after)
+  pub filled : length stages ≡ mostOperators
+  pub stage : UpTo mostOperators (stageDone run words moves) (stageAt run) k (λ i. getD stages i noStage)
+
+pub written-start : (run : Run) (words : List ℕ) (moves : List Move) → length words ≡ runWordCount → length (run .stages) ≡ mostOperators → Written run words moves 0 words (run .stages)
+unfolding stageAt
+written-start run words moves sized filled =
+    record {
+      sized = sized;
+      meter = refl;
+      operator = up-to-none mostOperators (wordsDone run words moves) (operatorWords words) (operatorWords words) (λ i less. refl);
+      filled = filled;
+      stage = up-to-none mostOperators (stageDone run words moves) (stageAt run) (λ i. getD (run .stages) i noStage) (λ i less. refl);
+    }
+
+module _ {run : Run} {words : List ℕ} {moves : List Move} {k : ℕ} {after : List ℕ} {stages : List Stage} (written : Written run words moves k after stages) (less : k < mostOperators) where
+  words-here : operatorWords after k ≡ operatorWords words k
+  words-here = up-to-here mostOperators (wordsDone run words moves) (operatorWords words) k (operatorWords after) (written .operator) less
+
+  stage-here : getD stages k noStage ≡ stageAt run k
+  stage-here = up-to-here mostOperators (stageDone run words moves) (stageAt run) k (λ i. getD stages i noStage) (written .stage) less
+
+  abbrev new : List ℕ
+  new = stageWords (getD stages k noStage) (run .slot) (operatorWords after k) (getD moves k noMove)
+
+  new-size : length new ≡ wordCount
+  new-size = length-stage (getD stages k noStage) (run .slot) (operatorWords after k) (getD moves k noMove) (length-operatorWords after (written .sized) k less)
+
+  abbrev renewed : List ℕ
+  renewed = withPart (operatorAtWord k) new after
+
+  words-beside : (i : ℕ) → i < mostOperators → (i < k) ⊎ (k < i) → operatorWords renewed i ≡ operatorWords after i
+  words-beside i inside (inl under) = operator-before after new (written .sized) new-size k less i under
+  words-beside i inside (inr over) = operator-behind after new (written .sized) new-size k less i over inside
+
+  stages-beside : (next : Stage) (i : ℕ) → (i < k) ⊎ (k < i) → getD (set stages k next) i noStage ≡ getD stages i noStage
+  stages-beside next i (inl under) = getD-set-other stages k i next noStage (omega arith)
+  stages-beside next i (inr over) = getD-set-other stages k i next noStage (omega arith)
+
+  pub written-next : {later : List ℕ} → later ≡ renewed → {next : Stage} → next ≡ stageWritten (getD stages k noStage) (run .slot) (operatorWords after k) (getD moves k noMove)
+      → Written run words moves (k + 1) later (set stages k next)
+  written-next same {next} made =
+      rw same
+      (record {
+        sized = operator-sized after new (written .sized) new-size k less;
+        meter = meter-before after new (written .sized) new-size k less ∙ written .meter;
+        operator =
+            up-to-next mostOperators (wordsDone run words moves) (operatorWords words) k (operatorWords after) (operatorWords renewed) (written .operator)
+            (operator-replaced after new (written .sized) new-size k less ∙ rw (stage-here, words-here)) words-beside;
+        filled = length-set stages k next ∙ written .filled;
+        stage =
+            up-to-next mostOperators (stageDone run words moves) (stageAt run) k (λ i. getD stages i noStage) (λ i. getD (set stages k next) i noStage) (written .stage)
+            (getD-set-same stages k next noStage (rw (written .filled) less) ∙ made ∙ rw (stage-here, words-here)) (λ i inside. stages-beside next i);
+      })
+
+-- Behind the last stage.
+
+module _ (run : Run) (first : List ℕ) (counted input : ℕ) (moves : List Move) (sized : length first ≡ runWordCount)
+    {metered : List ℕ} (after-meter : metered ≡ withPart 0 (noted run first counted input) first) {k : ℕ} (ends : k ≡ run .count)
+    {after : List ℕ} {stages : List Stage} (before-k : Written run metered moves k after stages) where
+  written : Written run metered moves (run .count) after stages
+  written = rw ends at before-k
+
+  noted-size : length (noted run first counted input) ≡ meterWordCount
+  noted-size = length-noted (meterIn run) (meterWords first) counted input (length-meterWords first sized)
+
+  same-operator : (i : ℕ) → i < mostOperators → operatorWords metered i ≡ operatorWords first i
+  same-operator i less = rw after-meter (meter-beside first (noted run first counted input) sized noted-size i less)
+
+  same-meter : meterWords metered ≡ noted run first counted input
+  same-meter = rw after-meter (meter-replaced first (noted run first counted input) sized noted-size)
+
+  stage-end : (i : ℕ) → i < mostOperators → getD stages i noStage ≡ pick (ltb i (run .count)) (stageDone run first moves i) (stageAt run i)
+  stage-end i less = rw (← same-operator i less) (written .stage i less)
+
+  -- the run
+  pub run-end : {meter : SourceMeter} → meter ≡ meterWritten run first counted input
+      → record { declaration = run .declaration; slot = meter .slot; block = meter .block; count = run .count; stages = stages } ≡ runWritten run first counted input moves
+  unfolding runWritten
+  run-end made = rw (made, listOf-ext noStage (λ i. pick (ltb i (run .count)) (stageDone run first moves i) (stageAt run i)) mostOperators stages (written .filled) stage-end)
+
+  pick-word : (t : Bool) (a b : List ℕ) (j : ℕ) → wordAt (pick t a b) j ≡ pick t (wordAt a j) (wordAt b j)
+  pick-word true a b j = refl
+  pick-word false a b j = refl
+
+  operator-end : (i a : ℕ) → i < mostOperators → a < wordCount → wordAt after (operatorAtWord i + a) ≡ stageWord run first moves i a
+  unfolding stageWord
+  operator-end i a less inside =
+      sym (operator-word after (written .sized) i less a inside)
+      ∙ ap (λ (xs : List ℕ). wordAt xs a) (written .operator i less)
+      ∙ pick-word (ltb i (run .count)) _ _ a
+      ∙ rw (same-operator i less)
+
+  meter-end : (j : ℕ) → j < meterWordCount → wordAt after j ≡ wordAt (noted run first counted input) j
+  meter-end j less =
+      sym (meter-word after (written .sized) j less) ∙ ap (λ (xs : List ℕ). wordAt xs j) (written .meter ∙ same-meter)
+
+  word-end : (j : ℕ) → j < runWordCount → wordAt after j ≡ wordWritten run first counted input moves j
+  unfolding wordWritten
+  word-end j less = by-part (ltb j meterWordCount) refl
+    where
+      by-part : (t : Bool) → ltb j meterWordCount ≡ t
+          → wordAt after j ≡ pick t (wordAt (noted run first counted input) j) (stageWord run first moves ((j - meterWordCount) / wordCount) ((j - meterWordCount) % wordCount))
+      by-part true e = meter-end j (ltb-true j meterWordCount e)
+      by-part false e =
+          let behind = ltb-false j meterWordCount e in
+          let i = (j - meterWordCount) / wordCount in
+          let a = (j - meterWordCount) % wordCount in
+          let whole = div-add-mod' (j - meterWordCount) wordCount in
+          let inside : a < wordCount = mod-lt (j - meterWordCount) {m = wordCount} (omega arith) in
+          let place : j ≡ operatorAtWord i + a = omega arith in
+          ap (wordAt after) place ∙ operator-end i a (omega arith) inside
+
+  -- and its words
+  pub words-end : after ≡ listOf (wordWritten run first counted input moves) runWordCount
+  words-end = listOf-ext 0 (wordWritten run first counted input moves) runWordCount after (written .sized) word-end

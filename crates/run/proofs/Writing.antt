@@ -1,0 +1,128 @@
+-- What is written where nothing stands against a slot is the next run and its words: each stage keeps its move, and the meter notes the input.
+use mathlib.Core.Path.{_≡_, refl, ap, fun-ext}
+use mathlib.Core.Bool.{Bool, true, false, not}
+use mathlib.Core.List.{List}
+use Prim.Native.Nat.{ℕ, suc, _+_, _-_, _/_, _%_, _≤_, _<_}
+use native.Mathlib.Omega.{arith}
+use lib.Dec.{ltb}
+use lib.ListN.{getD}
+use borrow.Author.Tests.{ltb-true, ltb-false, not-true, not-false}
+use Rattle.quantity.specs.Choice.{pick}
+use Rattle.quantity.specs.Limits.{largestAmount}
+use Rattle.quantity.specs.Sums.{listOf}
+use Rattle.quantity.proofs.Laws.{either-false}
+use Rattle.quantity.proofs.Sums.{every-at, getD-listOf}
+use Rattle.quantity.proofs.Refusals.{NoneStands, none-of-each}
+use Rattle.operator.specs.Stored.{wordAt}
+use Rattle.operator.specs.Single.{wordCount, heldIn, heldNext, leavesTooMuch, stateNext, wordsNext}
+use Rattle.operator.specs.Within.{keptOf, wordsKept}
+use Rattle.operator.specs.Meter.{meterWordCount, meterNext, meterWordNext}
+use Rattle.operator.specs.MeterWithin.{notedOf, wordsNoted}
+use Rattle.operator.specs.declared.SingleOperator.{SingleOperator}
+use Rattle.operator.specs.declared.single.Kept.{Kept}
+use Rattle.operator.specs.declared.meter.Metered.{Metered}
+use Rattle.operator.proofs.Laws.{greatest-le-there}
+use Rattle.operator.proofs.WithinLaws.{kept-next}
+use Rattle.operator.proofs.MeterWithinLaws.{noted-next}
+use Rattle.run.specs.declared.Stage.{Stage}
+use Rattle.run.specs.declared.Run.{Run}
+use Rattle.run.specs.declared.decide.Move.{Move}
+use Rattle.run.specs.Calls.{Call, amountTooLarge}
+use Rattle.run.specs.Runs.{mostOperators, meterWords, operatorWords, stageAt, meterIn, singleIn}
+use Rattle.run.specs.Slots.{inputInto, slotBreaks, choiceCases, leavesTooMuchAt, slotLeavesTooMuch, slotCases, singleNext, stageNext, runNext, operatorWordNext, wordNext}
+use Rattle.run.specs.Watching.{heldAt}
+use Rattle.run.specs.Steps.{countedIn, noMove, heldThen, moveOf, meterWritten, stageWritten, stageWords, runWritten, stageWord, wordWritten}
+use Rattle.run.proofs.UsableRun.{UsableRun, usable-run, stage-usable, stage-number, fits-at}
+use Rattle.run.proofs.Taking.{choices-below, within-interval}
+
+module _ (run : Run) (words : List ℕ) (call : Call) (none : NoneStands (slotCases run words call)) where
+  passed : UsableRun run words
+  passed = usable-run run words (none .1 .1 .0)
+
+  below-and-stored : NoneStands (choiceCases run words call (run .count)) × (slotLeavesTooMuch run words call ≡ false)
+  below-and-stored = let (below, stored) = none-of-each (choiceCases run words call (run .count)) _ (none .1 .1 .1 .1) in (below, stored .0)
+
+  -- the input is within the limit
+  input-small : call .input ≤ largestAmount
+  unfolding amountTooLarge
+  input-small = ltb-false largestAmount (call .input) (either-false (ltb largestAmount (call .input)) _ (none .1 .0) .0)
+
+  meter-noted : (notedOf (meterIn run) (meterWords words) (countedIn run words) (call .input) ≡ Metered.Taken (meterNext (meterIn run) (meterWords words) (call .input)))
+      × (wordsNoted (meterIn run) (meterWords words) (countedIn run words) (call .input) ≡ listOf (meterWordNext (meterIn run) (meterWords words) (call .input)) meterWordCount)
+  unfolding countedIn meterIn slotBreaks
+  meter-noted = noted-next (meterIn run) (meterWords words) (call .input) (passed .meter) (passed .declared) input-small (none .1 .1 .1 .0)
+
+  module _ (k : ℕ) (less : k < run .count) where
+    abbrev x : SingleOperator
+    x = singleIn run k
+
+    abbrev xs : List ℕ
+    xs = operatorWords words k
+
+    abbrev into : ℕ
+    into = inputInto run words call k
+
+    abbrev out : ℕ
+    out = inputInto run words call (suc k)
+
+    -- nothing above the limit is left
+    left-small : (heldNext x xs into out .b ≤ largestAmount) × (heldNext x xs into out .h ≤ largestAmount)
+    unfolding slotLeavesTooMuch leavesTooMuchAt leavesTooMuch
+    left-small =
+        let each = every-at (λ k. not (leavesTooMuchAt run words call k)) (run .count) (not-false _ (below-and-stored .1)) k less in
+        let (b, h) = either-false (ltb largestAmount (heldNext x xs into out .b)) (ltb largestAmount (heldNext x xs into out .h)) (not-true _ each) in
+        (ltb-false largestAmount _ b, ltb-false largestAmount _ h)
+
+    sent-there : out ≤ heldIn x xs .b + into
+    unfolding heldAt
+    sent-there =
+        let within = within-interval run words call passed k less (choices-below run words call (run .count) (below-and-stored .0) k less) in
+        omega (arith, within .1, greatest-le-there (stageAt run k .operator) (run .slot .0) (heldAt run words k) into)
+
+    move-kept : (keptOf x xs (heldNext x xs into out .b) (heldNext x xs into out .h) ≡ Kept.Next (stateNext x xs into out))
+        × (wordsKept x xs into (heldNext x xs into out .b) (heldNext x xs into out .h) ≡ wordsNext x xs into out)
+    move-kept =
+        let few = passed .few in
+        let fits = fits-at run words passed k (omega arith) in
+        kept-next x xs (stage-usable run words k fits) (stage-number run words k fits less) into out sent-there (left-small .0) (left-small .1)
+
+    stage-written : stageWritten (stageAt run k) (run .slot) xs (moveOf run words call k) ≡ stageNext run words call k
+    unfolding stageWritten moveOf heldThen stageNext singleNext stateNext singleIn
+    stage-written = rw (move-kept .0)
+
+    words-written : stageWords (stageAt run k) (run .slot) xs (moveOf run words call k) ≡ wordsNext x xs into out
+    unfolding stageWords moveOf heldThen singleIn
+    words-written = move-kept .1
+
+  module _ (moves : List Move) (moved : (k : ℕ) → k < run .count → getD moves k noMove ≡ moveOf run words call k) where
+    stage-next : (k : ℕ) (t : Bool) → ltb k (run .count) ≡ t
+        → pick t (stageWritten (stageAt run k) (run .slot) (operatorWords words k) (getD moves k noMove)) (stageAt run k) ≡ pick t (stageNext run words call k) (stageAt run k)
+    stage-next k true e = let less = ltb-true k (run .count) e in rw (moved k less) (stage-written k less)
+    stage-next k false e = refl
+
+    meter-next : meterWritten run words (countedIn run words) (call .input) ≡ meterNext (meterIn run) (meterWords words) (call .input)
+    unfolding meterWritten
+    meter-next = rw (meter-noted .0)
+
+    pub run-written : runWritten run words (countedIn run words) (call .input) moves ≡ runNext run words call
+    unfolding runWritten runNext meterNext meterIn
+    run-written =
+        rw meter-next
+        (ap (λ (stages : ℕ → Stage). record { declaration = run .declaration; slot = record { 0 = run .slot .0 + 1 }; block = meterNext (meterIn run) (meterWords words) (call .input) .block; count = run .count; stages = listOf stages mostOperators })
+        (fun-ext (λ k. stage-next k (ltb k (run .count)) refl)))
+
+    word-next : (k a : ℕ) (t : Bool) → ltb k (run .count) ≡ t
+        → pick t (wordAt (stageWords (stageAt run k) (run .slot) (operatorWords words k) (getD moves k noMove)) a) (wordAt (operatorWords words k) a)
+        ≡ pick t (wordAt (wordsNext (singleIn run k) (operatorWords words k) (inputInto run words call k) (inputInto run words call (suc k))) a) (wordAt (operatorWords words k) a)
+    word-next k a true e = let less = ltb-true k (run .count) e in rw (moved k less, words-written k less)
+    word-next k a false e = refl
+
+    pub word-written : (j : ℕ) → wordWritten run words (countedIn run words) (call .input) moves j ≡ wordNext run words call j
+    unfolding wordWritten wordNext stageWord operatorWordNext
+    word-written j = by-part (ltb j meterWordCount) refl
+      where
+        by-part : (t : Bool) → ltb j meterWordCount ≡ t
+            → pick t (wordAt (wordsNoted (meterIn run) (meterWords words) (countedIn run words) (call .input)) j) (stageWord run words moves ((j - meterWordCount) / wordCount) ((j - meterWordCount) % wordCount))
+            ≡ pick t (meterWordNext (meterIn run) (meterWords words) (call .input) j) (operatorWordNext run words call ((j - meterWordCount) / wordCount) ((j - meterWordCount) % wordCount))
+        by-part true e = rw (meter-noted .1) (getD-listOf 0 (meterWordNext (meterIn run) (meterWords words) (call .input)) meterWordCount j (ltb-true j meterWordCount e))
+        by-part false e = word-next ((j - meterWordCount) / wordCount) ((j - meterWordCount) % wordCount) (ltb ((j - meterWordCount) / wordCount) (run .count)) refl

@@ -1,0 +1,119 @@
+-- The three steps of a slot, as the code takes them: what the test finds, what is decided of each operator, and the call that the arguments are.
+use Prim.Native.Nat.{ℕ, suc, _+_, _-_, _/_, _%_}
+use mathlib.Core.Bool.{Bool, true, false}
+use mathlib.Core.List.{List, [], _∷_, _++_}
+use lib.Dec.{leb, ltb}
+use lib.ListN.{length, getD, take, drop, replicate}
+use Rattle.quantity.specs.Choice.{pick, both}
+use Rattle.quantity.specs.Limits.{largestAmount}
+use Rattle.quantity.specs.Sums.{listOf}
+use Rattle.quantity.specs.Refusals.{_⇒_, firstOf}
+use Rattle.quantity.specs.declared.Slots.{Slots}
+use Rattle.quantity.specs.declared.Units.{Units}
+use Rattle.quantity.specs.declared.refusal.Refusal.the-variants.{Unusable}
+use Rattle.operator.specs.Held.{Held}
+use Rattle.operator.specs.Single.{wordCount, heldNext}
+use Rattle.operator.specs.Within.{keptOf, wordsKept}
+use Rattle.operator.specs.Meter.{meterWordCount, countedBefore}
+use Rattle.operator.specs.MeterWithin.{notedOf, wordsNoted}
+use Rattle.operator.specs.Stored.{wordAt}
+use Rattle.operator.specs.declared.SourceMeter.{SourceMeter}
+use Rattle.operator.specs.declared.single.Kept.{Kept}
+use Rattle.operator.specs.declared.meter.Metered.{Metered}
+use Rattle.run.specs.Calls.{Call}
+use Rattle.run.specs.Runs.{mostOperators, meterWords, operatorWords, stageAt, meterIn, singleOf, singleIn, runUnusable}
+use Rattle.run.specs.Slots.{inputInto, choiceCases, slotLeavesTooMuch, slotOutput}
+use Rattle.run.specs.Watching.{unitsHeld}
+use Rattle.run.specs.declared.Stage.{Stage}
+use Rattle.run.specs.declared.Run.{Run}
+use Rattle.run.specs.declared.slot.Outcome.{Outcome}
+use Rattle.run.specs.declared.test.Tested.{Tested}
+use Rattle.run.specs.declared.decide.Move.{Move}
+
+-- the call of these arguments
+abbrev pub callOf : Units → List ℕ → Call
+callOf input choices = record { input = input .0; choices = choices }
+
+-- Test.
+
+abbrev pub notTested : Tested
+notTested = record { usable = false; counted = record { 0 = 0 }; held = replicate mostOperators (record { 0 = 0 }) }
+
+-- the units that count with the next input
+unfoldable pub countedIn : Run → List ℕ → ℕ
+countedIn run words = countedBefore (meterIn run) (meterWords words)
+
+unfoldable pub testedOf : Run → List ℕ → Tested
+testedOf run words =
+    pick (runUnusable run words) notTested (record { usable = true; counted = record { 0 = countedIn run words }; held = listOf (unitsHeld run words) mostOperators })
+
+-- Decide.
+
+abbrev pub noMove : Move
+noMove = record { input = record { 0 = 0 }; kept = record { 0 = 0 }; beside = record { 0 = 0 } }
+
+-- what operator k has once it has sent
+unfoldable pub heldThen : Run → List ℕ → Call → ℕ → Held
+heldThen run words call k = heldNext (singleIn run k) (operatorWords words k) (inputInto run words call k) (inputInto run words call (suc k))
+
+-- what it gets, and has then
+unfoldable pub moveOf : Run → List ℕ → Call → ℕ → Move
+moveOf run words call k =
+    record { input = record { 0 = inputInto run words call k }; kept = record { 0 = heldThen run words call k .b }; beside = record { 0 = heldThen run words call k .h } }
+
+-- what an operator would store is within the limit
+unfoldable pub storable : ℕ → ℕ → Bool
+storable b h = both (leb b largestAmount) (leb h largestAmount)
+
+-- 14 operator by operator, then 1 again
+unfoldable pub planOf : Run → List ℕ → Call → Outcome
+planOf run words call =
+    firstOf (choiceCases run words call (run .count) ++ ((slotLeavesTooMuch run words call ⇒ Unusable) ∷ [])) Outcome.Refused (Outcome.Sent (record { 0 = slotOutput run words call }))
+
+-- Write.
+
+-- the words with a part of them replaced
+unfoldable pub withPart : ℕ → List ℕ → List ℕ → List ℕ
+withPart at new words = take at words ++ (new ++ drop (at + length new) words)
+
+meterTaken : SourceMeter → Metered → SourceMeter
+meterTaken meter (Metered.Taken next) = next
+meterTaken meter (Metered.Refused why) = meter
+
+-- the meter once the input is noted
+unfoldable pub meterWritten : Run → List ℕ → ℕ → ℕ → SourceMeter
+unfolding meterTaken
+meterWritten run words counted input = meterTaken (meterIn run) (notedOf (meterIn run) (meterWords words) counted input)
+
+stageNamed : Stage → Kept → Stage
+stageNamed stage (Kept.Next next) = record { operator = next .operator; held = next .held; beside = next .beside }
+stageNamed stage (Kept.Refused why) = stage
+
+-- a stage once its move is kept, and its words
+unfoldable pub stageWritten : Stage → Slots → List ℕ → Move → Stage
+unfolding stageNamed
+stageWritten stage slot words moved = stageNamed stage (keptOf (singleOf stage slot) words (moved .kept .0) (moved .beside .0))
+
+unfoldable pub stageWords : Stage → Slots → List ℕ → Move → List ℕ
+stageWords stage slot words moved = wordsKept (singleOf stage slot) words (moved .input .0) (moved .kept .0) (moved .beside .0)
+
+-- the run, and word j of all, once meter and stages are written
+unfoldable pub runWritten : Run → List ℕ → ℕ → ℕ → List Move → Run
+runWritten run words counted input moves =
+    record {
+      declaration = run .declaration;
+      slot = meterWritten run words counted input .slot;
+      block = meterWritten run words counted input .block;
+      count = run .count;
+      stages = listOf (λ k. pick (ltb k (run .count)) (stageWritten (stageAt run k) (run .slot) (operatorWords words k) (getD moves k noMove)) (stageAt run k)) mostOperators;
+    }
+
+unfoldable pub stageWord : Run → List ℕ → List Move → ℕ → ℕ → ℕ
+stageWord run words moves k a =
+    pick (ltb k (run .count)) (wordAt (stageWords (stageAt run k) (run .slot) (operatorWords words k) (getD moves k noMove)) a) (wordAt (operatorWords words k) a)
+
+unfoldable pub wordWritten : Run → List ℕ → ℕ → ℕ → List Move → ℕ → ℕ
+wordWritten run words counted input moves j =
+    pick (ltb j meterWordCount)
+    (wordAt (wordsNoted (meterIn run) (meterWords words) counted input) j)
+    (stageWord run words moves ((j - meterWordCount) / wordCount) ((j - meterWordCount) % wordCount))
