@@ -1,0 +1,50 @@
+-- The loop counts down.
+use Prim.Native.Nat.{_≤_}
+use borrow.Author.Needs.{needs}
+use Rattle.replay.proofs.main.Statement.{statement}
+use Rattle.replay.proofs.main.Tie as tie
+
+abbrev Inv-loop : tie.InvT-loop
+Inv-loop words₀ line₀ replay₀ turns₀ words line replay turns = replay .length ≤ 1023
+
+abbrev μ-loop : tie.MeasureT-loop
+μ-loop words₀ line₀ replay₀ turns₀ words line replay turns = turns
+
+no-run-requires : tie.Need-no-run-requires Inv-loop μ-loop
+no-run-requires c κs = search needs
+
+loop-holds : tie.Need-loop-holds Inv-loop μ-loop
+loop-holds c = search needs
+
+take-input-requires : tie.Need-take-input-requires Inv-loop μ-loop
+take-input-requires c κs = search needs
+
+sub-turns : tie.Need-sub-turns Inv-loop μ-loop
+sub-turns c = search needs
+
+loop-less : tie.Need-loop-less Inv-loop μ-loop
+loop-less c = search needs
+
+loop-again : tie.Need-loop-again Inv-loop μ-loop
+loop-again c = search needs
+
+returns : tie.Need-returns Inv-loop μ-loop
+returns c = search needs
+
+returns-2 : tie.Need-returns-2 Inv-loop μ-loop
+returns-2 c = search needs
+
+pub main-spec : {M : Type 1} → statement M
+main-spec =
+    tie.close
+    (tie.spec
+    Inv-loop
+    μ-loop
+    no-run-requires
+    loop-holds
+    take-input-requires
+    sub-turns
+    loop-less
+    loop-again
+    returns
+    returns-2)

@@ -1,0 +1,86 @@
+-- There is at least one number, and they are within the 512.
+use mathlib.Core.Path.{sym, _∙_}
+use native.Mathlib.Omega.{arith}
+use Rattle.text.proofs.Answers.{decimals-some, decimals-within}
+use borrow.Author.Needs.{needs}
+use Rattle.replay.proofs.run_slot.Statement.{statement}
+use Rattle.replay.proofs.run_slot.Tie as tie
+
+slice-aggregate-decimals-from : tie.Need-slice-aggregate-decimals-from
+slice-aggregate-decimals-from c = search needs
+
+decimals-from-requires : tie.Need-decimals-from-requires
+decimals-from-requires c κs = search needs
+
+enum-told : tie.Need-enum-told
+enum-told c = search needs
+
+slice-aggregate-error : tie.Need-slice-aggregate-error
+slice-aggregate-error c = search needs
+
+error-requires : tie.Need-error-requires
+error-requires c κs = search needs
+
+enum-told-2 : tie.Need-enum-told-2
+enum-told-2 c = search needs
+
+slice-aggregate-error-2 : tie.Need-slice-aggregate-error-2
+slice-aggregate-error-2 c = search needs
+
+error-requires-2 : tie.Need-error-requires-2
+error-requires-2 c κs = search needs
+
+enum-told-3 : tie.Need-enum-told-3
+enum-told-3 c = search needs
+
+slice-aggregate-error-3 : tie.Need-slice-aggregate-error-3
+slice-aggregate-error-3 c = search needs
+
+error-requires-3 : tie.Need-error-requires-3
+error-requires-3 c κs = search needs
+
+enum-known-n : tie.Need-enum-known-n
+enum-known-n c = search needs
+
+slice-aggregate-run-numbers : tie.Need-slice-aggregate-run-numbers
+slice-aggregate-run-numbers c = search needs
+
+run-numbers-requires : tie.Need-run-numbers-requires
+run-numbers-requires c κs =
+    let counted = sym (c .before .before .before .before .before .before .decimals-from .ensures .0) ∙ c .before .before .before .n .given .1 in
+    (c .before .before .before .before .before .before .before .before .before .pre, (decimals-some _ _ _ _ counted, omega (arith, decimals-within _ _ _ _ counted)))
+
+returns : tie.Need-returns
+returns c = search needs
+
+returns-2 : tie.Need-returns-2
+returns-2 c = search needs
+
+returns-3 : tie.Need-returns-3
+returns-3 c = search needs
+
+returns-4 : tie.Need-returns-4
+returns-4 c = search needs
+
+pub run-slot-spec : {M : Type 1} → statement M
+run-slot-spec =
+    tie.close
+    (tie.spec
+    slice-aggregate-decimals-from
+    decimals-from-requires
+    enum-told
+    slice-aggregate-error
+    error-requires
+    enum-told-2
+    slice-aggregate-error-2
+    error-requires-2
+    enum-told-3
+    slice-aggregate-error-3
+    error-requires-3
+    enum-known-n
+    slice-aggregate-run-numbers
+    run-numbers-requires
+    returns
+    returns-2
+    returns-3
+    returns-4)

@@ -1,0 +1,102 @@
+-- A loop of at most sixteen turns.
+use Prim.Native.Nat.{_≤_, _-_}
+use borrow.Author.Needs.{needs}
+use Rattle.replay.proofs.sent.Statement.{statement}
+use Rattle.replay.proofs.sent.Tie as tie
+
+abbrev Inv-loop : tie.InvT-loop
+Inv-loop slot words units count k₀ t13 t14 k = k ≤ 16
+
+abbrev μ-loop : tie.MeasureT-loop
+μ-loop slot words units count k₀ t13 t14 k = 16 - k
+
+slice-aggregate-print : tie.Need-slice-aggregate-print Inv-loop μ-loop
+slice-aggregate-print c = search needs
+
+print-requires : tie.Need-print-requires Inv-loop μ-loop
+print-requires c κs = search needs
+
+number-requires : tie.Need-number-requires Inv-loop μ-loop
+number-requires c κs = search needs
+
+slice-aggregate-print-2 : tie.Need-slice-aggregate-print-2 Inv-loop μ-loop
+slice-aggregate-print-2 c = search needs
+
+print-requires-2 : tie.Need-print-requires-2 Inv-loop μ-loop
+print-requires-2 c κs = search needs
+
+number-requires-2 : tie.Need-number-requires-2 Inv-loop μ-loop
+number-requires-2 c κs = search needs
+
+slice-aggregate-print-3 : tie.Need-slice-aggregate-print-3 Inv-loop μ-loop
+slice-aggregate-print-3 c = search needs
+
+print-requires-3 : tie.Need-print-requires-3 Inv-loop μ-loop
+print-requires-3 c κs = search needs
+
+held-requires : tie.Need-held-requires Inv-loop μ-loop
+held-requires c κs = search needs
+
+loop-holds : tie.Need-loop-holds Inv-loop μ-loop
+loop-holds c = search needs
+
+mul-here : tie.Need-mul-here Inv-loop μ-loop
+mul-here c = search needs
+
+array-copy-out-here : tie.Need-array-copy-out-here Inv-loop μ-loop
+array-copy-out-here c = search needs
+
+slice-aggregate-print-4 : tie.Need-slice-aggregate-print-4 Inv-loop μ-loop
+slice-aggregate-print-4 c = search needs
+
+print-requires-4 : tie.Need-print-requires-4 Inv-loop μ-loop
+print-requires-4 c κs = search needs
+
+number-requires-3 : tie.Need-number-requires-3 Inv-loop μ-loop
+number-requires-3 c κs = search needs
+
+add-k : tie.Need-add-k Inv-loop μ-loop
+add-k c = search needs
+
+loop-less : tie.Need-loop-less Inv-loop μ-loop
+loop-less c = search needs
+
+loop-again : tie.Need-loop-again Inv-loop μ-loop
+loop-again c = search needs
+
+slice-aggregate-print-5 : tie.Need-slice-aggregate-print-5 Inv-loop μ-loop
+slice-aggregate-print-5 c = search needs
+
+print-requires-5 : tie.Need-print-requires-5 Inv-loop μ-loop
+print-requires-5 c κs = search needs
+
+returns : tie.Need-returns Inv-loop μ-loop
+returns c = search needs
+
+pub sent-spec : {M : Type 1} → statement M
+sent-spec =
+    tie.close
+    (tie.spec
+    Inv-loop
+    μ-loop
+    slice-aggregate-print
+    print-requires
+    number-requires
+    slice-aggregate-print-2
+    print-requires-2
+    number-requires-2
+    slice-aggregate-print-3
+    print-requires-3
+    held-requires
+    loop-holds
+    mul-here
+    array-copy-out-here
+    slice-aggregate-print-4
+    print-requires-4
+    number-requires-3
+    add-k
+    loop-less
+    loop-again
+    slice-aggregate-print-5
+    print-requires-5
+    returns)
