@@ -1,16 +1,21 @@
 -- A list of calls on the account: a call that no case stands against moves it, any other leaves it, so what each taken call keeps holds after any calls.
-use mathlib.Core.Path.{_≡_, refl}
-use mathlib.Core.Bool.{Bool, true, false}
-use mathlib.Core.List.{List, [], _∷_}
-use mathlib.Core.Logic.{⊎-elim}
-use Prim.Native.Nat.{ℕ, zero, suc, _<_}
+use mathlib.Core.Path.{_≡_, refl, ap}
+use mathlib.Core.Bool.{Bool, true, false, not}
+use mathlib.Core.List.{List, [], _∷_, _++_}
+use mathlib.Core.Logic.{_↔_, ⊎-elim}
+use Prim.Native.Nat.{ℕ, zero, suc, _≤_, _<_}
 use native.Mathlib.Nat.{not-suc-le-zero, le-of-suc-le-suc, eq-or-lt-of-le}
+use borrow.Author.Tests.{not-false}
 use Rattle.quantity.specs.Choice.{pick}
 use Rattle.quantity.specs.Refusals.{Case, firstOf}
 use Rattle.quantity.proofs.Refusals.{NoneStands, none-of-each}
+use Rattle.operator.specs.Classes.{Keeps}
+use Rattle.operator.specs.Flows.{flowOf}
+use Rattle.operator.specs.Metering.{classOf}
+use Rattle.operator.proofs.Keeping.{keeps-decided}
 use Rattle.sheet.specs.Paths.{Line}
 use Rattle.run.specs.Calls.{Call}
-use Rattle.run.specs.Account.{Account, choiceTooLarge, choicesTooLarge, accountCases, accountNext, accountAfter}
+use Rattle.run.specs.Account.{Account, breaksDeclaration, choiceTooLarge, choicesTooLarge, accountCases, accountNext, accountAfter}
 use Rattle.run.specs.Lists.{accountAll}
 
 -- the choice of no operator is too large where no such case stands
@@ -42,3 +47,11 @@ module _ (line : Line) (P : Account → Type 0)
   unfolding accountAll
   all-holds account [] holds = holds
   all-holds account (call ∷ calls) holds = all-holds (accountAfter line account call) calls (after-holds account call holds)
+
+-- the account's test of the declaration decides just that: the inputs taken and this one keep it (section 2)
+pub declaration-tested : (line : Line) (account : Account) (call : Call) → 1 ≤ line .declaration .interval .0
+    → (breaksDeclaration line account call ≡ false) ↔ Keeps (classOf (line .declaration)) (flowOf (account .entered ++ (call .input ∷ [])))
+unfolding breaksDeclaration
+declaration-tested line account call large =
+    let decided = keeps-decided (classOf (line .declaration)) (account .entered ++ (call .input ∷ [])) large in
+    (λ e. decided .0 (not-false _ e), λ keeps. ap not (decided .1 keeps))

@@ -9,7 +9,7 @@ use native.Mathlib.Decide.{decLe}
 use native.Mathlib.Omega.{arith}
 use lib.ListN.{length}
 use lib.Dec.{leb, ltb, eqb}
-use borrow.Author.Tests.{lt-ltb, le-ltb, ltb-false, not-false}
+use borrow.Author.Tests.{lt-ltb, le-ltb, ltb-false}
 use Rattle.quantity.specs.Choice.{both}
 use Rattle.quantity.specs.Limits.{largestAmount, lastSlot}
 use Rattle.quantity.specs.Sums.{every, listOf}
@@ -27,7 +27,6 @@ use Rattle.operator.specs.Flows.{flowOf}
 use Rattle.operator.specs.Metering.{classOf}
 use Rattle.operator.specs.Single.{heldIn, heldNext, choiceAbove, leavesTooMuch}
 use Rattle.operator.specs.Meter.{meterWordCount, meterUnusable}
-use Rattle.operator.proofs.Keeping.{keeps-decided}
 use Rattle.operator.proofs.Laws.{least-le-greatest}
 use Rattle.operator.proofs.Metering.{sound-usable, sound-keeps}
 use Rattle.operator.proofs.SingleLaws.{stored-usable}
@@ -42,7 +41,7 @@ use Rattle.run.specs.Account.{Account, arriving, slotsUsedUp, breaksDecl
 use Rattle.run.specs.Runs.{runWordCount, mostOperators, meterWords, operatorWords, noStage, noOperator, meterIn, singleIn, stageMisplaced, stageUnusable, stageFits, runUnusable}
 use Rattle.run.specs.Slots.{inputInto, slotBreaks, choiceAboveAt, choiceCases, leavesTooMuchAt, slotLeavesTooMuch, slotCases, refusedSlot, takenSlot, wordNext, slottedOf, wordsSlotted}
 use Rattle.run.proofs.UsableRun.{run-usable}
-use Rattle.run.proofs.AccountCalls.{choice-small}
+use Rattle.run.proofs.AccountCalls.{choice-small, declaration-tested}
 use Rattle.run.proofs.AccountFlows.{AccountKept}
 use Rattle.run.proofs.Joined.{Joined, meterFed, length-operatorWords, held-same, operator-same, slot-same, least-same, greatest-same, into-same, joined-next}
 
@@ -137,10 +136,7 @@ module _ (line : Line) (passes : Passes line) (run : Run) (words : List ℕ) (ac
     meter-decides = sound-keeps (meterFed run words (account .entered)) (joined .meter) (call .input)
 
     account-decides : (breaksDeclaration line account call ≡ false) ↔ Keeps (classOf (run .declaration)) (flowOf (account .entered ++ (call .input ∷ [])))
-    unfolding breaksDeclaration
-    account-decides =
-        let decided = keeps-decided (classOf (line .declaration)) (account .entered ++ (call .input ∷ [])) (passes .large) in
-        rw (joined .declared) (λ e. decided .0 (not-false _ e), λ keeps. ap not (decided .1 keeps))
+    account-decides = rw (joined .declared) (declaration-tested line account call (passes .large))
 
     breaks-same : slotBreaks run words call ≡ breaksDeclaration line account call
     breaks-same = same-test (slotBreaks run words call) (breaksDeclaration line account call) meter-decides account-decides

@@ -35,6 +35,7 @@ use Rattle.run.specs.Slots.{slottedOf}
 use Rattle.run.specs.Watching.{heldAt}
 use Rattle.run.specs.Lists.{Running, opened, slotted, slottedAll, accountAll}
 use Rattle.run.specs.NeverLate.{callAt, NeverLate}
+use Rattle.run.proofs.AccountCalls.{declaration-tested}
 use Rattle.run.proofs.AccountFlows.{AccountKept, account-kept}
 use Rattle.run.proofs.Joined.{Joined, joined-new}
 use Rattle.run.proofs.Answered.{Passes, answer-same, joined-after}
@@ -170,6 +171,7 @@ never-late sheet words accepted calls =
     let delay = accepted-figures sheet (figures-accept sheet words accepted) .1 in
     record {
       answers = answered-at sheet words accepted calls;
+      declared = λ n less. declaration-tested (lineIn sheet) (accountAll (lineIn sheet) newAccount (take n calls)) (callAt calls n) (passes sheet words accepted .large);
       holds = λ n h k less. joined-at sheet words accepted calls n h .stands k less .same;
       in-time = rw delay (account-within sheet words accepted calls .in-time);
       within = λ n h k less. rw (capacity-answered sheet words accepted k less) (account-within sheet words accepted (take n calls) .held-within k less);

@@ -1,18 +1,20 @@
 -- Demand 3: what is promised of every list of slot calls from a newly opened run.
 use Prim.Native.Nat.{ℕ, suc, _+_, _≤_, _<_}
 use mathlib.Core.Path.{_≡_}
-use mathlib.Core.Bool.{true}
-use mathlib.Core.List.{List, []}
-use mathlib.Core.Logic.{_⊎_}
+use mathlib.Core.Bool.{true, false}
+use mathlib.Core.List.{List, [], _∷_, _++_}
+use mathlib.Core.Logic.{_⊎_, _↔_}
 use lib.ListN.{length, getD, take}
 use Rattle.quantity.specs.Sums.{total}
 use Rattle.quantity.specs.declared.refusal.Refusal.the-variants.{Unusable}
 use Rattle.operator.specs.Flows.{flowOf}
+use Rattle.operator.specs.Classes.{Keeps}
+use Rattle.operator.specs.Metering.{classOf}
 use Rattle.sheet.specs.Paths.{Line}
 use Rattle.sheet.specs.Sheets.{lineIn}
 use Rattle.figures.specs.Answers.{figuresOf, noFigure}
 use Rattle.run.specs.Calls.{Call, choicesMiscounted, amountTooLarge}
-use Rattle.run.specs.Account.{Account, newAccount, slotsUsedUp, accountAnswer}
+use Rattle.run.specs.Account.{Account, newAccount, slotsUsedUp, breaksDeclaration, accountAnswer}
 use Rattle.run.specs.Slots.{slottedOf}
 use Rattle.run.specs.Watching.{heldAt}
 use Rattle.run.specs.Lists.{Running, opened, slottedAll, accountAll}
@@ -51,7 +53,10 @@ module _ (sheet words : List ℕ) (calls : List Call) where
   pub record NeverLate : Type 0 where
     -- each call took a slot exactly when the account takes it, with the same output; otherwise it answered the account's refusal by number and place
     pub answers : (n : ℕ) → n < length calls → answerTo n ≡ accountAnswer line (accountAfterCalls n) (callAt calls n)
-    -- and before and after every call each operator has the account's b, h and past
+    -- the account's test of the declaration is section 2: the inputs taken and this one keep it
+    pub declared : (n : ℕ) → n < length calls
+        → (breaksDeclaration line (accountAfterCalls n) (callAt calls n) ≡ false) ↔ Keeps (classOf (line .declaration)) (flowOf (accountAfterCalls n .entered ++ (callAt calls n .input ∷ [])))
+    -- before and after every call each operator has the account's b, h and past
     pub holds : (n : ℕ) → n ≤ length calls → (k : ℕ) → k < length (line .places) → heldAt (runningAfter n .run) (runningAfter n .words) k ≡ accountAfterCalls n .held k
     -- if the list took slot i + delay, all that entered by the end of slot i had left the last operator by the end of slot i + delay
     pub in-time : (i : ℕ) → i + delay < final .slot → total (flowOf (final .entered)) (suc i) ≤ total (flowOf (final .left)) (suc (i + delay))
