@@ -14,3 +14,4 @@ mod OpeningLaws
 mod WithPart
 mod WriteLaws
 mod SlotLaws
+pub mod ReferenceRuns
