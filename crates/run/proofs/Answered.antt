@@ -12,7 +12,7 @@ use lib.Dec.{leb, ltb, eqb}
 use borrow.Author.Tests.{lt-ltb, le-ltb, ltb-false}
 use Rattle.quantity.specs.Choice.{both}
 use Rattle.quantity.specs.Limits.{largestAmount, lastSlot}
-use Rattle.quantity.specs.Sums.{every, listOf}
+use Rattle.quantity.specs.Sums.{every}
 use Rattle.quantity.specs.Refusals.{Case, _⇒_}
 use Rattle.quantity.specs.declared.refusal.Refusal.{Refusal}
 use Rattle.quantity.specs.declared.refusal.Refusal.the-variants.{Unusable, ChoiceAboveGreatest}
@@ -39,8 +39,9 @@ use Rattle.run.specs.declared.slot.Slotted.{Slotted}
 use Rattle.run.specs.Calls.{Call, choiceFor, choicesMiscounted}
 use Rattle.run.specs.Account.{Account, arriving, slotsUsedUp, breaksDeclaration, choiceTooLarge, choicesTooLarge, accountCases, accountAnswer, accountNext, accountAfter}
 use Rattle.run.specs.Runs.{runWordCount, mostOperators, meterWords, operatorWords, noStage, noOperator, meterIn, singleIn, stageMisplaced, stageUnusable, stageFits, runUnusable}
-use Rattle.run.specs.Slots.{inputInto, slotBreaks, choiceAboveAt, choiceCases, leavesTooMuchAt, slotLeavesTooMuch, slotCases, refusedSlot, takenSlot, wordNext, slottedOf, wordsSlotted}
+use Rattle.run.specs.Slots.{inputInto, slotBreaks, choiceAboveAt, choiceCases, leavesTooMuchAt, slotLeavesTooMuch, slotCases, refusedSlot, takenSlot, slottedOf, wordsSlotted}
 use Rattle.run.proofs.UsableRun.{run-usable}
+use Rattle.run.proofs.SlotAnswers.{slot-taken, words-taken, slot-refused, words-refused}
 use Rattle.run.proofs.AccountCalls.{choice-small, declaration-tested}
 use Rattle.run.proofs.AccountFlows.{AccountKept}
 use Rattle.run.proofs.Joined.{Joined, meterFed, length-operatorWords, held-same, operator-same, slot-same, least-same, greatest-same, into-same, joined-next}
@@ -210,33 +211,33 @@ module _ (line : Line) (passes : Passes line) (run : Run) (words : List ℕ) (ac
           )
 
       pub answer-same : slottedOf run words call .outcome ≡ accountAnswer line account call
-      unfolding slottedOf accountAnswer takenSlot refusedSlot
+      unfolding accountAnswer takenSlot refusedSlot
       answer-same =
           ⊎-elim
           (λ taken.
-          ap (λ (slotted : Slotted). slotted .outcome) (firstOf-none (refusedSlot run) (takenSlot run words call) (slotCases run words call) (none-stands taken))
+          ap (λ (slotted : Slotted). slotted .outcome) (slot-taken run words call (none-stands taken))
           ∙ ap (λ (s : ℕ). Outcome.Sent (record { 0 = s })) (ap (inputInto run words call) (joined .counted) ∙ into-same line run words account joined call (length (line .places)) (le-refl _))
           ∙ sym (firstOf-none Outcome.Refused _ (accountCases line account call) taken))
           (λ (why, first).
-          ap (λ (slotted : Slotted). slotted .outcome) (first-answered (refusedSlot run) (takenSlot run words call) why (slotCases run words call) (first-stands why first))
+          ap (λ (slotted : Slotted). slotted .outcome) (slot-refused run words call why (first-stands why first))
           ∙ sym (first-answered Outcome.Refused _ why (accountCases line account call) first))
           (none-or-first (accountCases line account call))
 
       pub joined-after : Joined line (slottedOf run words call .run) (wordsSlotted run words call) (accountAfter line account call)
-      unfolding slottedOf wordsSlotted accountAfter takenSlot refusedSlot
+      unfolding accountAfter takenSlot refusedSlot
       joined-after =
           ⊎-elim
           (λ taken.
           rw (
-            firstOf-none (refusedSlot run) (takenSlot run words call) (slotCases run words call) (none-stands taken),
-            firstOf-none (λ why. words) (listOf (wordNext run words call) runWordCount) (slotCases run words call) (none-stands taken),
+            slot-taken run words call (none-stands taken),
+            words-taken run words call (none-stands taken),
             firstOf-none (λ why. account) (accountNext line account call) (accountCases line account call) taken,
           )
           (joined-next line run words account joined call (passes .few) (breaks-same ∙ taken .1 .1 .1 .0) (passes .number) (kept .whole) (outputs-fit taken)))
           (λ (why, first).
           rw (
-            first-answered (refusedSlot run) (takenSlot run words call) why (slotCases run words call) (first-stands why first),
-            first-answered (λ why. words) (listOf (wordNext run words call) runWordCount) why (slotCases run words call) (first-stands why first),
+            slot-refused run words call why (first-stands why first),
+            words-refused run words call why (first-stands why first),
             first-answered (λ why. account) (accountNext line account call) why (accountCases line account call) first,
           )
           joined)

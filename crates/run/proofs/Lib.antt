@@ -4,6 +4,7 @@ mod AccountCalls
 mod AccountFlows
 mod Joined
 mod UsableRun
+mod SlotAnswers
 mod Answered
 pub mod NeverLate
 pub mod Taking

@@ -26,10 +26,11 @@ use Rattle.run.specs.declared.slot.Slotted.{Slotted}
 use Rattle.run.specs.declared.test.Tested.{Tested}
 use Rattle.run.specs.Calls.{Call, choiceFor, choicesMiscounted, amountTooLarge}
 use Rattle.run.specs.Runs.{runWordCount, mostOperators, meterWords, meterIn, runUnusable}
-use Rattle.run.specs.Slots.{slotBreaks, choiceCases, slotLeavesTooMuch, slotCases, slotOutput, wordNext, refusedSlot, takenSlot, slottedOf, wordsSlotted}
+use Rattle.run.specs.Slots.{slotBreaks, choiceCases, slotLeavesTooMuch, slotCases, slotOutput, refusedSlot, takenSlot, slottedOf, wordsSlotted}
 use Rattle.run.specs.Steps.{notTested, countedIn, testedOf, noMove, moveOf, planOf, runWritten, wordWritten}
 use Rattle.run.specs.Taking.{Took}
 use Rattle.run.specs.Watching.{unitsHeld}
+use Rattle.run.proofs.SlotAnswers.{slot-taken, words-taken, slot-refused, words-refused}
 use Rattle.run.proofs.Writing.{run-written, word-written}
 
 never : _≡_ {A = Bool} true false → ⊥
@@ -110,11 +111,7 @@ module _ (run : Run) (words : List ℕ) (call : Call) where
   Answer answer after = (answer ≡ slottedOf run words call) × (after ≡ wordsSlotted run words call)
 
   refused-first : {why : Refusal} → FirstIs (slotCases run words call) why → {answer : Slotted} → answer ≡ refusedSlot run why → Answer answer words
-  unfolding slottedOf wordsSlotted
-  refused-first {why} first same = (
-    same ∙ sym (first-answered (refusedSlot run) (takenSlot run words call) why (slotCases run words call) first),
-    sym (first-answered (λ why. words) (listOf (wordNext run words call) runWordCount) why (slotCases run words call) first),
-  )
+  refused-first {why} first same = (same ∙ sym (slot-refused run words call why first), sym (words-refused run words call why first))
 
   pub refused-arguments : {fit : Bool} → Fit (run .count) call fit → fit ≡ false → {answer : Slotted} → answer ≡ refusedSlot run Unusable → Answer answer words
   refused-arguments tested unfit = refused-first (by-tests (choicesMiscounted (run .count) call) (amountTooLarge call) refl refl (sym tested ∙ unfit))
@@ -176,12 +173,12 @@ module _ (run : Run) (words : List ℕ) (call : Call) where
           module _ (moves : List Move) (moved : Took planned → (k : ℕ) → k < run .count → getD moves k noMove ≡ moveOf run words call k) where
             pub taken : {next : Run} → next ≡ runWritten run words units (call .input) moves → {after : List ℕ} → after ≡ listOf (wordWritten run words units (call .input) moves) runWordCount
                 → Answer (record { outcome = Outcome.Sent output; run = next }) after
-            unfolding slottedOf wordsSlotted takenSlot
+            unfolding takenSlot
             taken made left = (
               ap₂ (λ (outcome : Outcome) (run : Run). record { outcome = outcome; run = run }) (sent ∙ decided ∙ firstOf-none Outcome.Refused sends decisions none-decided)
                   (made ∙ rw same-units (run-written run words call none-stands moves (moved took)))
-                  ∙ sym (firstOf-none (refusedSlot run) (takenSlot run words call) (slotCases run words call) none-stands),
+                  ∙ sym (slot-taken run words call none-stands),
               left
                   ∙ rw same-units (ap (λ (word : ℕ → ℕ). listOf word runWordCount) (fun-ext (word-written run words call none-stands moves (moved took))))
-                  ∙ sym (firstOf-none (λ why. words) (listOf (wordNext run words call) runWordCount) (slotCases run words call) none-stands),
+                  ∙ sym (words-taken run words call none-stands),
             )

@@ -7,7 +7,7 @@ use Prim.Native.Nat.{ℕ, zero, suc, _-_, _≤_, _<_}
 use native.Mathlib.Nat.{not-suc-le-zero, le-of-suc-le-suc, eq-or-lt-of-le}
 use native.Mathlib.Omega.{arith}
 use borrow.Author.Tests.{ltb-false, le-ltb}
-use Rattle.quantity.proofs.Refusals.{NoneStands, none-of-both, none-of-each, none-where-result, firstOf-none}
+use Rattle.quantity.proofs.Refusals.{NoneStands, none-of-both, none-of-each, none-where-result}
 use Rattle.operator.specs.Operators.{leastOutput, greatestOutput}
 use Rattle.operator.specs.Single.{sent, choiceAbove}
 use Rattle.operator.specs.Meter.{inputBreaks}
@@ -20,6 +20,7 @@ use Rattle.run.specs.Runs.{operatorWords, stageAt, meterIn, singleIn}
 use Rattle.run.specs.Slots.{inputInto, slotBreaks, choiceAboveAt, choiceCases, slotCases, refusedSlot, takenSlot, slottedOf}
 use Rattle.run.specs.Watching.{heldAt}
 use Rattle.run.specs.Taking.{Took, LetPass, KeepsDeclared, InInterval}
+use Rattle.run.proofs.SlotAnswers.{slot-taken}
 use Rattle.run.proofs.UsableRun.{UsableRun, usable-run, stage-usable, stage-number, fits-at}
 
 module _ (run : Run) (words : List ℕ) (call : Call) where
@@ -60,8 +61,8 @@ module _ (run : Run) (words : List ℕ) (call : Call) where
   took-stands = none-where-result (refusedSlot run) (takenSlot run words call) (λ (answer : Slotted). Took (answer .outcome)) (λ why took. took) (slotCases run words call)
 
   stands-took : NoneStands (slotCases run words call) → Took (slottedOf run words call .outcome)
-  unfolding slottedOf refusedSlot takenSlot
-  stands-took none = rw (firstOf-none (refusedSlot run) (takenSlot run words call) (slotCases run words call) none) tt
+  unfolding takenSlot
+  stands-took none = rw (slot-taken run words call none) tt
 
   pub taken-iff : LetPass run words call → Took (slottedOf run words call .outcome) ↔ (KeepsDeclared run words call × ((k : ℕ) → k < run .count → InInterval run words call k))
   unfolding slotBreaks inputBreaks meterIn
