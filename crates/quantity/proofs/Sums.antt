@@ -90,6 +90,38 @@ unfolding every
 every-holds test zero each = refl
 every-holds test (suc n) each = rw (every-holds test n (λ k less. each k (omega arith))) (each n (omega arith))
 
+-- a test that fails at one index fails over all
+pub every-fails : (test : ℕ → Bool) (n k : ℕ) → k < n → test k ≡ false → every test n ≡ false
+every-fails test n k less fails = by-test (every test n) refl
+  where
+    by-test : (t : Bool) → every test n ≡ t → t ≡ false
+    by-test true e = sym (every-at test n e k less) ∙ fails
+    by-test false e = refl
+
+-- tests that agree below n agree over all of it
+pub every-same : (f g : ℕ → Bool) (n : ℕ) → ((k : ℕ) → k < n → f k ≡ g k) → every f n ≡ every g n
+unfolding every
+every-same f g zero same = refl
+every-same f g (suc n) same = ap₂ both (every-same f g n (λ k less. same k (omega arith))) (same n (omega arith))
+
+-- a test that holds below k and at k holds below k + 1
+pub every-on : (test : ℕ → Bool) (k : ℕ) → every test k ≡ true → test k ≡ true → every test (k + 1) ≡ true
+every-on test k before here = every-next test k ∙ ap₂ both before here
+
+-- the first test apart
+pub both-assoc : (a b c : Bool) → both (both a b) c ≡ both a (both b c)
+both-assoc true b c = refl
+both-assoc false b c = refl
+
+both-end : (a : Bool) → a ≡ both a true
+both-end true = refl
+both-end false = refl
+
+pub every-first : (test : ℕ → Bool) (n : ℕ) → every test (suc n) ≡ both (test 0) (every (λ k. test (suc k)) n)
+unfolding every
+every-first test zero = both-end (test 0)
+every-first test (suc n) = ap (λ (t : Bool). both t (test (suc n))) (every-first test n) ∙ both-assoc (test 0) (every (λ k. test (suc k)) n) (test (suc n))
+
 module _ {A : Type 0} where
   pub length-listOf : (f : ℕ → A) (n : ℕ) → length (listOf f n) ≡ n
   unfolding listOf

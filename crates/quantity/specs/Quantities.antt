@@ -11,6 +11,13 @@ mostSlots = 4_294_967_295
 unfoldable pub slotsSum : Slots → Slots → Slots
 slotsSum a b = record { 0 = min (a .0 + b .0) mostSlots }
 
+-- and rates
+abbrev pub mostRate : ℕ
+mostRate = 4_294_967_295
+
+unfoldable pub ratesSum : Rate → Rate → Rate
+ratesSum a b = record { 0 = min (a .0 + b .0) mostRate }
+
 -- the largest number of 64 bits, which is as wide as units are
 abbrev pub mostUnits : ℕ
 mostUnits = 18_446_744_073_709_551_615

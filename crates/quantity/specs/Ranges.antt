@@ -9,6 +9,8 @@ use Rattle.quantity.specs.declared.CheckedRate.{CheckedRate}
 use Rattle.quantity.specs.declared.CheckedDelay.{CheckedDelay}
 use Rattle.quantity.specs.declared.CheckedWantedDelay.{CheckedWantedDelay}
 use Rattle.quantity.specs.declared.CheckedLink.{CheckedLink}
+use Rattle.quantity.specs.declared.CheckedPathNumber.{CheckedPathNumber}
+use Rattle.quantity.specs.declared.CheckedLinkCapacity.{CheckedLinkCapacity}
 
 pub record Range : Type 0 where
   pub least : ℕ
@@ -63,3 +65,17 @@ linkRange = record { least = 0; largest = 15 }
 
 abbrev pub checkedLink : ℕ → CheckedLink
 checkedLink = checkedIn linkRange (λ value. CheckedLink.InRange (record { 0 = value })) CheckedLink.OutOfRange
+
+-- path number: 0 to 65,535
+abbrev pub pathNumberRange : Range
+pathNumberRange = record { least = 0; largest = 65535 }
+
+abbrev pub checkedPathNumber : ℕ → CheckedPathNumber
+checkedPathNumber = checkedIn pathNumberRange (λ value. CheckedPathNumber.InRange (record { 0 = value })) CheckedPathNumber.OutOfRange
+
+-- link capacity: 0 to 1,000,000
+abbrev pub linkCapacityRange : Range
+linkCapacityRange = record { least = 0; largest = 1_000_000 }
+
+abbrev pub checkedLinkCapacity : ℕ → CheckedLinkCapacity
+checkedLinkCapacity = checkedIn linkCapacityRange (λ value. CheckedLinkCapacity.InRange (record { 0 = value })) CheckedLinkCapacity.OutOfRange

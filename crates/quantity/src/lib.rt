@@ -1,8 +1,8 @@
 // The quantities of document 01, section 1: each kind of number is a type of its own and carries its own least and largest value.
 
 ghost use mathlib.Core.Path.{_≡_};
-ghost use Rattle.quantity.specs.Quantities.{slotsSum, unitsSum, unitsOver};
-ghost use Rattle.quantity.specs.Ranges.{inRange, checkedInterval, checkedQuota, checkedRate, checkedDelay, checkedWantedDelay, checkedLink, intervalRange, quotaRange, rateRange, delayRange, wantedDelayRange, linkRange};
+ghost use Rattle.quantity.specs.Quantities.{slotsSum, unitsSum, ratesSum, unitsOver};
+ghost use Rattle.quantity.specs.Ranges.{inRange, checkedInterval, checkedQuota, checkedRate, checkedDelay, checkedWantedDelay, checkedLink, checkedPathNumber, checkedLinkCapacity, intervalRange, quotaRange, rateRange, delayRange, wantedDelayRange, linkRange, pathNumberRange, linkCapacityRange};
 
 pub mod refusal;
 
@@ -140,6 +140,17 @@ impl Rate {
         within(self.0, Rate::LEAST, Rate::LARGEST)
     }
 
+    // Rates are added to rates alone; the sum stops at the largest number of 32 bits.
+    pub fn plus(self, other: Rate) -> Rate
+        ensures { λ r. ⌜ r ≡ ratesSum self other ⌝ }
+    {
+        if other.0 <= u32::MAX - self.0 {
+            Rate(self.0 + other.0)
+        } else {
+            Rate(u32::MAX)
+        }
+    }
+
     // The units that the rate makes in so many slots.
     pub fn over(self, slots: Slots) -> Units
         ensures { λ r. ⌜ r ≡ unitsOver self slots ⌝ }
@@ -235,5 +246,65 @@ impl Link {
         ensures { λ r. ⌜ r ≡ inRange linkRange (self .0) ⌝ }
     {
         within(self.0, Link::LEAST, Link::LARGEST)
+    }
+}
+
+// A path's number in a ledger.
+pub struct PathNumber(pub u32);
+
+pub enum CheckedPathNumber {
+    InRange(PathNumber),
+    OutOfRange,
+}
+
+impl PathNumber {
+    pub const LEAST: u32 = 0;
+
+    pub const LARGEST: u32 = 65535;
+
+    pub fn checked(value: u32) -> CheckedPathNumber
+        ensures { λ r. ⌜ r ≡ checkedPathNumber value ⌝ }
+    {
+        if within(value, PathNumber::LEAST, PathNumber::LARGEST) {
+            CheckedPathNumber::InRange(PathNumber(value))
+        } else {
+            CheckedPathNumber::OutOfRange
+        }
+    }
+
+    pub fn in_range(self) -> bool
+        ensures { λ r. ⌜ r ≡ inRange pathNumberRange (self .0) ⌝ }
+    {
+        within(self.0, PathNumber::LEAST, PathNumber::LARGEST)
+    }
+}
+
+// A link's capacity, in units per slot: what its paths may reserve together.
+pub struct LinkCapacity(pub u32);
+
+pub enum CheckedLinkCapacity {
+    InRange(LinkCapacity),
+    OutOfRange,
+}
+
+impl LinkCapacity {
+    pub const LEAST: u32 = 0;
+
+    pub const LARGEST: u32 = 1_000_000;
+
+    pub fn checked(value: u32) -> CheckedLinkCapacity
+        ensures { λ r. ⌜ r ≡ checkedLinkCapacity value ⌝ }
+    {
+        if within(value, LinkCapacity::LEAST, LinkCapacity::LARGEST) {
+            CheckedLinkCapacity::InRange(LinkCapacity(value))
+        } else {
+            CheckedLinkCapacity::OutOfRange
+        }
+    }
+
+    pub fn in_range(self) -> bool
+        ensures { λ r. ⌜ r ≡ inRange linkCapacityRange (self .0) ⌝ }
+    {
+        within(self.0, LinkCapacity::LEAST, LinkCapacity::LARGEST)
     }
 }

@@ -5,7 +5,7 @@ use Prim.Native.Nat.{ℕ}
 use lib.ListN.{length}
 use Rattle.quantity.specs.Sums.{total, every, listOf}
 use Rattle.quantity.specs.Refusals.{numberOf, placeOf}
-use Rattle.operator.specs.Held.{Held, keeps}
+use Rattle.operator.specs.Held.{keeps}
 use Rattle.operator.specs.Compactor.{compactorLeast, compactorGreatest, compactorAfter}
 use Rattle.operator.specs.Expander.{expanderLeast, expanderGreatest, expanderAfter}
 use Rattle.operator.specs.Filter.{besideAfter, filterLeast, filterGreatest, filterAfter}

@@ -2,7 +2,7 @@
 use mathlib.Core.Path.{_≡_, refl, ap, sym, _∙_}
 use mathlib.Core.Bool.{Bool, true, false, not}
 use mathlib.Core.List.{List}
-use Prim.Native.Nat.{ℕ, zero, suc, _+_, _≤_, _<_}
+use Prim.Native.Nat.{ℕ, _+_, _≤_, _<_}
 use native.Mathlib.Omega.{arith}
 use lib.ListN.{length, getD, set, replicate, length-set, length-replicate}
 use lib.Seq.{getD-set-same, getD-set-other}
@@ -16,7 +16,7 @@ use Rattle.quantity.specs.declared.Units.{Units}
 use Rattle.quantity.specs.declared.refusal.Refusal.{Refusal}
 use Rattle.quantity.specs.declared.refusal.Refusal.the-variants.{Unusable}
 use Rattle.quantity.proofs.Laws.{pick-true, pick-false}
-use Rattle.quantity.proofs.Sums.{both-true, every-at, every-next, length-listOf, getD-listOf, listOf-ext}
+use Rattle.quantity.proofs.Sums.{both-true, every-next, length-listOf, getD-listOf, listOf-ext, every-fails, every-same}
 use Rattle.operator.specs.Single.{usesHeld, heldIn, storedUnusable}
 use Rattle.operator.specs.Within.{storedOf}
 use Rattle.operator.specs.Operators.{numberInRange}
@@ -39,20 +39,6 @@ use Rattle.run.specs.Runs.{mostOperators, meterIn, meterWords, operatorW
 use Rattle.run.specs.Watching.{heldAt, unitsHeld, watchedOf}
 use Rattle.run.specs.Steps.{notTested, countedIn, testedOf}
 use Rattle.run.proofs.UsableRun.{UsableRun, run-usable, run-unusable}
-
--- a test that fails at one index fails over all
-every-fails : (test : ℕ → Bool) (n k : ℕ) → k < n → test k ≡ false → every test n ≡ false
-every-fails test n k less fails = by-test (every test n) refl
-  where
-    by-test : (t : Bool) → every test n ≡ t → t ≡ false
-    by-test true e = sym (every-at test n e k less) ∙ fails
-    by-test false e = refl
-
--- tests that agree at each index agree over all
-every-same : (f g : ℕ → Bool) → ((k : ℕ) → f k ≡ g k) → (n : ℕ) → every f n ≡ every g n
-unfolding every
-every-same f g same zero = refl
-every-same f g same (suc n) = rw (every-same f g same n, same n)
 
 abbrev none : Units
 none = record { 0 = 0 }
@@ -177,7 +163,7 @@ module _ (run : Run) (words : List ℕ) where
   units-at k = refl
 
   pub fits-run : every fitsOf mostOperators ≡ every (stageFits run words) mostOperators
-  fits-run = every-same fitsOf (stageFits run words) fits-at mostOperators
+  fits-run = every-same fitsOf (stageFits run words) mostOperators (λ k less. fits-at k)
 
   pub units-run : listOf unitsOf mostOperators ≡ listOf (unitsHeld run words) mostOperators
   units-run =

@@ -1,5 +1,5 @@
 -- What was answered tells how a test came out: one law for the readers of every body; and what `&&` answers.
-use mathlib.Core.Path.{_≡_, refl, sym, ap, _∙_}
+use mathlib.Core.Path.{_≡_, sym, ap, _∙_}
 use mathlib.Core.Bool.{Bool, true, false}
 use Rattle.quantity.specs.Choice.{pick, both}
 
@@ -14,7 +14,3 @@ both-taken a b p q taken = q ∙ sym (ap (λ (t : Bool). both t b) (sym p ∙ ta
 
 pub both-left : {r : Bool} (a b : Bool) → r ≡ a → r ≡ false → r ≡ both a b
 both-left a b p left = left ∙ sym (ap (λ (t : Bool). both t b) (sym p ∙ left))
-
-pub both-assoc : (a b c : Bool) → both (both a b) c ≡ both a (both b c)
-both-assoc true b c = refl
-both-assoc false b c = refl

@@ -1,5 +1,5 @@
 -- A word that stands at a text's front agrees with it at each index; one index where they differ is enough that it does not.
-use mathlib.Core.Path.{_≡_, refl, sym, _∙_}
+use mathlib.Core.Path.{_≡_, refl}
 use mathlib.Core.Bool.{Bool, true, false}
 use mathlib.Core.List.{List}
 use Prim.Native.Nat.{ℕ, _≤_, _<_}
@@ -8,15 +8,8 @@ use lib.Dec.{leb, eqb}
 use borrow.Author.Tests.{le-leb, lt-leb, eq-eqb, ne-eqb}
 use Rattle.quantity.specs.Choice.{both}
 use Rattle.quantity.specs.Sums.{every}
-use Rattle.quantity.proofs.Sums.{every-at, every-holds}
+use Rattle.quantity.proofs.Sums.{every-holds, every-fails}
 use Rattle.text.specs.Lines.{beginsWith}
-
-every-fails : (test : ℕ → Bool) (n k : ℕ) → k < n → test k ≡ false → every test n ≡ false
-every-fails test n k less fails = of (every test n) refl
-  where
-    of : (t : Bool) → every test n ≡ t → t ≡ false
-    of true e = sym (every-at test n e k less) ∙ fails
-    of false e = refl
 
 both-second-fails : (a b : Bool) → b ≡ false → both a b ≡ false
 both-second-fails true b e = e

@@ -8,7 +8,8 @@ use Rattle.quantity.specs.Ranges.{inRange, wantedDelayRange}
 use Rattle.operator.specs.Declarations.{declarationInRange}
 use Rattle.sheet.specs.Paths.{standsFor}
 use Rattle.sheet.specs.Sheets.{placesInRange, lineInRange}
-use Rattle.sheet.proofs.AnswerLaws.{both-taken, both-left, both-assoc}
+use Rattle.quantity.proofs.Sums.{both-assoc}
+use Rattle.sheet.proofs.AnswerLaws.{both-taken, both-left}
 use Rattle.sheet.proofs.write.path_in_range.Statement.{statement}
 use Rattle.sheet.proofs.write.path_in_range.Tie as tie
 
