@@ -1,0 +1,107 @@
+-- Demand 2: each refusal of 1 to 12 is kept from standing by its condition, and by that alone.
+use mathlib.Core.Path.{_≡_, refl, ap, ap₂, sym, subst, _∙_}
+use mathlib.Core.Bool.{Bool, true, false, not}
+use mathlib.Core.List.{List, _++_}
+use mathlib.Core.Logic.{_↔_}
+use Prim.Native.Nat.{ℕ, _+_, _≤_, _<_}
+use native.Mathlib.Omega.{arith}
+use lib.ListN.{length}
+use lib.Dec.{ltb, eqb}
+use borrow.Author.Tests.{ltb-true, ltb-false, eqb-false, not-false, not-true, le-leb, eq-eqb, ne-eqb}
+use Rattle.quantity.specs.Choice.{both}
+use Rattle.quantity.specs.Ranges.{inRange, pathNumberRange}
+use Rattle.quantity.proofs.Laws.{le-largest}
+use Rattle.quantity.proofs.Sums.{every-at, every-holds, every-fails}
+use Rattle.quantity.proofs.Refusals.{NoneStands, none-of-both, none-of-each, none-where-result, firstOf-none}
+use Rattle.sheet.specs.Paths.{Line}
+use Rattle.sheet.specs.Sheets.{sheetCases, lineIn}
+use Rattle.sheet.specs.declared.read.Verdict.{Verdict}
+use Rattle.sheet.proofs.Accepted.{sheet-line, never-accepted}
+use Rattle.figures.specs.Answers.{lineCases, figuresOf, refusedFigures, acceptedFigures}
+use Rattle.figures.specs.declared.PathFigures.{PathFigures}
+use Rattle.figures.proofs.Promise.{accepted-none}
+use Rattle.ledger.specs.declared.Record.{Record}
+use Rattle.ledger.specs.declared.Ledger.{Ledger}
+use Rattle.ledger.specs.declared.admission.Admission.{Admission}
+use Rattle.ledger.specs.Records.{numberAt, among, stands, reserved}
+use Rattle.ledger.specs.Ledgers.{recordCount, linkCount, capacityOf}
+use Rattle.ledger.specs.Admission.{rateOf, linkAt, namesLink, ledgerFull, linkShort, standingCases, admissionCases, refusedAdmission, acceptedAdmission, admissionOf}
+use Rattle.ledger.specs.Admissible.{Admissible}
+use Rattle.ledger.proofs.UsableLedger.{usable-ledger}
+use Rattle.ledger.proofs.Numbers.{not-among}
+use Rattle.ledger.proofs.Admitting.{line-link}
+
+-- the link of an operator is named, and a named link is an operator's
+named-at : (line : Line) (k : ℕ) → k < length (line .places) → namesLink line (linkAt line k) ≡ true
+unfolding namesLink
+named-at line k less = ap not (every-fails _ (length (line .places)) k less (ap not (eq-eqb (linkAt line k) (linkAt line k) refl)))
+
+module _ (ledger : Ledger) (records : List Record) (number : ℕ) (sheet : List ℕ) where
+  abbrev path : Line
+  path = lineIn sheet
+
+  -- 12 does not stand where each operator's link carries the path, and only there
+  abbrev Carried : Type 0
+  Carried = (k : ℕ) → k < length (path .places) → reserved records (ledger .count) (linkAt path k) + rateOf path ≤ capacityOf ledger (linkAt path k)
+
+  abbrev beyond : ℕ → Bool
+  beyond link = ltb (capacityOf ledger link) (reserved records (ledger .count) link + rateOf path)
+
+  none-beyond : (t : Bool) → not (both t false) ≡ true
+  none-beyond true = refl
+  none-beyond false = refl
+
+  not-short : Carried → linkShort ledger records path ≡ false
+  unfolding linkShort namesLink
+  not-short carried = ap not (every-holds _ linkCount (λ link less. by-test link (beyond link) refl))
+    where
+      by-test : (link : ℕ) (t : Bool) → beyond link ≡ t → not (both (namesLink path link) t) ≡ true
+      by-test link true e =
+          let unnamed = every-holds (λ k. not (eqb (linkAt path k) link)) (length (path .places))
+          (λ k less. ap not (ne-eqb (linkAt path k) link (λ same. let fits = carried k less in let past = ltb-true (capacityOf ledger link) _ e in omega (arith, subst (λ (l : ℕ). reserved records (ledger .count) l + rateOf path ≤ capacityOf ledger l) same fits, past)))) in
+          ap (λ (t : Bool). not (both t true)) (ap not unnamed)
+      by-test link false e = none-beyond (namesLink path link)
+
+  carried-where : NoneStands (sheetCases sheet) → linkShort ledger records path ≡ false → Carried
+  unfolding linkShort
+  carried-where planned enough k less =
+      let link = linkAt path k in
+      let each = every-at _ linkCount (not-false _ enough) link (line-link path (sheet-line sheet planned .inside) k) in
+      let fits : not (both true (beyond link)) ≡ true = ap (λ (t : Bool). not (both t (beyond link))) (sym (named-at path k less)) ∙ each in
+      ltb-false (capacityOf ledger link) (reserved records (ledger .count) link + rateOf path) (not-true (beyond link) fits)
+
+  new-where : stands records (ledger .count) number ≡ false → (j : ℕ) → j < ledger .count → numberAt records j ≡ number → ⊥
+  unfolding stands among
+  new-where absent j less = eqb-false (numberAt records j) number (not-true _ (every-at _ (ledger .count) (not-false _ absent) j less))
+
+  admissible : NoneStands (admissionCases ledger records number sheet) → Admissible ledger records number sheet
+  unfolding ledgerFull figuresOf refusedFigures acceptedFigures
+  admissible none =
+      let (planned, standing) = none-of-each (sheetCases sheet ++ lineCases path) (standingCases ledger records number path) (none .1 .1) in
+      record {
+        numbered = le-largest pathNumberRange number (not-false _ (none .0));
+        usable = none .1 .0;
+        planned = ap (λ (f : PathFigures). f .verdict) (firstOf-none refusedFigures (acceptedFigures path) (sheetCases sheet ++ lineCases path) planned);
+        new = new-where (standing .0);
+        room = let other = eqb-false (ledger .count) recordCount (standing .1 .0) in let few = usable-ledger ledger records (none .1 .0) .few in omega arith;
+        carried = carried-where (none-of-each (sheetCases sheet) (lineCases path) planned .0) (standing .1 .1 .0);
+      }
+
+  none-where : Admissible ledger records number sheet → NoneStands (admissionCases ledger records number sheet)
+  unfolding ledgerFull inRange stands
+  none-where a =
+      let (fields, figures) = accepted-none sheet (a .planned) in (
+        ap not (ap₂ both (le-leb 0 number (omega arith)) (le-leb number 65535 (a .numbered))),
+        (
+          a .usable,
+          none-of-both (sheetCases sheet ++ lineCases path) (standingCases ledger records number path) (none-of-both (sheetCases sheet) (lineCases path) fields figures)
+              (not-among (numberAt records) number (ledger .count) (a .new), (ne-eqb (ledger .count) recordCount (λ same. let room = a .room in omega arith), (not-short (a .carried), tt))),
+        ),
+      )
+
+  pub admitted-iff : (admissionOf ledger records number sheet .verdict ≡ Verdict.Accepted) ↔ Admissible ledger records number sheet
+  unfolding admissionOf refusedAdmission acceptedAdmission
+  admitted-iff = (
+    (λ accepted. admissible (none-where-result (refusedAdmission ledger) (acceptedAdmission ledger path) (λ (a : Admission). a .verdict ≡ Verdict.Accepted) (λ why. never-accepted why) (admissionCases ledger records number sheet) accepted)),
+    (λ a. ap (λ (r : Admission). r .verdict) (firstOf-none (refusedAdmission ledger) (acceptedAdmission ledger path) (admissionCases ledger records number sheet) (none-where a))),
+  )

@@ -1,0 +1,211 @@
+-- The lent calls stand on their steps over values: where 64 records are lent the value is these, and else each call is refused by 1 whatever they hold.
+use mathlib.Core.Path.{_≡_, refl, ap, sym, _∙_}
+use mathlib.Core.Bool.{Bool, true, false, not}
+use mathlib.Core.List.{List, [], _∷_, _++_}
+use mathlib.Core.Logic.{⊎-elim}
+use Prim.Native.Nat.{ℕ, _≤_, _<_}
+use native.Mathlib.Omega.{arith}
+use lib.ListN.{length, set, replicate, drop-of-length-le}
+use lib.Dec.{ltb, eqb}
+use borrow.Author.Tests.{eqb-true, eqb-false, lt-ltb, not-false}
+use Rattle.quantity.specs.Ranges.{inRange, pathNumberRange}
+use Rattle.quantity.specs.Refusals.{Case, _⇒_, firstOf}
+use Rattle.quantity.specs.declared.refusal.Refusal.{Refusal}
+use Rattle.quantity.specs.declared.refusal.Refusal.the-variants.{Unusable, PathNumberWrong}
+use Rattle.quantity.proofs.Laws.{pick-true}
+use Rattle.quantity.proofs.Refusals.{NoneStands, FirstIs, firstOf-none, none-or-first, none-of-each, first-answered}
+use Rattle.sheet.specs.Sheets.{sheetCases, lineIn}
+use Rattle.sheet.specs.declared.read.Verdict.{Verdict}
+use Rattle.figures.specs.Answers.{lineCases}
+use Rattle.ledger.specs.declared.Record.{Record}
+use Rattle.ledger.specs.declared.Ledger.{Ledger}
+use Rattle.ledger.specs.declared.admission.Admitting.{Admitting}
+use Rattle.ledger.specs.declared.release.Releasing.{Releasing}
+use Rattle.ledger.specs.declared.opening.Clearing.{Clearing}
+use Rattle.ledger.specs.Records.{noRecord, numberAt, placeAmong, stands}
+use Rattle.ledger.specs.Ledgers.{recordCount, ledgerUnusable}
+use Rattle.ledger.specs.Opening.{openCases, newLedger, refusedOpening, openedOf, recordsOpened}
+use Rattle.ledger.specs.Admission.{recordOf, ledgerFull, standingCases, admissionCases, refusedAdmission, acceptedAdmission, admissionOf, recordsAdmitted}
+use Rattle.ledger.specs.Release.{releaseCases, closedUp, refusedRelease, acceptedRelease, releasedOf, recordsReleased}
+use Rattle.ledger.specs.Spare.{refusedSpare, spareOf}
+use Rattle.ledger.specs.Steps.{heldOf, heldRecords, appended, filled, refusedClearing, clearingOf, refusedAdmitting, acceptedAdmitting, admittingOf, refusedReleasing, releasingOf}
+use Rattle.ledger.proofs.UsableLedger.{usable-ledger, ledger-unusable}
+
+-- the value of 64 lent records stands for them
+held-all : (records : List Record) → eqb (length records) recordCount ≡ true → heldRecords (heldOf records) ≡ records
+unfolding heldOf heldRecords
+held-all records all = rw all
+
+-- and any other for none
+held-none : (records : List Record) → eqb (length records) recordCount ≡ false → heldRecords (heldOf records) ≡ []
+unfolding heldOf heldRecords
+held-none records other = rw other
+
+-- so an answer is the same from the value as from the records, if records of a wrong length have the answer of none
+pub from-held : {A : Type 0} (answer : List Record → A) (records : List Record) → (eqb (length records) recordCount ≡ false → answer [] ≡ answer records) → answer (heldRecords (heldOf records)) ≡ answer records
+from-held answer records alike = by-size (eqb (length records) recordCount) refl
+  where
+    by-size : (t : Bool) → eqb (length records) recordCount ≡ t → answer (heldRecords (heldOf records)) ≡ answer records
+    by-size true e = ap answer (held-all records e)
+    by-size false e = ap answer (held-none records e) ∙ alike e
+
+-- and records of a wrong length are refused by 1
+unusable-size : (ledger : Ledger) (records : List Record) → eqb (length records) recordCount ≡ false → ledgerUnusable ledger records ≡ true
+unusable-size ledger records other = ledger-unusable ledger records (λ sound. eqb-false (length records) recordCount other (sound .sized))
+
+-- a call that goes through 1 twice, the second time with the ledger, and whose ledger cannot be used
+refused-by-one : {A : Type 0} (refused : Refusal → A) (result : A) (number ledger : Bool) (others : List Case) → ledger ≡ true
+    → firstOf ((number ⇒ Unusable) ∷ (ledger ⇒ Unusable) ∷ others) refused result ≡ refused Unusable
+refused-by-one refused result true ledger others e = refl
+refused-by-one refused result false ledger others e = rw e
+
+-- at a place the record is set, and 64 is none
+appended-there : (records : List Record) (at : ℕ) (entry : Record) → at < recordCount → appended records at entry ≡ set records at entry
+unfolding appended
+appended-there records at entry less = pick-true (ltb at recordCount) _ _ (lt-ltb at recordCount less)
+
+appended-nowhere : (records : List Record) (entry : Record) → appended records recordCount entry ≡ records
+unfolding appended
+appended-nowhere records entry = refl
+
+closed-nowhere : (records : List Record) (last : Record) → closedUp records recordCount last ≡ records
+unfolding closedUp
+closed-nowhere records last = refl
+
+module _ (ledger : Ledger) (records : List Record) (number : ℕ) (sheet : List ℕ) where
+  admitting-held : admittingOf ledger (heldRecords (heldOf records)) number sheet ≡ admittingOf ledger records number sheet
+  unfolding admittingOf
+  admitting-held = from-held (λ rs. admittingOf ledger rs number sheet) records (λ other. by-one [] (unusable-size ledger [] refl) ∙ sym (by-one records (unusable-size ledger records other)))
+    where
+      by-one : (rs : List Record) → ledgerUnusable ledger rs ≡ true → admittingOf ledger rs number sheet ≡ refusedAdmitting ledger Unusable
+      by-one rs = refused-by-one (refusedAdmitting ledger) (acceptedAdmitting ledger number (lineIn sheet)) (not (inRange pathNumberRange number)) (ledgerUnusable ledger rs) ((sheetCases sheet ++ lineCases (lineIn sheet)) ++ standingCases ledger rs number (lineIn sheet))
+
+  -- what the admission decides: its answer, a place only where 64 records are lent, and with what is appended there the records of the call
+  abbrev pub Admits : Admitting → Type 0
+  Admits a = (a .admission ≡ admissionOf ledger records number sheet) × ((a .at < recordCount → length records ≡ recordCount) × (appended records (a .at) (a .entry) ≡ recordsAdmitted ledger records number sheet))
+
+  pub admitted : (a : Admitting) → a ≡ admittingOf ledger (heldRecords (heldOf records)) number sheet → Admits a
+  unfolding admittingOf admissionOf recordsAdmitted refusedAdmitting acceptedAdmitting ledgerFull
+  admitted a e = ⊎-elim taken left (none-or-first cases)
+    where
+      cases : List Case
+      cases = admissionCases ledger records number sheet
+
+      taken : NoneStands cases → Admits a
+      taken none =
+          let is : a ≡ acceptedAdmitting ledger number (lineIn sheet) = e ∙ admitting-held ∙ firstOf-none (refusedAdmitting ledger) (acceptedAdmitting ledger number (lineIn sheet)) cases none in
+          let sound = usable-ledger ledger records (none .1 .0) in
+          let not-full = none-of-each (sheetCases sheet ++ lineCases (lineIn sheet)) (standingCases ledger records number (lineIn sheet)) (none .1 .1) .1 .1 .0 in
+          let room : ledger .count < recordCount = let other = eqb-false (ledger .count) recordCount not-full in let few = sound .few in omega arith in (
+            ap (λ x. x .admission) is ∙ sym (firstOf-none (refusedAdmission ledger) (acceptedAdmission ledger (lineIn sheet)) cases none),
+            (
+              (λ less. sound .sized),
+              ap (λ x. appended records (x .at) (x .entry)) is ∙ appended-there records (ledger .count) (recordOf number (lineIn sheet)) room
+                  ∙ sym (firstOf-none (λ why. records) (set records (ledger .count) (recordOf number (lineIn sheet))) cases none),
+            ),
+          )
+
+      left : ((why : Refusal) × FirstIs cases why) → Admits a
+      left (why, first) =
+          let is : a ≡ refusedAdmitting ledger why = e ∙ admitting-held ∙ first-answered (refusedAdmitting ledger) (acceptedAdmitting ledger number (lineIn sheet)) why cases first in (
+            ap (λ x. x .admission) is ∙ sym (first-answered (refusedAdmission ledger) (acceptedAdmission ledger (lineIn sheet)) why cases first),
+            (
+              (λ less. absurd (let at = ap (λ (x : Admitting). x .at) is in omega (arith, at, less))),
+              ap (λ x. appended records (x .at) (x .entry)) is ∙ appended-nowhere records noRecord
+                  ∙ sym (first-answered (λ why. records) (set records (ledger .count) (recordOf number (lineIn sheet))) why cases first),
+            ),
+          )
+
+module _ (ledger : Ledger) (records : List Record) (number : ℕ) where
+  abbrev place : ℕ
+  place = placeAmong (numberAt records) (ledger .count) number
+
+  abbrev acceptedReleasing : Releasing
+  acceptedReleasing = record { released = acceptedRelease ledger; at = place; last = noRecord }
+
+  releasing-held : releasingOf ledger (heldRecords (heldOf records)) number ≡ releasingOf ledger records number
+  unfolding releasingOf
+  releasing-held = from-held (λ rs. releasingOf ledger rs number) records (λ other. by-one [] (unusable-size ledger [] refl) ∙ sym (by-one records (unusable-size ledger records other)))
+    where
+      by-one : (rs : List Record) → ledgerUnusable ledger rs ≡ true → releasingOf ledger rs number ≡ refusedReleasing ledger Unusable
+      by-one rs =
+          refused-by-one (refusedReleasing ledger) (record { released = acceptedRelease ledger; at = placeAmong (numberAt rs) (ledger .count) number; last = noRecord })
+          (not (inRange pathNumberRange number)) (ledgerUnusable ledger rs) ((not (stands rs (ledger .count) number) ⇒ PathNumberWrong) ∷ [])
+
+  -- and what a release decides
+  abbrev pub Releases : Releasing → Type 0
+  Releases a = (a .released ≡ releasedOf ledger records number) × ((a .at < recordCount → length records ≡ recordCount) × (closedUp records (a .at) (a .last) ≡ recordsReleased ledger records number))
+
+  pub released : (a : Releasing) → a ≡ releasingOf ledger (heldRecords (heldOf records)) number → Releases a
+  unfolding releasingOf releasedOf recordsReleased refusedReleasing
+  released a e = ⊎-elim taken left (none-or-first cases)
+    where
+      cases : List Case
+      cases = releaseCases ledger records number
+
+      taken : NoneStands cases → Releases a
+      taken none =
+          let is : a ≡ acceptedReleasing = e ∙ releasing-held ∙ firstOf-none (refusedReleasing ledger) acceptedReleasing cases none in (
+            ap (λ x. x .released) is ∙ sym (firstOf-none (refusedRelease ledger) (acceptedRelease ledger) cases none),
+            (
+              (λ less. usable-ledger ledger records (none .1 .0) .sized),
+              ap (λ x. closedUp records (x .at) (x .last)) is ∙ sym (firstOf-none (λ why. records) (closedUp records place noRecord) cases none),
+            ),
+          )
+
+      left : ((why : Refusal) × FirstIs cases why) → Releases a
+      left (why, first) =
+          let is : a ≡ refusedReleasing ledger why = e ∙ releasing-held ∙ first-answered (refusedReleasing ledger) acceptedReleasing why cases first in (
+            ap (λ x. x .released) is ∙ sym (first-answered (refusedRelease ledger) (acceptedRelease ledger) why cases first),
+            (
+              (λ less. absurd (let at = ap (λ (x : Releasing). x .at) is in omega (arith, at, less))),
+              ap (λ x. closedUp records (x .at) (x .last)) is ∙ closed-nowhere records noRecord ∙ sym (first-answered (λ why. records) (closedUp records place noRecord) why cases first),
+            ),
+          )
+
+-- what a spare rate is, from the value
+pub spare-held : (ledger : Ledger) (records : List Record) (link : ℕ) → spareOf ledger (heldRecords (heldOf records)) link ≡ spareOf ledger records link
+unfolding spareOf
+spare-held ledger records link =
+    from-held (λ rs. spareOf ledger rs link) records
+    (λ other. by-one [] (unusable-size ledger [] refl) ∙ sym (by-one records (unusable-size ledger records other)))
+  where
+    by-one : (rs : List Record) → ledgerUnusable ledger rs ≡ true → spareOf ledger rs link ≡ refusedSpare Unusable
+    by-one rs unusable = rw unusable
+
+-- what a new ledger decides: its answer, no more records to clear than are lent, and with these cleared the records of the call
+module _ (capacities : List ℕ) (records : List Record) where
+  abbrev pub Opens : Clearing → Type 0
+  Opens a = (a .opened ≡ openedOf capacities records) × ((a .count ≤ length records) × (filled records (a .count) (a .none) ≡ recordsOpened capacities records))
+
+  pub opened : (a : Clearing) → a ≡ clearingOf capacities records → Opens a
+  unfolding clearingOf openedOf recordsOpened refusedClearing refusedOpening filled
+  opened a e = ⊎-elim taken left (none-or-first cases)
+    where
+      cases : List Case
+      cases = openCases capacities records
+
+      accepted : Clearing
+      accepted = record { opened = record { verdict = Verdict.Accepted; ledger = newLedger capacities }; count = recordCount; none = noRecord }
+
+      taken : NoneStands cases → Opens a
+      taken none =
+          let is : a ≡ accepted = e ∙ firstOf-none refusedClearing accepted cases none in
+          let sized = eqb-true (length records) recordCount (not-false (eqb (length records) recordCount) (none .0)) in (
+            ap (λ x. x .opened) is ∙ sym (firstOf-none refusedOpening (accepted .opened) cases none),
+            (
+              omega (arith, sized, ap (λ (x : Clearing). x .count) is),
+              ap (λ x. filled records (x .count) (x .none)) is ∙ ap (λ rest. replicate recordCount noRecord ++ rest) (drop-of-length-le records {i = recordCount} (omega (arith, sized)))
+                  ∙ sym (firstOf-none (λ why. records) (replicate recordCount noRecord) cases none),
+            ),
+          )
+
+      left : ((why : Refusal) × FirstIs cases why) → Opens a
+      left (why, first) =
+          let is : a ≡ refusedClearing why = e ∙ first-answered refusedClearing accepted why cases first in (
+            ap (λ x. x .opened) is ∙ sym (first-answered refusedOpening (accepted .opened) why cases first),
+            (
+              omega (arith, ap (λ (x : Clearing). x .count) is),
+              ap (λ x. filled records (x .count) (x .none)) is ∙ sym (first-answered (λ why. records) (replicate recordCount noRecord) why cases first),
+            ),
+          )

@@ -1,0 +1,41 @@
+-- The rate of an accepted sheet's path is in its range: ⌈Q/m⌉ is at least 1 and at most Q.
+use mathlib.Core.Path.{_≡_}
+use mathlib.Core.Bool.{true}
+use mathlib.Core.List.{List}
+use Prim.Native.Nat.{ℕ, zero, suc, _*_, _≤_}
+use native.Mathlib.Nat.{le-mul-of-pos-right}
+use native.Mathlib.Omega.{arith}
+use borrow.Author.Tests.{le-leb}
+use Rattle.quantity.specs.Ranges.{inRange, intervalRange, quotaRange, rateRange}
+use Rattle.quantity.specs.Rounding.{roundUp}
+use Rattle.quantity.proofs.Laws.{least-le, le-largest}
+use Rattle.quantity.proofs.Sums.{both-true}
+use Rattle.quantity.proofs.Rounding.{round-up-enough, round-up-least}
+use Rattle.quantity.proofs.Refusals.{NoneStands}
+use Rattle.operator.specs.Declarations.{declarationInRange}
+use Rattle.sheet.specs.Sheets.{sheetCases, lineIn, lineInRange}
+use Rattle.sheet.proofs.Accepted.{sheet-line}
+use Rattle.ledger.specs.Admission.{rateOf}
+
+-- rounded up, a quotient of 1 or more is 1 or more, and no larger than what was divided
+round-up-some : (x y : ℕ) → 1 ≤ y → 1 ≤ x → 1 ≤ roundUp x y
+round-up-some x y large some = from (roundUp x y) (round-up-enough x y large)
+  where
+    from : (k : ℕ) → x ≤ k * y → 1 ≤ k
+    from zero enough = absurd (omega (arith, enough, some))
+    from (suc k) enough = omega arith
+
+round-up-le : (x y : ℕ) → 1 ≤ y → roundUp x y ≤ x
+round-up-le x y large = round-up-least x y x large (le-mul-of-pos-right x large)
+
+pub rate-inside : (sheet : List ℕ) → NoneStands (sheetCases sheet) → inRange rateRange (rateOf (lineIn sheet)) ≡ true
+unfolding inRange rateOf lineInRange declarationInRange
+rate-inside sheet none =
+    let declaration = lineIn sheet .declaration in
+    let (declared, others) = both-true (declarationInRange declaration) _ (sheet-line sheet none .inside) in
+    let (interval, quota) = both-true (inRange intervalRange (declaration .interval .0)) (inRange quotaRange (declaration .quota .0)) declared in
+    let large = least-le intervalRange (declaration .interval .0) interval in
+    let some = least-le quotaRange (declaration .quota .0) quota in
+    let most = le-largest quotaRange (declaration .quota .0) quota in
+    rw (le-leb 1 (rateOf (lineIn sheet)) (round-up-some (declaration .quota .0) (declaration .interval .0) large some))
+    (le-leb (rateOf (lineIn sheet)) 65535 (omega (arith, most, round-up-le (declaration .quota .0) (declaration .interval .0) large)))

@@ -1,0 +1,111 @@
+-- Ledgers that no list of calls leads to, as one table that is computed from the definitions: which of them refusal 1 lets pass, what a release and a spare rate answer then, and a new ledger over records that hold something.
+use mathlib.Core.Path.{_≡_, refl}
+use mathlib.Core.Bool.{Bool, true, false}
+use mathlib.Core.List.{List, [], _∷_}
+use Prim.Native.Nat.{ℕ}
+use lib.ListN.{replicate, set}
+use Rattle.quantity.specs.Sums.{total, every, listOf}
+use Rattle.quantity.specs.Ranges.{inRange}
+use Rattle.quantity.specs.Refusals.{numberOf, placeOf}
+use Rattle.sheet.specs.declared.read.Verdict.{Verdict}
+use Rattle.ledger.specs.declared.Record.{Record}
+use Rattle.ledger.specs.declared.Ledger.{Ledger}
+use Rattle.ledger.specs.Records.{noRecord, hasLink, share, reserved, among, placeAmong, allDiffer, stands}
+use Rattle.ledger.specs.Ledgers.{capacitiesFit, recordInRange, recordClear, recordFits, linkFits, ledgerUnusable}
+use Rattle.ledger.specs.Opening.{newLedger, refusedOpening, openedOf, recordsOpened}
+use Rattle.ledger.specs.Release.{closedUp, refusedRelease, acceptedRelease, releasedOf, recordsReleased}
+use Rattle.ledger.specs.Spare.{refusedSpare, spareOf}
+
+-- a record, sixteen links of one capacity with so many paths, and 64 records that begin with these
+abbrev pub entry : ℕ → ℕ → ℕ → Record
+entry number rate links = record { number = record { 0 = number }; rate = record { 0 = rate }; links = links }
+
+abbrev pub links-of : ℕ → ℕ → Ledger
+links-of capacity count = record { capacities = replicate 16 (record { 0 = capacity }); count = count }
+
+-- two paths: 17 reserves 3 on links 0 and 2, 20 reserves 4 on link 0
+abbrev pub two : List Record
+two = entry 17 3 5 ∷ entry 20 4 1 ∷ replicate 62 noRecord
+
+-- refusal 1 does not let these pass
+pub computed : List Bool
+computed =
+    ledgerUnusable (links-of 1000 2) two
+    -- 63 records, and 65
+    ∷ ledgerUnusable (links-of 1000 2) (entry 17 3 5 ∷ entry 20 4 1 ∷ replicate 61 noRecord)
+    ∷ ledgerUnusable (links-of 1000 2) (entry 17 3 5 ∷ entry 20 4 1 ∷ replicate 63 noRecord)
+    -- 65 paths
+    ∷ ledgerUnusable (links-of 1000 65) two
+    -- a capacity of 1,000,000, and one above
+    ∷ ledgerUnusable (links-of 1_000_000 2) two
+    ∷ ledgerUnusable (links-of 1_000_001 2) two
+    -- a number, a rate or links out of their ranges, and at their edges
+    ∷ ledgerUnusable (links-of 1000 2) (set two 0 (entry 65_535 3 5))
+    ∷ ledgerUnusable (links-of 1000 2) (set two 0 (entry 65_536 3 5))
+    ∷ ledgerUnusable (links-of 1000 2) (set two 0 (entry 17 0 5))
+    ∷ ledgerUnusable (links-of 1_000_000 2) (set two 0 (entry 17 65_535 5))
+    ∷ ledgerUnusable (links-of 1_000_000 2) (set two 0 (entry 17 65_536 5))
+    ∷ ledgerUnusable (links-of 1000 2) (set two 0 (entry 17 3 65_535))
+    ∷ ledgerUnusable (links-of 1000 2) (set two 0 (entry 17 3 65_536))
+    -- a path that stands and is not counted, and a record past the count with one value that is not 0
+    ∷ ledgerUnusable (links-of 1000 1) two
+    ∷ ledgerUnusable (links-of 1000 2) (set two 63 (entry 1 0 0))
+    ∷ ledgerUnusable (links-of 1000 2) (set two 2 (entry 0 1 0))
+    ∷ ledgerUnusable (links-of 1000 2) (set two 2 (entry 0 0 1))
+    -- a path that is counted and does not stand
+    ∷ ledgerUnusable (links-of 1000 3) two
+    -- a number twice
+    ∷ ledgerUnusable (links-of 1000 2) (set two 1 (entry 17 4 1))
+    -- link 0 filled exactly, and one above
+    ∷ ledgerUnusable (links-of 7 2) two
+    ∷ ledgerUnusable (links-of 6 2) two
+    ∷ []
+
+pub expected : List Bool
+expected =
+    false ∷ true ∷ true ∷ true ∷ false ∷ true ∷ false ∷ true ∷ true ∷ false ∷ true ∷ false ∷ true ∷ true ∷ true ∷ true ∷ true ∷ true ∷ true ∷ false ∷ true ∷ []
+
+pub reference-ledgers : computed ≡ expected
+unfolding computed expected ledgerUnusable capacitiesFit recordFits recordInRange recordClear linkFits reserved share hasLink allDiffer among inRange every total
+reference-ledgers = refl
+
+-- the number and the place of a refusal; 0 where there is none
+abbrev pub refusal : Verdict → List ℕ
+refusal Verdict.Accepted = []
+refusal (Verdict.Refused why) = numberOf why ∷ placeOf why ∷ []
+
+-- what a damaged ledger answers, and a sound one: a release of 17, one of 18, the spare rate of link 0, that of link 16
+pub asked : Ledger → List Record → List (List ℕ)
+asked ledger records =
+    refusal (releasedOf ledger records 17 .verdict)
+    ∷ refusal (releasedOf ledger records 18 .verdict)
+    ∷ refusal (releasedOf ledger records 65_536 .verdict)
+    ∷ (spareOf ledger records 0 .rate .0 ∷ refusal (spareOf ledger records 0 .verdict))
+    ∷ (spareOf ledger records 16 .rate .0 ∷ refusal (spareOf ledger records 16 .verdict))
+    ∷ []
+
+pub reference-answers : asked (links-of 1000 2) two ≡ ([] ∷ (10 ∷ 0 ∷ []) ∷ (1 ∷ 0 ∷ []) ∷ (993 ∷ []) ∷ (0 ∷ 5 ∷ 0 ∷ []) ∷ [])
+unfolding asked releasedOf refusedRelease acceptedRelease spareOf refusedSpare stands ledgerUnusable capacitiesFit recordFits recordInRange recordClear linkFits reserved share hasLink allDiffer among inRange every total
+reference-answers = refl
+
+pub reference-damaged : asked (links-of 6 2) two ≡ ((1 ∷ 0 ∷ []) ∷ (1 ∷ 0 ∷ []) ∷ (1 ∷ 0 ∷ []) ∷ (0 ∷ 1 ∷ 0 ∷ []) ∷ (0 ∷ 1 ∷ 0 ∷ []) ∷ [])
+unfolding asked releasedOf refusedRelease acceptedRelease spareOf refusedSpare stands ledgerUnusable capacitiesFit recordFits recordInRange recordClear linkFits reserved share hasLink allDiffer among inRange every total
+reference-damaged = refl
+
+-- the release of 17 closes the gap and clears the last
+pub reference-release : recordsReleased (links-of 1000 2) two 17 ≡ (entry 20 4 1 ∷ replicate 63 noRecord)
+unfolding recordsReleased closedUp placeAmong stands ledgerUnusable capacitiesFit recordFits recordInRange recordClear linkFits reserved share hasLink allDiffer among inRange every total
+reference-release = refl
+
+-- a new ledger does not test what the records held; of another length they are left, and so they are where a capacity is out of range
+pub opened : List ℕ → List Record → List ℕ
+opened capacities records = refusal (openedOf capacities records .verdict)
+
+pub reference-openings : (opened (replicate 16 1_000_000) (replicate 64 (entry 99_999 0 99_999)) ∷ opened (replicate 16 5) two ∷ opened (replicate 16 5) [] ∷ opened (replicate 16 1_000_001) two ∷ opened (replicate 16 1_000_001) [] ∷ [])
+    ≡ ([] ∷ [] ∷ (1 ∷ 0 ∷ []) ∷ (5 ∷ 0 ∷ []) ∷ (1 ∷ 0 ∷ []) ∷ [])
+unfolding opened openedOf refusedOpening newLedger capacitiesFit inRange every listOf
+reference-openings = refl
+
+pub reference-cleared : recordsOpened (replicate 16 5) (replicate 64 (entry 99_999 0 99_999)) ≡ replicate 64 noRecord
+unfolding recordsOpened capacitiesFit inRange every
+reference-cleared = refl

@@ -1,0 +1,137 @@
+-- A record's share of a link by the bits halved link times, and the sums of shares: 64 rates of 65,535 stay far below where a sum of rates stops.
+use mathlib.Core.Path.{_≡_, refl, ap, ap₂, sym, _∙_}
+use mathlib.Core.Bool.{Bool, true, false}
+use mathlib.Core.List.{List, [], _∷_, _++_}
+use Prim.Native.Nat.{ℕ, zero, suc, _+_, _*_, _/_, _%_, _^_, _≤_, _<_}
+use native.Mathlib.Nat.{div-one, pow-suc, div-div-eq-div-mul, mul-suc}
+use native.Mathlib.Numerals.{add-one}
+use native.Mathlib.Omega.{arith}
+use lib.ListN.{length, set, replicate}
+use lib.Seq.{getD-set-other}
+use lib.Dec.{ltb, eqb}
+use borrow.Author.Tests.{eq-eqb, ne-eqb, eqb-true}
+use Rattle.quantity.specs.Choice.{pick}
+use Rattle.quantity.specs.Sums.{total, every, listOf}
+use Rattle.quantity.specs.Ranges.{inRange, rateRange, pathNumberRange}
+use Rattle.quantity.specs.Quantities.{ratesSum}
+use Rattle.quantity.specs.declared.Rate.{Rate}
+use Rattle.quantity.proofs.Laws.{pick-true, pick-false, le-largest}
+use Rattle.quantity.proofs.Sums.{total-zero, total-suc, total-next, both-true, every-at, getD-listOf}
+use Rattle.quantity.proofs.Quantities.{rates-sum}
+use Rattle.ledger.specs.declared.Record.{Record}
+use Rattle.ledger.specs.Records.{recordAt, hasLink, share, reserved}
+use Rattle.ledger.specs.Ledgers.{recordCount, linkCount, recordInRange, recordClear, recordFits}
+use Rattle.ledger.specs.Steps.{rateAt, charged, reservedRates}
+use Rattle.ledger.proofs.Numbers.{Written, written-first, written-next, written-all}
+
+abbrev none : Rate
+none = record { 0 = 0 }
+
+-- a record's share of a link, as a rate
+abbrev shareRate : Record → ℕ → Rate
+shareRate r link = record { 0 = share r link }
+
+abbrev reservedRate : List Record → ℕ → ℕ → Rate
+reservedRate records n link = record { 0 = reserved records n link }
+
+-- The sums while a record is charged: below the link with its share, from there on as they were given.
+module _ (rates : List Rate) (r : Record) where
+  abbrev chargedAt : ℕ → Rate
+  chargedAt link = ratesSum (rateAt rates link) (shareRate r link)
+
+  pub record Charging (sums : List Rate) (bits link : ℕ) : Type 0 where
+    pub written : Written none chargedAt linkCount sums link
+    pub given : (k : ℕ) → link ≤ k → rateAt sums k ≡ rateAt rates k
+    pub halved : bits ≡ r .links / 2 ^ link
+
+  pub charging-first : length rates ≡ linkCount → Charging rates (r .links) 0
+  charging-first sized = record { written = written-first _ chargedAt linkCount sized; given = λ k from. refl; halved = sym (div-one (r .links)) }
+
+  module _ {sums : List Rate} {bits link : ℕ} (charging : Charging sums bits link) where
+    -- the lowest bit tells whether the record reserves its rate on the link
+    pub share-named : bits % 2 ≡ 1 → r .rate ≡ shareRate r link
+    unfolding share hasLink
+    share-named odd =
+        ap (λ (n : ℕ). record { 0 = n }) (sym (pick-true _ (r .rate .0) 0 (eq-eqb (r .links / 2 ^ link % 2) 1 (rw (charging .halved) at odd))))
+
+    pub share-none : (bits % 2 ≡ 1 → ⊥) → none ≡ shareRate r link
+    unfolding share hasLink
+    share-none even =
+        ap (λ (n : ℕ). record { 0 = n }) (sym (pick-false _ (r .rate .0) 0 (ne-eqb (r .links / 2 ^ link % 2) 1 (rw (charging .halved) at even))))
+
+    pub charging-next : link < linkCount → {sum more : Rate} → sum ≡ ratesSum (rateAt sums link) more → more ≡ shareRate r link → Charging (set sums link sum) (bits / 2) (link + 1)
+    charging-next less {sum} {more} added shared =
+        record {
+          written = written-next _ chargedAt linkCount (charging .written) less (added ∙ ap₂ ratesSum (charging .given link (omega arith)) shared);
+          given = λ k from. getD-set-other sums link k sum none (λ same. omega arith) ∙ charging .given k (omega arith);
+          halved = rw (charging .halved, add-one, pow-suc, div-div-eq-div-mul);
+        }
+
+    pub charging-all : linkCount ≤ link → sums ≡ charged rates r
+    unfolding charged
+    charging-all all = written-all _ chargedAt linkCount (charging .written) all
+
+pub share-at-most : (r : Record) (link : ℕ) → share r link ≤ r .rate .0
+unfolding share
+share-at-most r link = of (hasLink (r .links) link)
+  where
+    of : (t : Bool) → pick t (r .rate .0) 0 ≤ r .rate .0
+    of true = omega arith
+    of false = omega arith
+
+-- a record that fits has a rate of at most 65,535, whether it stands or not
+fit-rate-at-most : (r : Record) (standing : Bool) → pick standing (recordInRange r) (recordClear r) ≡ true → r .rate .0 ≤ 65535
+unfolding recordInRange recordClear
+fit-rate-at-most r true fits =
+    let (number, rest) = both-true (inRange pathNumberRange (r .number .0)) _ fits in
+    le-largest rateRange (r .rate .0) (both-true (inRange rateRange (r .rate .0)) _ rest .0)
+fit-rate-at-most r false fits =
+    let (number, rest) = both-true (eqb (r .number .0) 0) _ fits in
+    omega (arith, eqb-true (r .rate .0) 0 (both-true (eqb (r .rate .0) 0) _ rest .0))
+
+pub rate-at-most : (count : ℕ) (records : List Record) (j : ℕ) → recordFits count records j ≡ true → recordAt records j .rate .0 ≤ 65535
+unfolding recordFits
+rate-at-most count records j fits = fit-rate-at-most (recordAt records j) (ltb j count) fits
+
+pub reserved-none : (records : List Record) (link : ℕ) → reserved records 0 link ≡ 0
+unfolding reserved
+reserved-none records link = total-zero (λ j. share (recordAt records j) link)
+
+pub reserved-next : (records : List Record) (n link : ℕ) → reserved records (n + 1) link ≡ reserved records n link + share (recordAt records n) link
+unfolding reserved
+reserved-next records n link = total-next (λ j. share (recordAt records j) link) n
+
+pub reserved-first : (records : List Record) → replicate linkCount none ≡ reservedRates records 0
+unfolding reservedRates reserved total listOf
+reserved-first records = refl
+
+-- a sum of n that are each at most m
+pub total-at-most : (f : ℕ → ℕ) (m n : ℕ) → ((k : ℕ) → k < n → f k ≤ m) → total f n ≤ m * n
+total-at-most f m zero each = omega (arith, total-zero f)
+total-at-most f m (suc n) each = rw mul-suc (omega (arith, total-suc f n, each n (omega arith), total-at-most f m n (λ k less. each k (omega arith))))
+
+listOf-same : {A : Type 0} (f g : ℕ → A) (n : ℕ) → ((k : ℕ) → k < n → f k ≡ g k) → listOf f n ≡ listOf g n
+unfolding listOf
+listOf-same {A} f g zero same = refl
+listOf-same {A} f g (suc n) same = ap₂ (λ (xs : List A) (x : A). xs ++ (x ∷ [])) (listOf-same f g n (λ k less. same k (omega arith))) (same n (omega arith))
+
+module _ (records : List Record) (count : ℕ) (fit : every (recordFits count records) recordCount ≡ true) where
+  pub share-fits : (j link : ℕ) → j < recordCount → share (recordAt records j) link ≤ 65535
+  share-fits j link less =
+      omega (arith, share-at-most (recordAt records j) link, rate-at-most count records j (every-at (recordFits count records) recordCount fit j less))
+
+  pub reserved-at-most : (n link : ℕ) → n ≤ recordCount → reserved records n link ≤ 65535 * n
+  unfolding reserved
+  reserved-at-most n link few = total-at-most (λ j. share (recordAt records j) link) 65535 n (λ j less. share-fits j link (omega arith))
+
+  -- so one record more is charged to each link as it is reserved there
+  pub charged-next : (n : ℕ) → n < recordCount → charged (reservedRates records n) (recordAt records n) ≡ reservedRates records (n + 1)
+  unfolding charged reservedRates
+  charged-next n less = listOf-same _ _ linkCount each
+    where
+      each : (link : ℕ) → link < linkCount → ratesSum (rateAt (reservedRates records n) link) (shareRate (recordAt records n) link) ≡ reservedRate records (n + 1) link
+      each link inside =
+          let more = shareRate (recordAt records n) link in
+          ap (λ (a : Rate). ratesSum a more) (getD-listOf none (reservedRate records n) linkCount link inside)
+          ∙ ap (λ (m : ℕ). record { 0 = m })
+          (rates-sum (reservedRate records n link) more (omega (arith, reserved-at-most n link (omega arith), share-fits n link less)) ∙ sym (reserved-next records n link))

@@ -1,0 +1,57 @@
+-- A sheet and its path are refused by 2 to 9 alone.
+use mathlib.Core.Path.{subst}
+use mathlib.Core.Bool.{Bool, true, false}
+use mathlib.Core.List.{List, [], _∷_, _++_}
+use mathlib.Core.Logic.{inl, inr}
+use Prim.Native.Nat.{ℕ, zero, suc, _+_, _≤_}
+use lib.ListN.{length}
+use lib.Dec.{eqb, lit≤}
+use Rattle.quantity.specs.Choice.{pick}
+use Rattle.quantity.specs.Refusals.{Case, numberOf}
+use Rattle.quantity.specs.declared.refusal.Refusal.{Refusal}
+use Rattle.quantity.proofs.Refusals.{FirstIs}
+use Rattle.sheet.specs.Fields.{Format, declarationFormat, wantedFormat, placeFormat, fieldCases}
+use Rattle.sheet.specs.Paths.{Line}
+use Rattle.sheet.specs.Sheets.{furtherCases, sheetCases, lineIn, placeLength}
+use Rattle.figures.specs.Answers.{operatorCases, operatorsCases, lineCases}
+
+abbrev pub TwoToNine : Refusal → Type 0
+TwoToNine why = (2 ≤ numberOf why) × (numberOf why ≤ 9)
+
+abbrev Each : List Case → Type 0
+Each [] = Unit {0}
+Each (c ∷ cs) = TwoToNine (c .refusal) × Each cs
+
+each-of-both : (cs ds : List Case) → Each cs → Each ds → Each (cs ++ ds)
+each-of-both [] ds es fs = fs
+each-of-both (c ∷ cs) ds es fs = (es .0, each-of-both cs ds (es .1) fs)
+
+first-of : (cs : List Case) (why : Refusal) → Each cs → FirstIs cs why → TwoToNine why
+first-of (c ∷ cs) why each (inl (stands, same)) = subst TwoToNine same (each .0)
+first-of (c ∷ cs) why each (inr (stands, first)) = first-of cs why (each .1) first
+
+of-field : (sheet : List ℕ) (at : ℕ) (due : Format) → Each (fieldCases sheet at due)
+of-field sheet at due = ((lit≤ tt, lit≤ tt), ((lit≤ tt, lit≤ tt), ((lit≤ tt, lit≤ tt), ((lit≤ tt, lit≤ tt), ((lit≤ tt, lit≤ tt), tt)))))
+
+picked : (t : Bool) (cs : List Case) → Each cs → Each (pick t [] cs)
+picked true cs each = tt
+picked false cs each = each
+
+of-further : (more at : ℕ) (sheet : List ℕ) → Each (furtherCases more at sheet)
+unfolding furtherCases
+of-further zero at sheet = picked (eqb at (length sheet)) _ ((lit≤ tt, lit≤ tt), ((lit≤ tt, lit≤ tt), tt))
+of-further (suc more) at sheet =
+    picked (eqb at (length sheet)) _ (each-of-both (fieldCases sheet at placeFormat) (furtherCases more (at + placeLength) sheet) (of-field sheet at placeFormat) (of-further more (at + placeLength) sheet))
+
+of-operators : (line : Line) (n : ℕ) → Each (operatorsCases line n)
+unfolding operatorsCases
+of-operators line zero = tt
+of-operators line (suc n) = each-of-both (operatorsCases line n) (operatorCases line n) (of-operators line n) ((lit≤ tt, lit≤ tt), ((lit≤ tt, lit≤ tt), ((lit≤ tt, lit≤ tt), tt)))
+
+pub sheet-refusal : (sheet : List ℕ) (why : Refusal) → FirstIs (sheetCases sheet ++ lineCases (lineIn sheet)) why → TwoToNine why
+sheet-refusal sheet why =
+    first-of (sheetCases sheet ++ lineCases (lineIn sheet)) why
+    (each-of-both (sheetCases sheet) (lineCases (lineIn sheet))
+    (each-of-both (fieldCases sheet 0 declarationFormat) (fieldCases sheet 10 wantedFormat ++ (fieldCases sheet 17 placeFormat ++ furtherCases 15 26 sheet)) (of-field sheet 0 declarationFormat)
+    (each-of-both (fieldCases sheet 10 wantedFormat) (fieldCases sheet 17 placeFormat ++ furtherCases 15 26 sheet) (of-field sheet 10 wantedFormat) (each-of-both (fieldCases sheet 17 placeFormat) (furtherCases 15 26 sheet) (of-field sheet 17 placeFormat) (of-further 15 26 sheet))))
+    (each-of-both (operatorsCases (lineIn sheet) (length (lineIn sheet .places))) _ (of-operators (lineIn sheet) (length (lineIn sheet .places))) ((lit≤ tt, lit≤ tt), tt)))

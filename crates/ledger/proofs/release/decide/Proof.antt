@@ -1,0 +1,144 @@
+-- Each way out by the test of the number, by that of the ledger and by the place where the number is found.
+use mathlib.Core.Path.{_≡_, ap, sym, _∙_}
+use mathlib.Core.Bool.{true, false, not}
+use native.Mathlib.Omega.{arith}
+use borrow.Author.Needs.{needs}
+use Rattle.quantity.specs.Ranges.{inRange, pathNumberRange}
+use Rattle.ledger.specs.Records.{numberAt, placeAmong}
+use Rattle.ledger.specs.Ledgers.{ledgerUnusable}
+use Rattle.ledger.specs.Release.{acceptedRelease}
+use Rattle.ledger.specs.Steps.{heldRecords}
+use Rattle.ledger.proofs.Deciding.{number-inside, number-outside, tested-refuses, numbers-whole, place-found, release-outside, release-unusable, release-unknown, place-below, release-stands}
+use Rattle.ledger.proofs.release.decide.Statement.{statement}
+use Rattle.ledger.proofs.release.decide.Tie as tie
+
+-- the places passed: the call, the number in its range, the ledger tested, the ledger found usable
+abbrev start : tie.After-number → tie.Start
+start c = c .before .before .before
+
+abbrev numbered : tie.After-test → tie.After-number
+numbered c = c .before .before
+
+abbrev tested : tie.Else1 → tie.After-test
+tested c = c .before .before
+
+abbrev passed : tie.After-find → tie.Else1
+passed c = c .before .before .before .before
+
+-- the number that was checked
+checked : (c : tie.After-number) → (inRange pathNumberRange (start c .args .number) ≡ true) × (c .number .given .0 .0 .0 ≡ start c .args .number)
+checked c = number-inside (start c .args .number) (c .before .before .checked .ensures) (c .number .given .1)
+
+-- whether the ledger can be used
+refuses : (c : tie.After-test) → let args = start (numbered c) .args in not (c .test .result .usable) ≡ ledgerUnusable (args .ledger) (heldRecords (args .held))
+refuses c = let args = start (numbered c) .args in tested-refuses (args .ledger) (heldRecords (args .held)) (c .test .ensures)
+
+usable : (c : tie.Else1) → let args = start (numbered (tested c)) .args in ledgerUnusable (args .ledger) (heldRecords (args .held)) ≡ false
+usable c = sym (refuses (tested c)) ∙ c .if1 .left
+
+-- the place that was found
+place : (c : tie.After-find) →
+    let args = start (numbered (tested (passed c))) .args in
+    c .find .result ≡ placeAmong (numberAt (heldRecords (args .held))) (args .ledger .count) (args .number)
+place c =
+    let before = tested (passed c) in
+    let args = start (numbered before) .args in
+    let records = heldRecords (args .held) in
+    c .find .ensures
+    ∙ place-found (args .ledger) records (before .test .ensures) (usable (passed c)) _
+    ∙ ap (placeAmong (numberAt records) (args .ledger .count)) (checked (numbered before) .1)
+
+checked-requires : tie.Need-checked-requires
+checked-requires c κs = search needs
+
+enum-told : tie.Need-enum-told
+enum-told c = search needs
+
+refused-requires : tie.Need-refused-requires
+refused-requires c κs = search needs
+
+enum-known-number : tie.Need-enum-known-number
+enum-known-number c = search needs
+
+test-requires : tie.Need-test-requires
+test-requires c κs = search needs
+
+refused-requires-2 : tie.Need-refused-requires-2
+refused-requires-2 c κs = search needs
+
+returns : tie.Need-returns
+returns c =
+    let before = c .before .before .before in
+    let args = start (numbered before) .args in
+    c .refused2 .ensures
+    ∙ release-unusable (args .ledger) (heldRecords (args .held)) (args .number) (checked (numbered before) .0) (sym (refuses before) ∙ c .before .if1 .taken)
+
+sub-find : tie.Need-sub-find
+sub-find c = search needs
+
+part-find-start : tie.Need-part-find-start
+part-find-start c = search needs
+
+part-find-end : tie.Need-part-find-end
+part-find-end c =
+    let before = tested (c .before .before) in
+    let args = start (numbered before) .args in
+    numbers-whole (args .ledger) (heldRecords (args .held)) (before .test .ensures) (usable (c .before .before))
+
+find-requires : tie.Need-find-requires
+find-requires c κs = search needs
+
+refused-requires-3 : tie.Need-refused-requires-3
+refused-requires-3 c κs = search needs
+
+returns-2 : tie.Need-returns-2
+returns-2 c =
+    let found = c .before .before in
+    let args = start (numbered (tested (passed found))) .args in
+    c .refused3 .ensures
+    ∙ release-unknown (args .ledger) (heldRecords (args .held)) (args .number) (checked (numbered (tested (passed found))) .0) (usable (passed found)) (place found) (c .before .if2 .taken)
+
+sub-t19 : tie.Need-sub-t19
+sub-t19 c =
+    let found = c .before .before in
+    let args = start (numbered (tested (passed found))) .args in
+    omega (arith, place-below (args .ledger) (heldRecords (args .held)) (args .number) (checked (numbered (tested (passed found))) .0) (usable (passed found)) (place found) (c .before .if2 .left))
+
+no-record-requires : tie.Need-no-record-requires
+no-record-requires c κs = search needs
+
+returns-3 : tie.Need-returns-3
+returns-3 c =
+    let args = c .before .before .before .before .args in
+    c .refused .ensures
+    ∙ release-outside (args .ledger) (heldRecords (args .held)) (args .number) (number-outside (args .number) (c .before .before .before .checked .ensures) (c .before .enum-told .given .1))
+
+returns-4 : tie.Need-returns-4
+unfolding acceptedRelease
+returns-4 c =
+    let found = c .before .before .before in
+    let args = start (numbered (tested (passed found))) .args in
+    rw (c .no-record .ensures)
+    (release-stands (args .ledger) (heldRecords (args .held)) (args .number) (checked (numbered (tested (passed found))) .0) (usable (passed found)) (place found) (c .before .before .if2 .left))
+
+pub decide-spec : {M : Type 1} → statement M
+decide-spec =
+    tie.close
+    (tie.spec
+    checked-requires
+    enum-told
+    refused-requires
+    enum-known-number
+    test-requires
+    refused-requires-2
+    returns
+    sub-find
+    part-find-start
+    part-find-end
+    find-requires
+    refused-requires-3
+    returns-2
+    sub-t19
+    no-record-requires
+    returns-3
+    returns-4)

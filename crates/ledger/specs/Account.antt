@@ -1,0 +1,83 @@
+-- The account of a ledger: kept from the capacities asked for and the arguments of the calls alone, without ledger or records.
+use Prim.Native.Nat.{ℕ, _+_, _-_}
+use mathlib.Core.Bool.{Bool, false, not}
+use mathlib.Core.List.{List, [], _∷_, _++_}
+use lib.ListN.{length}
+use lib.Dec.{ltb, eqb}
+use Rattle.quantity.specs.Choice.{pick, both, either}
+use Rattle.quantity.specs.Sums.{every}
+use Rattle.quantity.specs.Ranges.{inRange, linkRange, pathNumberRange}
+use Rattle.quantity.specs.Refusals.{Case, _⇒_, firstOf}
+use Rattle.quantity.specs.declared.refusal.Refusal.the-variants.{Unusable, OutOfRange, PathNumberWrong, LedgerFull, LinkShort}
+use Rattle.sheet.specs.Paths.{Line}
+use Rattle.sheet.specs.Sheets.{sheetCases, lineIn}
+use Rattle.sheet.specs.declared.read.Verdict.{Verdict}
+use Rattle.figures.specs.Answers.{lineCases, pathDelay}
+use Rattle.ledger.specs.Ledgers.{recordCount, linkCount}
+use Rattle.ledger.specs.Opening.{askedFor}
+use Rattle.ledger.specs.Admission.{rateOf, namesLink}
+use Rattle.ledger.specs.Calls.{Call, admit, release, spare, Answer, refusedBy}
+
+-- a path that was admitted
+pub record Entry : Type 0 where
+  pub number : ℕ
+  pub line : Line
+
+-- the paths admitted and not yet released, in order of admission
+abbrev pub Account : Type 0
+Account = List Entry
+
+-- what a path reserves on a link: its rate if it names the link
+unfoldable pub rateOn : ℕ → Line → ℕ
+rateOn link line = pick (namesLink line link) (rateOf line) 0
+
+-- the rates of these paths on a link
+unfoldable pub reservedOn : ℕ → Account → ℕ
+reservedOn link [] = 0
+reservedOn link (entry ∷ entries) = rateOn link (entry .line) + reservedOn link entries
+
+-- 10: one of them has this number
+unfoldable pub standsIn : ℕ → Account → Bool
+standsIn number [] = false
+standsIn number (entry ∷ entries) = either (eqb (entry .number) number) (standsIn number entries)
+
+-- 12: on a link that the path names these rates and its own would pass the capacity
+unfoldable pub shortIn : List ℕ → Account → Line → Bool
+shortIn capacities entries line =
+    not (every (λ link. not (both (namesLink line link) (ltb (askedFor capacities link) (reservedOn link entries + rateOf line)))) linkCount)
+
+-- all but the path of a number
+unfoldable pub without : ℕ → Account → Account
+without number [] = []
+without number (entry ∷ entries) = pick (eqb (entry .number) number) entries (entry ∷ without number entries)
+
+-- why a call is refused
+abbrev pub callCases : List ℕ → Account → Call → List Case
+callCases capacities entries (admit number sheet) =
+    (not (inRange pathNumberRange number) ⇒ Unusable)
+    ∷ (sheetCases sheet ++ lineCases (lineIn sheet))
+    ++ ((standsIn number entries ⇒ PathNumberWrong)
+    ∷ (eqb (length entries) recordCount ⇒ LedgerFull)
+    ∷ (shortIn capacities entries (lineIn sheet) ⇒ LinkShort)
+    ∷ [])
+callCases capacities entries (release number) = (not (inRange pathNumberRange number) ⇒ Unusable) ∷ (not (standsIn number entries) ⇒ PathNumberWrong) ∷ []
+callCases capacities entries (spare link) = (not (inRange linkRange link) ⇒ OutOfRange 0) ∷ []
+
+-- what is answered where none of these stands
+unfoldable pub granted : List ℕ → Account → Call → Answer
+granted capacities entries (admit number sheet) = record { verdict = Verdict.Accepted; rate = rateOf (lineIn sheet); delay = pathDelay (lineIn sheet) }
+granted capacities entries (release number) = record { verdict = Verdict.Accepted; rate = 0; delay = 0 }
+granted capacities entries (spare link) = record { verdict = Verdict.Accepted; rate = askedFor capacities link - reservedOn link entries; delay = 0 }
+
+unfoldable pub accountAnswer : List ℕ → Account → Call → Answer
+accountAnswer capacities entries call = firstOf (callCases capacities entries call) refusedBy (granted capacities entries call)
+
+-- and which paths stand then
+unfoldable pub accountNext : Account → Call → Account
+accountNext entries (admit number sheet) = entries ++ (record { number = number; line = lineIn sheet } ∷ [])
+accountNext entries (release number) = without number entries
+accountNext entries (spare link) = entries
+
+-- a refused call changes nothing
+unfoldable pub accountAfter : List ℕ → Account → Call → Account
+accountAfter capacities entries call = firstOf (callCases capacities entries call) (λ why. entries) (accountNext entries call)

@@ -1,0 +1,12 @@
+pub mod Records
+pub mod Ledgers
+pub mod Opening
+pub mod Admission
+pub mod Release
+pub mod Spare
+pub mod Admissible
+pub mod Calls
+pub mod Account
+pub mod Lists
+pub mod Kept
+pub mod Steps

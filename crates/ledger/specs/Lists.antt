@@ -1,0 +1,45 @@
+-- A list of calls: the first gets what a new ledger is and left, each later one what the call before it returned and left.
+use Prim.Native.Nat.{ℕ}
+use mathlib.Core.List.{List, [], _∷_}
+use Rattle.ledger.specs.declared.Record.{Record}
+use Rattle.ledger.specs.declared.Ledger.{Ledger}
+use Rattle.ledger.specs.Opening.{openedOf, recordsOpened}
+use Rattle.ledger.specs.Admission.{admissionOf, recordsAdmitted}
+use Rattle.ledger.specs.Release.{releasedOf, recordsReleased}
+use Rattle.ledger.specs.Spare.{spareOf}
+use Rattle.ledger.specs.Calls.{Call, admit, release, spare, Answer}
+use Rattle.ledger.specs.Account.{Account, accountAfter}
+
+-- a ledger and its records
+pub record Book : Type 0 where
+  pub ledger : Ledger
+  pub records : List Record
+
+-- what a new ledger is and left
+unfoldable pub opened : List ℕ → List Record → Book
+opened capacities lent = record { ledger = openedOf capacities lent .ledger; records = recordsOpened capacities lent }
+
+-- what a call answers
+unfoldable pub answered : Book → Call → Answer
+answered book (admit number sheet) =
+    let admission = admissionOf (book .ledger) (book .records) number sheet in
+    record { verdict = admission .verdict; rate = admission .rate .0; delay = admission .delay .0 }
+answered book (release number) = record { verdict = releasedOf (book .ledger) (book .records) number .verdict; rate = 0; delay = 0 }
+answered book (spare link) = let asked = spareOf (book .ledger) (book .records) link in record { verdict = asked .verdict; rate = asked .rate .0; delay = 0 }
+
+-- what it returned and left
+unfoldable pub called : Book → Call → Book
+called book (admit number sheet) =
+    record { ledger = admissionOf (book .ledger) (book .records) number sheet .ledger; records = recordsAdmitted (book .ledger) (book .records) number sheet }
+called book (release number) =
+    record { ledger = releasedOf (book .ledger) (book .records) number .ledger; records = recordsReleased (book .ledger) (book .records) number }
+called book (spare link) = book
+
+unfoldable pub calledAll : Book → List Call → Book
+calledAll book [] = book
+calledAll book (call ∷ calls) = calledAll (called book call) calls
+
+-- the account of the same calls
+unfoldable pub accountAll : List ℕ → Account → List Call → Account
+accountAll capacities entries [] = entries
+accountAll capacities entries (call ∷ calls) = accountAll capacities (accountAfter capacities entries call) calls

@@ -1,0 +1,120 @@
+-- The steps of the calls, as the code takes them: the lent records by value, what the test finds, what is decided, and what is written.
+use mathlib.Core.Path.{_≡_}
+use Prim.Native.Nat.{ℕ, _≤_, _<_}
+use mathlib.Core.Bool.{Bool, true, false, not}
+use mathlib.Core.List.{List, [], _++_}
+use lib.ListN.{length, getD, set, drop, replicate}
+use lib.Dec.{ltb, eqb}
+use Rattle.quantity.specs.Choice.{pick, both}
+use Rattle.quantity.specs.Sums.{every, listOf}
+use Rattle.quantity.specs.Quantities.{ratesSum}
+use Rattle.quantity.specs.Refusals.{firstOf}
+use Rattle.quantity.specs.declared.refusal.Refusal.{Refusal}
+use Rattle.quantity.specs.declared.Rate.{Rate}
+use Rattle.quantity.specs.declared.LinkCapacity.{LinkCapacity}
+use Rattle.operator.specs.Declarations.{declarationInRange}
+use Rattle.sheet.specs.Paths.{Line, standsFor, noPlace}
+use Rattle.sheet.specs.Sheets.{lineIn}
+use Rattle.sheet.specs.declared.Path.{Path}
+use Rattle.sheet.specs.declared.read.Verdict.{Verdict}
+use Rattle.ledger.specs.declared.Record.{Record}
+use Rattle.ledger.specs.declared.Ledger.{Ledger}
+use Rattle.ledger.specs.declared.records.Held.{Held}
+use Rattle.ledger.specs.declared.test.Tested.{Tested}
+use Rattle.ledger.specs.declared.opening.Clearing.{Clearing}
+use Rattle.ledger.specs.declared.opening.Checked.{Checked}
+use Rattle.ledger.specs.declared.admission.Admitting.{Admitting}
+use Rattle.ledger.specs.declared.release.Releasing.{Releasing}
+use Rattle.ledger.specs.Records.{noRecord, numberAt, share, reserved, placeAmong}
+use Rattle.ledger.specs.Ledgers.{recordCount, linkCount, capacitiesFit, ledgerUnusable}
+use Rattle.ledger.specs.Opening.{askedFor, openCases, newLedger, noLedger, refusedOpening}
+use Rattle.ledger.specs.Admission.{namesLink, recordOf, admissionCases, refusedAdmission, acceptedAdmission}
+use Rattle.ledger.specs.Release.{releaseCases, refusedRelease, acceptedRelease}
+
+-- The lent records.
+
+unfoldable pub heldOf : List Record → Held
+heldOf records = pick (eqb (length records) recordCount) (record { sized = true; records = records }) (record { sized = false; records = replicate recordCount noRecord })
+
+-- the records that a value stands for: none where 64 were not lent
+unfoldable pub heldRecords : Held → List Record
+heldRecords held = pick (held .sized) (held .records) []
+
+unfoldable pub appended : List Record → ℕ → Record → List Record
+appended records at r = pick (ltb at recordCount) (set records at r) records
+
+unfoldable pub filled : List Record → ℕ → Record → List Record
+filled records count with = replicate count with ++ drop count records
+
+-- Test.
+
+abbrev pub rateAt : List Rate → ℕ → Rate
+rateAt rates link = getD rates link (record { 0 = 0 })
+
+-- each link's sum with a record's share
+unfoldable pub charged : List Rate → Record → List Rate
+charged rates r = listOf (λ link. ratesSum (rateAt rates link) (record { 0 = share r link })) linkCount
+
+unfoldable pub reservedRates : List Record → ℕ → List Rate
+reservedRates records count = listOf (λ link. record { 0 = reserved records count link }) linkCount
+
+abbrev pub notTested : Tested
+notTested = record { usable = false; numbers = replicate recordCount 0; reserved = replicate linkCount (record { 0 = 0 }) }
+
+unfoldable pub testedOf : Ledger → List Record → Tested
+testedOf ledger records =
+    pick (ledgerUnusable ledger records) notTested (record { usable = true; numbers = listOf (numberAt records) recordCount; reserved = reservedRates records (ledger .count) })
+
+-- Decide.
+
+-- the ledger of the capacities asked for, if they are in their range
+unfoldable pub checkedOf : List ℕ → Checked
+checkedOf capacities = pick (capacitiesFit (askedFor capacities)) (record { fit = true; ledger = newLedger capacities }) (record { fit = false; ledger = noLedger })
+
+unfoldable pub refusedClearing : Refusal → Clearing
+refusedClearing why = record { opened = refusedOpening why; count = 0; none = noRecord }
+
+-- a new ledger, how many records it clears, and the clear record
+unfoldable pub clearingOf : List ℕ → List Record → Clearing
+unfolding refusedClearing
+clearingOf capacities records =
+    firstOf (openCases capacities records) refusedClearing
+    (record { opened = record { verdict = Verdict.Accepted; ledger = newLedger capacities }; count = recordCount; none = noRecord })
+
+-- the links of a path's operators, and whether a named link is short
+unfoldable pub namedBy : Path → List Bool
+namedBy path = listOf (namesLink (standsFor path)) linkCount
+
+unfoldable pub shortOf : List LinkCapacity → List Rate → (ℕ → Bool) → Rate → Bool
+shortOf capacities reserved named rate =
+    not (every (λ link. not (both (named link) (ltb (getD capacities link (record { 0 = 0 }) .0) (ratesSum (rateAt reserved link) rate .0)))) linkCount)
+
+-- what 10 to 12 are decided of: a count of records that are there, and a path value of numbers in their ranges
+abbrev pub Decidable : Ledger → Path → Type 0
+Decidable ledger path =
+    (ledger .count ≤ recordCount)
+    × (declarationInRange (path .declaration) ≡ true)
+    × (path .count ≤ 16)
+    × ((k : ℕ) → k < 16 → getD (path .places) k noPlace .link .0 < linkCount)
+
+-- an admission, and the record that it appends; 64 is no place
+unfoldable pub refusedAdmitting : Ledger → Refusal → Admitting
+refusedAdmitting ledger why = record { admission = refusedAdmission ledger why; at = recordCount; entry = noRecord }
+
+unfoldable pub acceptedAdmitting : Ledger → ℕ → Line → Admitting
+acceptedAdmitting ledger number line = record { admission = acceptedAdmission ledger line; at = ledger .count; entry = recordOf number line }
+
+unfoldable pub admittingOf : Ledger → List Record → ℕ → List ℕ → Admitting
+unfolding refusedAdmitting acceptedAdmitting
+admittingOf ledger records number sheet =
+    firstOf (admissionCases ledger records number sheet) (refusedAdmitting ledger) (acceptedAdmitting ledger number (lineIn sheet))
+
+-- a release, the place that it closes up, and the clear record
+unfoldable pub refusedReleasing : Ledger → Refusal → Releasing
+refusedReleasing ledger why = record { released = refusedRelease ledger why; at = recordCount; last = noRecord }
+
+unfoldable pub releasingOf : Ledger → List Record → ℕ → Releasing
+unfolding refusedReleasing
+releasingOf ledger records number =
+    firstOf (releaseCases ledger records number) (refusedReleasing ledger)
+    (record { released = acceptedRelease ledger; at = placeAmong (numberAt records) (ledger .count) number; last = noRecord })

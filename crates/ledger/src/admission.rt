@@ -1,0 +1,217 @@
+// Admission of a path (document 01, sections 6 and 7).
+
+use crate::Ledger;
+use crate::Record;
+use crate::no_record;
+use crate::records::Held;
+use crate::records::append;
+use crate::records::load;
+use crate::test::Tested;
+use crate::test::find;
+use crate::test::test;
+use figures::figures;
+use operator::Declaration;
+use quantity::CheckedPathNumber;
+use quantity::LinkCapacity;
+use quantity::PathNumber;
+use quantity::Rate;
+use quantity::Slots;
+use quantity::refusal::Refusal;
+use sheet::Path;
+use sheet::read::Verdict;
+ghost use mathlib.Core.Path.{_≡_};
+ghost use mathlib.Core.Bool.{false, true};
+ghost use mathlib.Core.List.{List};
+ghost use Prim.Native.Nat.{ℕ, _≤_, _<_};
+ghost use lib.ListN.{getD};
+ghost use Rattle.quantity.specs.Rounding.{roundUp};
+ghost use Rattle.quantity.specs.Refusals.{firstOf};
+ghost use Rattle.operator.specs.Declarations.{declarationInRange};
+ghost use Rattle.sheet.specs.Paths.{Line, noPlace, valueOf};
+ghost use Rattle.sheet.specs.Sheets.{lineInRange};
+ghost use Rattle.figures.specs.Answers.{pathDelay};
+ghost use Rattle.ledger.specs.declared.Record.{Record};
+ghost use Rattle.ledger.specs.Ledgers.{linkCount, ledgerUnusable};
+ghost use Rattle.ledger.specs.Admission.{standingCases, admissionOf, recordsAdmitted, bitsOf};
+ghost use Rattle.ledger.specs.Steps.{heldRecords, testedOf, namedBy, shortOf, Decidable, refusedAdmitting, acceptedAdmitting, admittingOf};
+
+// What the path reserves, its delay, and the ledger with it. Beside a refusal they are 0, and the ledger is as it was.
+pub struct Admission {
+    pub verdict: Verdict,
+    pub ledger: Ledger,
+    pub rate: Rate,
+    pub delay: Slots,
+}
+
+// What is decided: the answer, and the record to append with its place, 64 where there is none.
+pub struct Admitting {
+    pub admission: Admission,
+    pub at: usize,
+    pub entry: Record,
+}
+
+// Admits a sheet's path under a number, or answers the first refusal of 1 to 12.
+pub fn admit(ledger: Ledger, records: &mut [Record], number: u32, sheet: &[u8]) -> Admission
+    ensures { λ r. ⌜ (r ≡ admissionOf ledger (now (records .entry)) number (now (sheet .entry))) × (now (records .exit) ≡ recordsAdmitted ledger (now (records .entry)) number (now (sheet .entry))) ⌝ }
+{
+    let held = load(records);
+    let admitting = decide(ledger, held, number, sheet);
+    let at = admitting.at;
+    let entry = admitting.entry;
+    append(records, at, entry);
+    admitting.admission
+}
+
+fn decide(ledger: Ledger, held: Held, number: u32, sheet: &[u8]) -> Admitting
+    ensures { λ r. ⌜ r ≡ admittingOf ledger (heldRecords held) number (now (sheet .entry)) ⌝ }
+{
+    match PathNumber::checked(number) {
+        CheckedPathNumber::OutOfRange => refused(ledger, Refusal::Unusable),
+        CheckedPathNumber::InRange(number) => {
+            let tested = test(ledger, held);
+            if !tested.usable {
+                return refused(ledger, Refusal::Unusable);
+            }
+            let answer = figures(sheet);
+            let verdict = answer.verdict;
+            match verdict {
+                Verdict::Refused(why) => refused(ledger, why),
+                Verdict::Accepted => {
+                    let path = answer.path;
+                    let delay = answer.delay;
+                    decide_standing(ledger, tested, number, path, delay)
+                }
+            }
+        }
+    }
+}
+
+// 10 to 12, of a path with figures and a ledger that can be used.
+fn decide_standing(
+    ledger: Ledger,
+    tested: Tested,
+    number: PathNumber,
+    path: Path,
+    delay: Slots,
+) -> Admitting
+    requires { ⌜ Decidable ledger path ⌝ }
+    ensures { λ r. ⌜ ((records : List Record) (line : Line) → ledgerUnusable ledger records ≡ false → tested ≡ testedOf ledger records → lineInRange line ≡ true → path ≡ valueOf line → delay ≡ record { 0 = pathDelay line } → r ≡ firstOf (standingCases ledger records (number .0) line) (refusedAdmitting ledger) (acceptedAdmitting ledger (number .0) line)) ⌝ }
+{
+    let count = ledger.count;
+    let numbers = tested.numbers;
+    if find(&numbers[0..count], number.0) < count {
+        return refused(ledger, Refusal::PathNumberWrong);
+    }
+    if count == crate::RECORDS {
+        return refused(ledger, Refusal::LedgerFull);
+    }
+    let declaration = path.declaration;
+    let rate = reserved_by(declaration);
+    let named = links_named(path);
+    let capacities = ledger.capacities;
+    let reserved = tested.reserved;
+    if link_short(capacities, reserved, named, rate) {
+        return refused(ledger, Refusal::LinkShort);
+    }
+    let admission = Admission {
+        verdict: Verdict::Accepted,
+        ledger: Ledger {
+            capacities,
+            count: count + 1,
+        },
+        rate,
+        delay,
+    };
+    Admitting {
+        admission,
+        at: count,
+        entry: Record {
+            number,
+            rate,
+            links: bits_of(named),
+        },
+    }
+}
+
+// What a path reserves: ⌈Q/m⌉ of its declaration.
+fn reserved_by(declaration: Declaration) -> Rate
+    requires { ⌜ declarationInRange declaration ≡ true ⌝ }
+    ensures { λ r. ⌜ r .0 ≡ roundUp (declaration .quota .0) (declaration .interval .0) ⌝ }
+{
+    let interval = declaration.interval;
+    let quota = declaration.quota;
+    Rate((quota.0 + (interval.0 - 1)) / interval.0)
+}
+
+// The links that a path's operators are on.
+fn links_named(path: Path) -> [bool; 16]
+    requires { ⌜ (path .count ≤ 16) × ((k : ℕ) → k < 16 → getD (path .places) k noPlace .link .0 < linkCount) ⌝ }
+    ensures { λ r. ⌜ r ≡ namedBy path ⌝ }
+{
+    let places = path.places;
+    let mut named = [false; 16];
+    let mut k = 0;
+    while k < path.count {
+        let place = places[k];
+        let link = place.link;
+        named[link.0 as usize] = true;
+        k += 1;
+    }
+    named
+}
+
+// Links as 16 bits, bit i for link i.
+fn bits_of(named: [bool; 16]) -> u32
+    ensures { λ r. ⌜ r ≡ bitsOf (λ link. getD named link false) linkCount ⌝ }
+{
+    let mut bits = 0;
+    let mut bit = 1;
+    let mut link = 0;
+    while link < crate::LINKS {
+        if named[link] {
+            bits += bit;
+        }
+        bit *= 2;
+        link += 1;
+    }
+    bits
+}
+
+// Whether a named link's capacity is below its reserved total with the rate.
+fn link_short(
+    capacities: [LinkCapacity; 16],
+    reserved: [Rate; 16],
+    named: [bool; 16],
+    rate: Rate,
+) -> bool
+    ensures { λ r. ⌜ r ≡ shortOf capacities reserved (λ link. getD named link false) rate ⌝ }
+{
+    let mut link = 0;
+    while link < crate::LINKS {
+        let capacity = capacities[link];
+        let sum = reserved[link];
+        let with = sum.plus(rate);
+        if named[link] && capacity.0 < with.0 {
+            return true;
+        }
+        link += 1;
+    }
+    false
+}
+
+fn refused(ledger: Ledger, why: Refusal) -> Admitting
+    ensures { λ r. ⌜ r ≡ refusedAdmitting ledger why ⌝ }
+{
+    let admission = Admission {
+        verdict: Verdict::Refused(why),
+        ledger,
+        rate: Rate(0),
+        delay: Slots(0),
+    };
+    let entry = no_record();
+    Admitting {
+        admission,
+        at: crate::RECORDS,
+        entry,
+    }
+}

@@ -1,0 +1,78 @@
+// The lent records: read into values once, and written by an append, a close-up or a clearing. Nothing here decides.
+
+use crate::Record;
+use quantity::PathNumber;
+use quantity::Rate;
+ghost use mathlib.Core.Path.{_≡_};
+ghost use Prim.Native.Nat.{_<_, _≤_};
+ghost use lib.ListN.{length};
+ghost use Rattle.ledger.specs.Steps.{heldOf, appended, filled};
+ghost use Rattle.ledger.specs.Release.{closedUp};
+
+// The lent records by value, clear ones where there are not 64.
+pub struct Held {
+    pub sized: bool,
+    pub records: [Record; 64],
+}
+
+pub(crate) fn load(records: &[Record]) -> Held
+    ensures { λ r. ⌜ r ≡ heldOf (now (records .entry)) ⌝ }
+{
+    let mut list = [Record {
+        number: PathNumber(0),
+        rate: Rate(0),
+        links: 0,
+    }; 64];
+    if records.len() != crate::RECORDS {
+        return Held {
+            sized: false,
+            records: list,
+        };
+    }
+    let mut j: usize = 0;
+    while j < crate::RECORDS {
+        list[j] = records[j];
+        j += 1;
+    }
+    Held {
+        sized: true,
+        records: list,
+    }
+}
+
+// One more record, behind those that stand. 64 is no place, and nothing is written there.
+pub(crate) fn append(records: &mut [Record], at: usize, entry: Record)
+    requires { ⌜ (at < 64 → length (now records) ≡ 64) ⌝ }
+    ensures { λ r. ⌜ now (records .exit) ≡ appended (now (records .entry)) at entry ⌝ }
+{
+    if at < crate::RECORDS {
+        records[at] = entry;
+    }
+}
+
+// The records behind a place move up by one, and the last is the given one. 64 is no place, and nothing moves.
+pub(crate) fn close_up(records: &mut [Record], at: usize, last: Record)
+    requires { ⌜ (at < 64 → length (now records) ≡ 64) ⌝ }
+    ensures { λ r. ⌜ now (records .exit) ≡ closedUp (now (records .entry)) at last ⌝ }
+{
+    let mut j = at;
+    while j < crate::LAST {
+        records[j] = records[j + 1];
+        j += 1;
+    }
+    if at < crate::RECORDS {
+        records[crate::LAST] = last;
+    }
+}
+
+// The first so many records are the given one.
+pub(crate) fn fill(records: &mut [Record], count: usize, with: Record)
+    requires { ⌜ count ≤ length (now records) ⌝ }
+    ensures { λ r. ⌜ now (records .exit) ≡ filled (now (records .entry)) count with ⌝ }
+{
+    let mut j: usize = 0;
+    while j < count {
+        records[j] = with;
+        j += 1;
+    }
+}

@@ -1,0 +1,87 @@
+// Release of a path (document 01, sections 6 and 7).
+
+use crate::Ledger;
+use crate::Record;
+use crate::no_record;
+use crate::records::Held;
+use crate::records::close_up;
+use crate::records::load;
+use crate::test::find;
+use crate::test::test;
+use quantity::CheckedPathNumber;
+use quantity::PathNumber;
+use quantity::refusal::Refusal;
+use sheet::read::Verdict;
+ghost use mathlib.Core.Path.{_≡_};
+ghost use Rattle.ledger.specs.Release.{releasedOf, recordsReleased};
+ghost use Rattle.ledger.specs.Steps.{heldRecords, refusedReleasing, releasingOf};
+
+// The ledger without the path. Beside a refusal it is as it was.
+pub struct Released {
+    pub verdict: Verdict,
+    pub ledger: Ledger,
+}
+
+// What is decided: the answer, the place to close up, 64 where there is none, and the clear record.
+pub struct Releasing {
+    pub released: Released,
+    pub at: usize,
+    pub last: Record,
+}
+
+// Releases the path of a number, or answers refusal 1 or 10.
+pub fn release(ledger: Ledger, records: &mut [Record], number: u32) -> Released
+    ensures { λ r. ⌜ (r ≡ releasedOf ledger (now (records .entry)) number) × (now (records .exit) ≡ recordsReleased ledger (now (records .entry)) number) ⌝ }
+{
+    let held = load(records);
+    let releasing = decide(ledger, held, number);
+    let at = releasing.at;
+    let last = releasing.last;
+    close_up(records, at, last);
+    releasing.released
+}
+
+fn decide(ledger: Ledger, held: Held, number: u32) -> Releasing
+    ensures { λ r. ⌜ r ≡ releasingOf ledger (heldRecords held) number ⌝ }
+{
+    match PathNumber::checked(number) {
+        CheckedPathNumber::OutOfRange => refused(ledger, Refusal::Unusable),
+        CheckedPathNumber::InRange(number) => {
+            let tested = test(ledger, held);
+            if !tested.usable {
+                return refused(ledger, Refusal::Unusable);
+            }
+            let count = ledger.count;
+            let numbers = tested.numbers;
+            let at = find(&numbers[0..count], number.0);
+            if at == count {
+                return refused(ledger, Refusal::PathNumberWrong);
+            }
+            let capacities = ledger.capacities;
+            let released = Released {
+                verdict: Verdict::Accepted,
+                ledger: Ledger {
+                    capacities,
+                    count: count - 1,
+                },
+            };
+            let last = no_record();
+            Releasing { released, at, last }
+        }
+    }
+}
+
+fn refused(ledger: Ledger, why: Refusal) -> Releasing
+    ensures { λ r. ⌜ r ≡ refusedReleasing ledger why ⌝ }
+{
+    let released = Released {
+        verdict: Verdict::Refused(why),
+        ledger,
+    };
+    let last = no_record();
+    Releasing {
+        released,
+        at: crate::RECORDS,
+        last,
+    }
+}

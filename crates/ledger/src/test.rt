@@ -1,0 +1,201 @@
+// The first step of every call: each stored value is tested once (document 01, section 7, 1).
+
+use crate::Ledger;
+use crate::Record;
+use crate::records::Held;
+use quantity::LinkCapacity;
+use quantity::Rate;
+ghost use mathlib.Core.Path.{_≡_};
+ghost use mathlib.Core.Bool.{true};
+ghost use Prim.Native.Nat.{_≤_};
+ghost use lib.ListN.{length, getD};
+ghost use lib.Dec.{leb};
+ghost use Rattle.quantity.specs.Choice.{pick};
+ghost use Rattle.quantity.specs.Sums.{every, listOf};
+ghost use Rattle.ledger.specs.Records.{recordAt, numberAt, placeAmong, allDiffer};
+ghost use Rattle.ledger.specs.Ledgers.{linkCount, recordCount, recordInRange, recordClear, recordFits, capacitiesFit};
+ghost use Rattle.ledger.specs.Steps.{heldRecords, rateAt, charged, reservedRates, notTested, testedOf};
+
+// Whether what is lent and stored can be used; then the records' numbers, and each link's reserved total.
+pub struct Tested {
+    pub usable: bool,
+    pub numbers: [u32; 64],
+    pub reserved: [Rate; 16],
+}
+
+pub(crate) fn test(ledger: Ledger, held: Held) -> Tested
+    ensures { λ r. ⌜ r ≡ testedOf ledger (heldRecords held) ⌝ }
+{
+    let count = ledger.count;
+    if !held.sized {
+        return not_tested();
+    }
+    if crate::RECORDS < count {
+        return not_tested();
+    }
+    let capacities = ledger.capacities;
+    if !capacities_fit(capacities) {
+        return not_tested();
+    }
+    let records = held.records;
+    if !records_fit(records, count) {
+        return not_tested();
+    }
+    let numbers = numbers_of(records);
+    if !all_differ(&numbers[0..count]) {
+        return not_tested();
+    }
+    let reserved = reserve(records, count);
+    if !links_fit(capacities, reserved) {
+        return not_tested();
+    }
+    Tested {
+        usable: true,
+        numbers,
+        reserved,
+    }
+}
+
+fn not_tested() -> Tested
+    ensures { λ r. ⌜ r ≡ notTested ⌝ }
+{
+    let none = Rate(0);
+    let reserved = [none; 16];
+    Tested {
+        usable: false,
+        numbers: [0; 64],
+        reserved,
+    }
+}
+
+fn capacities_fit(capacities: [LinkCapacity; 16]) -> bool
+    ensures { λ r. ⌜ r ≡ capacitiesFit (λ link. getD capacities link (record { 0 = 0 }) .0) ⌝ }
+{
+    let mut link = 0;
+    while link < crate::LINKS {
+        let capacity = capacities[link];
+        if !capacity.in_range() {
+            return false;
+        }
+        link += 1;
+    }
+    true
+}
+
+// A record that stands has its values in their ranges, and any other is 0.
+fn record_fits(entry: Record, standing: bool) -> bool
+    ensures { λ r. ⌜ r ≡ pick standing (recordInRange entry) (recordClear entry) ⌝ }
+{
+    let number = entry.number;
+    let rate = entry.rate;
+    if standing {
+        number.in_range() && rate.in_range() && entry.links <= 65535
+    } else {
+        number.0 == 0 && rate.0 == 0 && entry.links == 0
+    }
+}
+
+fn records_fit(records: [Record; 64], count: usize) -> bool
+    ensures { λ r. ⌜ r ≡ every (recordFits count records) recordCount ⌝ }
+{
+    let mut j = 0;
+    while j < crate::RECORDS {
+        let entry = records[j];
+        if !record_fits(entry, j < count) {
+            return false;
+        }
+        j += 1;
+    }
+    true
+}
+
+fn numbers_of(records: [Record; 64]) -> [u32; 64]
+    ensures { λ r. ⌜ r ≡ listOf (numberAt records) recordCount ⌝ }
+{
+    let mut numbers = [0; 64];
+    let mut j = 0;
+    while j < crate::RECORDS {
+        let entry = records[j];
+        let number = entry.number;
+        numbers[j] = number.0;
+        j += 1;
+    }
+    numbers
+}
+
+// The first place of a number, or how many there are where it is not among them.
+pub(crate) fn find(numbers: &[u32], number: u32) -> usize
+    ensures { λ r. ⌜ r ≡ placeAmong (λ j. getD (now (numbers .entry)) j 0) (length (now (numbers .entry))) number ⌝ }
+{
+    let mut j = 0;
+    while j < numbers.len() {
+        if numbers[j] == number {
+            return j;
+        }
+        j += 1;
+    }
+    j
+}
+
+fn all_differ(numbers: &[u32]) -> bool
+    ensures { λ r. ⌜ r ≡ allDiffer (λ j. getD (now (numbers .entry)) j 0) (length (now (numbers .entry))) ⌝ }
+{
+    let mut j = 0;
+    while j < numbers.len() {
+        let number = numbers[j];
+        if find(&numbers[0..j], number) < j {
+            return false;
+        }
+        j += 1;
+    }
+    true
+}
+
+// Each link's sum with a record's share: its rate on the links that its bits name.
+fn charge(rates: [Rate; 16], entry: Record) -> [Rate; 16]
+    ensures { λ r. ⌜ r ≡ charged rates entry ⌝ }
+{
+    let mut sums = rates;
+    let mut bits = entry.links;
+    let mut link = 0;
+    while link < crate::LINKS {
+        let sum = sums[link];
+        let share = if bits % 2 == 1 { entry.rate } else { Rate(0) };
+        sums[link] = sum.plus(share);
+        bits /= 2;
+        link += 1;
+    }
+    sums
+}
+
+// The reserved total of each link.
+fn reserve(records: [Record; 64], count: usize) -> [Rate; 16]
+    requires { ⌜ (count ≤ recordCount) × (every (recordFits count records) recordCount ≡ true) ⌝ }
+    ensures { λ r. ⌜ r ≡ reservedRates records count ⌝ }
+{
+    let none = Rate(0);
+    let mut rates = [none; 16];
+    let mut j = 0;
+    while j < count {
+        let entry = records[j];
+        let charged = charge(rates, entry);
+        rates = charged;
+        j += 1;
+    }
+    rates
+}
+
+fn links_fit(capacities: [LinkCapacity; 16], reserved: [Rate; 16]) -> bool
+    ensures { λ r. ⌜ r ≡ every (λ link. leb (rateAt reserved link .0) (getD capacities link (record { 0 = 0 }) .0)) linkCount ⌝ }
+{
+    let mut link = 0;
+    while link < crate::LINKS {
+        let sum = reserved[link];
+        let capacity = capacities[link];
+        if capacity.0 < sum.0 {
+            return false;
+        }
+        link += 1;
+    }
+    true
+}
