@@ -5,10 +5,13 @@ use Rattle.replay.proofs.main.Statement.{statement}
 use Rattle.replay.proofs.main.Tie as tie
 
 abbrev Inv-loop : tie.InvT-loop
-Inv-loop words₀ line₀ replay₀ turns₀ words line replay turns = replay .length ≤ 1023
+Inv-loop words₀ block₀ line₀ input₀ replay₀ turns₀ words block line input replay turns = input .length ≤ 1023
 
 abbrev μ-loop : tie.MeasureT-loop
-μ-loop words₀ line₀ replay₀ turns₀ words line replay turns = turns
+μ-loop words₀ block₀ line₀ input₀ replay₀ turns₀ words block line input replay turns = turns
+
+begin-requires : tie.Need-begin-requires Inv-loop μ-loop
+begin-requires c κs = search needs
 
 no-run-requires : tie.Need-no-run-requires Inv-loop μ-loop
 no-run-requires c κs = search needs
@@ -16,8 +19,11 @@ no-run-requires c κs = search needs
 loop-holds : tie.Need-loop-holds Inv-loop μ-loop
 loop-holds c = search needs
 
-take-input-requires : tie.Need-take-input-requires Inv-loop μ-loop
-take-input-requires c κs = search needs
+advance-requires : tie.Need-advance-requires Inv-loop μ-loop
+advance-requires c κs = search needs
+
+end-line-requires : tie.Need-end-line-requires Inv-loop μ-loop
+end-line-requires c κs = search needs
 
 sub-turns : tie.Need-sub-turns Inv-loop μ-loop
 sub-turns c = search needs
@@ -34,17 +40,23 @@ returns c = search needs
 returns-2 : tie.Need-returns-2 Inv-loop μ-loop
 returns-2 c = search needs
 
+returns-3 : tie.Need-returns-3 Inv-loop μ-loop
+returns-3 c = search needs
+
 pub main-spec : {M : Type 1} → statement M
 main-spec =
     tie.close
     (tie.spec
     Inv-loop
     μ-loop
+    begin-requires
     no-run-requires
     loop-holds
-    take-input-requires
+    advance-requires
+    end-line-requires
     sub-turns
     loop-less
     loop-again
     returns
-    returns-2)
+    returns-2
+    returns-3)

@@ -37,7 +37,7 @@ slice-aggregate-open-bytes : tie.Need-slice-aggregate-open-bytes
 slice-aggregate-open-bytes c = search needs
 
 open-bytes-requires : tie.Need-open-bytes-requires
-open-bytes-requires c κs = (c .before .before .before .before .before .before .before .before .before .pre, omega (arith, hexadecimal-within _ _ _ _ (sym (c .before .before .before .before .before .before .hexadecimal-from .ensures .0) ∙ c .before .before .before .n .given .1)))
+open-bytes-requires c κs = omega (arith, hexadecimal-within _ _ _ _ (sym (c .before .before .before .before .before .before .hexadecimal-from .ensures .0) ∙ c .before .before .before .n .given .1))
 
 returns : tie.Need-returns
 returns c = search needs

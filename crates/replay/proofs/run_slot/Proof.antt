@@ -48,7 +48,7 @@ slice-aggregate-run-numbers c = search needs
 run-numbers-requires : tie.Need-run-numbers-requires
 run-numbers-requires c κs =
     let counted = sym (c .before .before .before .before .before .before .decimals-from .ensures .0) ∙ c .before .before .before .n .given .1 in
-    (c .before .before .before .before .before .before .before .before .before .pre, (decimals-some _ _ _ _ counted, omega (arith, decimals-within _ _ _ _ counted)))
+    (decimals-some _ _ _ _ counted, omega (arith, decimals-within _ _ _ _ counted))
 
 returns : tie.Need-returns
 returns c = search needs

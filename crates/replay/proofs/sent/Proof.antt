@@ -10,29 +10,29 @@ Inv-loop slot words units count k₀ t13 t14 k = k ≤ 16
 abbrev μ-loop : tie.MeasureT-loop
 μ-loop slot words units count k₀ t13 t14 k = 16 - k
 
-slice-aggregate-print : tie.Need-slice-aggregate-print Inv-loop μ-loop
-slice-aggregate-print c = search needs
+slice-aggregate-text : tie.Need-slice-aggregate-text Inv-loop μ-loop
+slice-aggregate-text c = search needs
 
-print-requires : tie.Need-print-requires Inv-loop μ-loop
-print-requires c κs = search needs
+text-requires : tie.Need-text-requires Inv-loop μ-loop
+text-requires c κs = search needs
 
 number-requires : tie.Need-number-requires Inv-loop μ-loop
 number-requires c κs = search needs
 
-slice-aggregate-print-2 : tie.Need-slice-aggregate-print-2 Inv-loop μ-loop
-slice-aggregate-print-2 c = search needs
+slice-aggregate-text-2 : tie.Need-slice-aggregate-text-2 Inv-loop μ-loop
+slice-aggregate-text-2 c = search needs
 
-print-requires-2 : tie.Need-print-requires-2 Inv-loop μ-loop
-print-requires-2 c κs = search needs
+text-requires-2 : tie.Need-text-requires-2 Inv-loop μ-loop
+text-requires-2 c κs = search needs
 
 number-requires-2 : tie.Need-number-requires-2 Inv-loop μ-loop
 number-requires-2 c κs = search needs
 
-slice-aggregate-print-3 : tie.Need-slice-aggregate-print-3 Inv-loop μ-loop
-slice-aggregate-print-3 c = search needs
+slice-aggregate-text-3 : tie.Need-slice-aggregate-text-3 Inv-loop μ-loop
+slice-aggregate-text-3 c = search needs
 
-print-requires-3 : tie.Need-print-requires-3 Inv-loop μ-loop
-print-requires-3 c κs = search needs
+text-requires-3 : tie.Need-text-requires-3 Inv-loop μ-loop
+text-requires-3 c κs = search needs
 
 held-requires : tie.Need-held-requires Inv-loop μ-loop
 held-requires c κs = search needs
@@ -46,11 +46,11 @@ mul-here c = search needs
 array-copy-out-here : tie.Need-array-copy-out-here Inv-loop μ-loop
 array-copy-out-here c = search needs
 
-slice-aggregate-print-4 : tie.Need-slice-aggregate-print-4 Inv-loop μ-loop
-slice-aggregate-print-4 c = search needs
+slice-aggregate-text-4 : tie.Need-slice-aggregate-text-4 Inv-loop μ-loop
+slice-aggregate-text-4 c = search needs
 
-print-requires-4 : tie.Need-print-requires-4 Inv-loop μ-loop
-print-requires-4 c κs = search needs
+text-requires-4 : tie.Need-text-requires-4 Inv-loop μ-loop
+text-requires-4 c κs = search needs
 
 number-requires-3 : tie.Need-number-requires-3 Inv-loop μ-loop
 number-requires-3 c κs = search needs
@@ -64,11 +64,11 @@ loop-less c = search needs
 loop-again : tie.Need-loop-again Inv-loop μ-loop
 loop-again c = search needs
 
-slice-aggregate-print-5 : tie.Need-slice-aggregate-print-5 Inv-loop μ-loop
-slice-aggregate-print-5 c = search needs
+slice-aggregate-text-5 : tie.Need-slice-aggregate-text-5 Inv-loop μ-loop
+slice-aggregate-text-5 c = search needs
 
-print-requires-5 : tie.Need-print-requires-5 Inv-loop μ-loop
-print-requires-5 c κs = search needs
+text-requires-5 : tie.Need-text-requires-5 Inv-loop μ-loop
+text-requires-5 c κs = search needs
 
 returns : tie.Need-returns Inv-loop μ-loop
 returns c = search needs
@@ -79,24 +79,24 @@ sent-spec =
     (tie.spec
     Inv-loop
     μ-loop
-    slice-aggregate-print
-    print-requires
+    slice-aggregate-text
+    text-requires
     number-requires
-    slice-aggregate-print-2
-    print-requires-2
+    slice-aggregate-text-2
+    text-requires-2
     number-requires-2
-    slice-aggregate-print-3
-    print-requires-3
+    slice-aggregate-text-3
+    text-requires-3
     held-requires
     loop-holds
     mul-here
     array-copy-out-here
-    slice-aggregate-print-4
-    print-requires-4
+    slice-aggregate-text-4
+    text-requires-4
     number-requires-3
     add-k
     loop-less
     loop-again
-    slice-aggregate-print-5
-    print-requires-5
+    slice-aggregate-text-5
+    text-requires-5
     returns)

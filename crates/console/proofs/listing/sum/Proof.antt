@@ -1,8 +1,8 @@
 -- The index stays within the sixteen places.
 use Prim.Native.Nat.{_-_, _≤_}
 use borrow.Author.Needs.{needs}
-use Rattle.listing.proofs.sum.Statement.{statement}
-use Rattle.listing.proofs.sum.Tie as tie
+use Rattle.console.proofs.listing.sum.Statement.{statement}
+use Rattle.console.proofs.listing.sum.Tie as tie
 
 abbrev Inv-loop : tie.InvT-loop
 Inv-loop figures capacity₀ k₀ capacity k = k ≤ 16

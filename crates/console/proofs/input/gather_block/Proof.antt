@@ -3,14 +3,14 @@ use mathlib.Core.Logic.{⊎-elim}
 use Prim.Native.Nat.{_≤_, _-_}
 use lib.ListN.{length}
 use borrow.Author.Needs.{needs}
-use Rattle.replay.proofs.take_block.Statement.{statement}
-use Rattle.replay.proofs.take_block.Tie as tie
+use Rattle.console.proofs.input.gather_block.Statement.{statement}
+use Rattle.console.proofs.input.gather_block.Tie as tie
 
 abbrev Inv-loop : tie.InvT-loop
-Inv-loop block line₀ words₀ next₀ k₀ line words next k = (k ≤ length block) × (next .length ≤ 1023)
+Inv-loop block line₀ next₀ at₀ line next at = next .length ≤ 1023
 
 abbrev μ-loop : tie.MeasureT-loop
-μ-loop block line₀ words₀ next₀ k₀ line words next k = length block - k
+μ-loop block line₀ next₀ at₀ line next at = length block - at
 
 loop-holds : tie.Need-loop-holds Inv-loop μ-loop
 loop-holds c = search needs
@@ -18,20 +18,20 @@ loop-holds c = search needs
 shared-slice-read-byte : tie.Need-shared-slice-read-byte Inv-loop μ-loop
 shared-slice-read-byte c = search needs
 
-end-line-requires : tie.Need-end-line-requires Inv-loop μ-loop
-end-line-requires c κs = search needs
+wrapping-add-u64-requires : tie.Need-wrapping-add-u64-requires Inv-loop μ-loop
+wrapping-add-u64-requires c κs = search needs
 
 gather-byte-requires : tie.Need-gather-byte-requires Inv-loop μ-loop
 gather-byte-requires c κs = search needs
 
-add-k : tie.Need-add-k Inv-loop μ-loop
-add-k c = search needs
+add-at : tie.Need-add-at Inv-loop μ-loop
+add-at c = search needs
 
 loop-less : tie.Need-loop-less Inv-loop μ-loop
 loop-less c = search needs
 
 loop-again : tie.Need-loop-again Inv-loop μ-loop
-loop-again c = (search needs, ⊎-elim (λ w. rw (w .7) (w .4 .ensures)) (λ w. rw (w .5) (w .2 .ensures)) (c .if2 .came))
+loop-again c = ⊎-elim (λ w. rw (w .3) (search needs)) (λ w. rw (w .4) (w .2 .ensures)) (c .if2 .came)
 
 returns : tie.Need-returns Inv-loop μ-loop
 returns c = search needs
@@ -39,17 +39,17 @@ returns c = search needs
 returns-2 : tie.Need-returns-2 Inv-loop μ-loop
 returns-2 c = search needs
 
-pub take-block-spec : {M : Type 1} → statement M
-take-block-spec =
+pub gather-block-spec : {M : Type 1} → statement M
+gather-block-spec =
     tie.close
     (tie.spec
     Inv-loop
     μ-loop
     loop-holds
     shared-slice-read-byte
-    end-line-requires
+    wrapping-add-u64-requires
     gather-byte-requires
-    add-k
+    add-at
     loop-less
     loop-again
     returns

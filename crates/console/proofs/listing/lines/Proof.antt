@@ -1,8 +1,8 @@
 -- The index stays within the sixteen places.
 use Prim.Native.Nat.{_-_, _≤_}
 use borrow.Author.Needs.{needs}
-use Rattle.listing.proofs.lines.Statement.{statement}
-use Rattle.listing.proofs.lines.Tie as tie
+use Rattle.console.proofs.listing.lines.Statement.{statement}
+use Rattle.console.proofs.listing.lines.Tie as tie
 
 abbrev Inv-loop : tie.InvT-loop
 Inv-loop figures places count k₀ k = k ≤ 16

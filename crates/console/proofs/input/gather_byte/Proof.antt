@@ -3,8 +3,8 @@ use mathlib.Core.Path.{sym, _∙_}
 use native.Mathlib.Omega.{arith}
 use Rattle.text.proofs.Answers.{gathered-within}
 use borrow.Author.Needs.{needs}
-use Rattle.replay.proofs.gather_byte.Statement.{statement}
-use Rattle.replay.proofs.gather_byte.Tie as tie
+use Rattle.console.proofs.input.gather_byte.Statement.{statement}
+use Rattle.console.proofs.input.gather_byte.Tie as tie
 
 gather-requires : tie.Need-gather-requires
 gather-requires c κs = search needs
