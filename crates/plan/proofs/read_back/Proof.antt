@@ -1,0 +1,68 @@
+-- The bytes that were read are within the 512.
+use mathlib.Core.Path.{sym, _∙_}
+use native.Mathlib.Omega.{arith}
+use Rattle.text.proofs.Answers.{hexadecimal-within}
+use borrow.Author.Needs.{needs}
+use Rattle.plan.proofs.read_back.Statement.{statement}
+use Rattle.plan.proofs.read_back.Tie as tie
+
+slice-aggregate-hexadecimal-from : tie.Need-slice-aggregate-hexadecimal-from
+slice-aggregate-hexadecimal-from c = search needs
+
+hexadecimal-from-requires : tie.Need-hexadecimal-from-requires
+hexadecimal-from-requires c κs = search needs
+
+enum-told : tie.Need-enum-told
+enum-told c = search needs
+
+slice-aggregate-error : tie.Need-slice-aggregate-error
+slice-aggregate-error c = search needs
+
+error-requires : tie.Need-error-requires
+error-requires c κs = search needs
+
+enum-told-2 : tie.Need-enum-told-2
+enum-told-2 c = search needs
+
+slice-aggregate-error-2 : tie.Need-slice-aggregate-error-2
+slice-aggregate-error-2 c = search needs
+
+error-requires-2 : tie.Need-error-requires-2
+error-requires-2 c κs = search needs
+
+enum-known-n : tie.Need-enum-known-n
+enum-known-n c = search needs
+
+slice-aggregate-write-back : tie.Need-slice-aggregate-write-back
+slice-aggregate-write-back c = search needs
+
+write-back-requires : tie.Need-write-back-requires
+write-back-requires c κs = omega (arith, hexadecimal-within _ _ _ _ (sym (c .before .before .before .before .before .hexadecimal-from .ensures .0) ∙ c .before .before .n .given .1))
+
+returns : tie.Need-returns
+returns c = search needs
+
+returns-2 : tie.Need-returns-2
+returns-2 c = search needs
+
+returns-3 : tie.Need-returns-3
+returns-3 c = search needs
+
+pub read-back-spec : {M : Type 1} → statement M
+read-back-spec =
+    tie.close
+    (tie.spec
+    slice-aggregate-hexadecimal-from
+    hexadecimal-from-requires
+    enum-told
+    slice-aggregate-error
+    error-requires
+    enum-told-2
+    slice-aggregate-error-2
+    error-requires-2
+    enum-known-n
+    slice-aggregate-write-back
+    write-back-requires
+    returns
+    returns-2
+    returns-3)

@@ -1,0 +1,64 @@
+// The ledger's calls over records by value: each lends them and hands them back.
+
+use ledger::Ledger;
+use ledger::Record;
+use ledger::admission::Admission;
+use ledger::admission::admit;
+use ledger::opening::Opened;
+use ledger::opening::open;
+use ledger::release::Released;
+use ledger::release::release;
+use ledger::spare::Spare;
+use ledger::spare::spare_rate;
+
+pub struct NewBook {
+    pub opened: Opened,
+    pub records: [Record; 64],
+}
+
+pub struct AdmittedPath {
+    pub admission: Admission,
+    pub records: [Record; 64],
+}
+
+pub struct ReleasedPath {
+    pub released: Released,
+    pub records: [Record; 64],
+}
+
+pub(crate) fn open_book(capacities: [u32; 16], records: [Record; 64]) -> NewBook {
+    let mut lent = records;
+    let opened = open(capacities, &mut lent);
+    NewBook {
+        opened,
+        records: lent,
+    }
+}
+
+pub(crate) fn admit_path(
+    ledger: Ledger,
+    records: [Record; 64],
+    number: u32,
+    sheet: &[u8],
+) -> AdmittedPath {
+    let mut lent = records;
+    let admission = admit(ledger, &mut lent, number, sheet);
+    AdmittedPath {
+        admission,
+        records: lent,
+    }
+}
+
+pub(crate) fn release_path(ledger: Ledger, records: [Record; 64], number: u32) -> ReleasedPath {
+    let mut lent = records;
+    let released = release(ledger, &mut lent, number);
+    ReleasedPath {
+        released,
+        records: lent,
+    }
+}
+
+pub(crate) fn spare_on(ledger: Ledger, records: [Record; 64], link: u32) -> Spare {
+    let lent = records;
+    spare_rate(ledger, &lent, link)
+}
