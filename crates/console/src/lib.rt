@@ -1,5 +1,6 @@
-// What the text programs share: the lines of standard input, and what is printed.
+// What the text programs share: the lines of standard input, the numbers of a command, and what is printed.
 
 pub mod input;
 pub mod listing;
+pub mod numbers;
 pub mod print;

@@ -8,6 +8,8 @@ use console::input::Input;
 use console::input::advance;
 use console::input::begin;
 use console::listing::list;
+use console::numbers::narrow;
+use console::numbers::numbers_of;
 use console::print::error;
 use console::print::hexadecimal;
 use console::print::number;
@@ -25,9 +27,7 @@ use sheet::read::read;
 use sheet::write::Written;
 use sheet::write::write;
 use text::decimal::Decimal;
-use text::decimal::Decimals;
 use text::decimal::decimal_at;
-use text::decimal::decimals_from;
 use text::hexadecimal::Hexadecimal;
 use text::hexadecimal::hexadecimal_from;
 use text::line::starts_with;
@@ -110,50 +110,6 @@ fn answer_line(book: Book, lines: u64, command: &[u8]) -> Book {
     }
     error(lines, b"unknown command");
     book
-}
-
-// The numbers of a command from an index on, as many as are wanted; else the line is an error.
-struct Numbers {
-    given: bool,
-    first: u64,
-    second: u64,
-}
-
-fn numbers_of(lines: u64, command: &[u8], from: usize, wanted: usize) -> Numbers {
-    let mut numbers = [0u64; 2];
-    match decimals_from(command, from, &mut numbers) {
-        Decimals::NotANumber => error(lines, b"not a number"),
-        Decimals::TooLarge => error(lines, b"number too large"),
-        Decimals::TooMany => error(lines, b"too many numbers"),
-        Decimals::Count(n) => {
-            if n == wanted {
-                return Numbers {
-                    given: true,
-                    first: numbers[0],
-                    second: numbers[1],
-                };
-            }
-            if n < wanted {
-                error(lines, b"too few numbers");
-            } else {
-                error(lines, b"too many numbers");
-            }
-        }
-    }
-    Numbers {
-        given: false,
-        first: 0,
-        second: 0,
-    }
-}
-
-// A number as the ledger takes it. What 32 bits do not hold is out of every range, as their largest number is.
-fn narrow(n: u64) -> u32 {
-    if n <= u32::MAX as u64 {
-        n as u32
-    } else {
-        u32::MAX
-    }
 }
 
 // `capacity LINK CAPACITY`, before the first admission: the ledger is opened anew.

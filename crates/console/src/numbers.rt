@@ -1,0 +1,54 @@
+// The numbers of a command.
+
+use crate::print::error;
+use text::decimal::Decimals;
+use text::decimal::decimals_from;
+ghost use mathlib.Core.Path.{_≡_};
+ghost use Prim.Native.Nat.{min};
+
+// The numbers of a command, one or two; of one, the second is 0.
+pub struct Numbers {
+    pub given: bool,
+    pub first: u64,
+    pub second: u64,
+}
+
+// The numbers of a command from an index on, as many as are wanted; else the line is an error.
+pub fn numbers_of(lines: u64, command: &[u8], from: usize, wanted: usize) -> Numbers {
+    let mut numbers = [0u64; 2];
+    match decimals_from(command, from, &mut numbers) {
+        Decimals::NotANumber => error(lines, b"not a number"),
+        Decimals::TooLarge => error(lines, b"number too large"),
+        Decimals::TooMany => error(lines, b"too many numbers"),
+        Decimals::Count(n) => {
+            if n == wanted {
+                return Numbers {
+                    given: true,
+                    first: numbers[0],
+                    second: numbers[1],
+                };
+            }
+            if n < wanted {
+                error(lines, b"too few numbers");
+            } else {
+                error(lines, b"too many numbers");
+            }
+        }
+    }
+    Numbers {
+        given: false,
+        first: 0,
+        second: 0,
+    }
+}
+
+// A number as a quantity of 32 bits takes it. What these do not hold is out of every range, as their largest number is.
+pub fn narrow(n: u64) -> u32
+    ensures { λ r. ⌜ r ≡ min n 4_294_967_295 ⌝ }
+{
+    if n <= u32::MAX as u64 {
+        n as u32
+    } else {
+        u32::MAX
+    }
+}
