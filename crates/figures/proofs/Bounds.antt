@@ -1,5 +1,5 @@
 -- Section 4's numbers fit their words: what is carried stays within its bounds behind every operator that is not refused, and no delay is above its class's burst and its slots.
-use Prim.Native.Nat.{ℕ, _+_, _*_, _≤_, min}
+use Prim.Native.Nat.{ℕ, _+_, _*_, _≤_, min, _-_}
 use mathlib.Core.Path.{_≡_, sym, ap, subst, _∙_}
 use mathlib.Core.Bool.{Bool, true, false}
 use native.Mathlib.Nat.{le-trans, le-mul-of-pos-right, mul-le-mul, mul-le-mul-left, mul-comm, le-min, min-le-left}
@@ -114,6 +114,16 @@ unfolding partDelay
 delayer-delay-of c e d unfiltered = omega arith
 delayer-delay-of c e d (filtered P) = omega arith
 
+delayer-adds-of : (c : Class) (e d : ℕ) (P : Slowest) → partDelay c (e + d) P - partDelay c e P ≡ d
+unfolding partDelay
+delayer-adds-of c e d unfiltered = omega arith
+delayer-adds-of c e d (filtered P) = omega arith
+
+-- a delayer adds its own slots
+pub delayer-delay : (p : Progress) (d : Delay) → delayOfPart (behind p (Delayer d)) - delayOfPart p ≡ d .0
+unfolding behind
+delayer-delay p d = delayer-adds-of (p .class) (p .e) (d .0) (p .slowest)
+
 -- no filter or delayer takes from the delay of its part
 filter-delays : (longest : ℕ) (p : Progress) (R : Rate) → Within longest p → numberInRange (Filter R) ≡ true → delayOfPart p ≤ delayOfPart (behind p (Filter R))
 unfolding numberInRange behind
@@ -123,19 +133,13 @@ delayer-delays : (p : Progress) (d : Delay) → delayOfPart p ≤ delayOfPart (b
 unfolding behind
 delayer-delays p d = delayer-delay-of (p .class) (p .e) (d .0) (p .slowest)
 
--- what is known of a progress and of what it becomes behind a filter or a delayer
+-- what is known of a progress and of what it becomes behind a filter
 module _ {p after : Progress} {op : Operator} where
   pub filter-adds : {R : Rate} → op ≡ Filter R → after ≡ behind p (Filter R) → Within mostBefore p → numberInRange op ≡ true → Within mostWith p × (Within mostWith after × (delayOfPart p ≤ delayOfPart after))
   unfolding changedQuota
   filter-adds e f within inside =
       subst (λ (q : Progress). Within mostWith p × (Within mostWith q × (delayOfPart p ≤ delayOfPart q))) (sym f)
       (within-le {shorter = mostBefore} (omega arith) within, (with-within _ _ within (inside-of e inside) (omega arith), filter-delays mostBefore p _ within (inside-of e inside)))
-
-  pub delayer-adds : {d : Delay} → op ≡ Delayer d → after ≡ behind p (Delayer d) → Within mostBefore p → numberInRange op ≡ true → Within mostWith p × (Within mostWith after × (delayOfPart p ≤ delayOfPart after))
-  unfolding changedQuota
-  delayer-adds e f within inside =
-      subst (λ (q : Progress). Within mostWith p × (Within mostWith q × (delayOfPart p ≤ delayOfPart q))) (sym f)
-      (within-le {shorter = mostBefore} (omega arith) within, (with-within _ _ within (inside-of e inside) (omega arith), delayer-delays p _))
 
 paired-delay : (paired : Bool) (n : ℕ) → n ≤ 1024 → pick paired 0 n ≤ 1024
 paired-delay true n small = omega arith

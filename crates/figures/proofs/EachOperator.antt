@@ -37,7 +37,7 @@ use Rattle.figures.specs.declared.PathFigures.{PathFigures}
 use Rattle.figures.specs.declared.carried.Carried.{Carried}
 use Rattle.figures.specs.declared.each.Planned.{Planned}
 use Rattle.figures.specs.Progress.{Progress, start, behind, progressAt}
-use Rattle.figures.specs.Figures.{changedQuota, figureTooLarge, largestChangedQuota}
+use Rattle.figures.specs.Figures.{capacity, changedQuota, figureTooLarge, largestChangedQuota}
 use Rattle.figures.specs.Answers.{operatorAt, before, pairedAt, capacityAt, delayAt, operatorCases, operatorsCases, lineCases, figureAt, noFigure, figureIn, pathDelay, refusedFigures}
 use Rattle.figures.specs.Carried.{progressIn, Within, mostBefore, plannedOf, PathWithin, figuresOfPath}
 use Rattle.figures.proofs.Bounds.{in-range, within-le, behind-within, own-delay-bound}
@@ -187,6 +187,11 @@ module _ {line : Line} {k : ℕ} {carried : Carried} {figures : List Figure} {de
       g
       ∙ ap (λ (p : Progress). plannedOf p op paired k) (walked .carries)
       ∙ ap₂ (λ (op : Operator) (paired : Bool). plannedOf (before line k) op paired k) e f
+
+  -- and its capacity is that of what is carried
+  pub walked-capacity : {op : Operator} {figure : Figure} → op ≡ operatorAt line k → Planned.Fits figure ≡ plannedAt line k → figure .capacity .0 ≡ capacity (progressIn carried) op
+  unfolding figureAt capacityAt
+  walked-capacity e planned = ap (λ (f : Figure). f .capacity .0) (fits-figure line k planned) ∙ ap₂ capacity (sym (walked .carries)) (sym e)
 
   figure-next : {figure : Figure} → figure ≡ figureAt line k → k < 16 → (j : ℕ) → j < 16 → (t : Bool) → eqb j k ≡ t → getD (set figures k figure) j noFigure ≡ figureUpTo line (k + 1) j
   unfolding figureUpTo

@@ -2,7 +2,6 @@
 
 use crate::class::FlowClass;
 use crate::class::burst;
-use crate::class::changed_quota;
 use crate::class::most_in;
 use crate::class::round_up;
 use crate::class::wide;
@@ -22,7 +21,7 @@ ghost use Rattle.operator.specs.Metering.{classOf};
 ghost use Rattle.operator.specs.Operators.{numberInRange};
 ghost use Rattle.operator.specs.declared.Operator.the-variants.{Filter, Delayer};
 ghost use Rattle.figures.specs.Progress.{start, behind};
-ghost use Rattle.figures.specs.Figures.{capacityOfPart, delayOfPart};
+ghost use Rattle.figures.specs.Figures.{capacityOfPart, delayOfPart, capacity};
 ghost use Rattle.figures.specs.Carried.{slowestIn, progressIn, Within, mostBefore, mostWith};
 
 // P, the least filter rate so far, if a filter has come.
@@ -109,16 +108,15 @@ pub(crate) fn behind_delayer(carried: Carried, delay: Delay) -> Carried
     }
 }
 
-// Behind an operator.
-pub(crate) fn behind(carried: Carried, operator: Operator) -> Carried
-    requires { ⌜ Within mostBefore (progressIn carried) × (numberInRange operator ≡ true) ⌝ }
+// Behind an operator of this capacity, which is the changed quota where the operator changes the interval.
+pub(crate) fn behind(carried: Carried, operator: Operator, most: Units) -> Carried
+    requires { ⌜ Within mostBefore (progressIn carried) × (numberInRange operator ≡ true) × (most .0 ≡ capacity (progressIn carried) operator) ⌝ }
     ensures { λ r. ⌜ progressIn r ≡ behind (progressIn carried) operator ⌝ }
 {
-    let class = carried.class;
     match operator {
         Operator::Limiter(rate) => framed(Kind::Uniform, Interval(1), Units(wide(rate.0))),
-        Operator::Compactor(n) => framed(Kind::Uniform, n, changed_quota(class, n)),
-        Operator::Expander(n) => framed(Kind::Smooth, n, changed_quota(class, n)),
+        Operator::Compactor(n) => framed(Kind::Uniform, n, most),
+        Operator::Expander(n) => framed(Kind::Smooth, n, most),
         Operator::Filter(rate) => behind_filter(carried, rate),
         Operator::Delayer(delay) => behind_delayer(carried, delay),
     }

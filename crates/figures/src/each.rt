@@ -21,6 +21,7 @@ ghost use mathlib.Core.Bool.{true};
 ghost use Prim.Native.Nat.{_-_, _*_, _≤_};
 ghost use lib.Dec.{ltb};
 ghost use Rattle.operator.specs.Operators.{numberInRange};
+ghost use Rattle.figures.specs.Progress.{Progress};
 ghost use Rattle.figures.specs.Figures.{capacity, delayOfPart, ownDelay, pairs, isFramed, framedAfterFilter, changedQuota, figureTooLarge, rateTooLow};
 ghost use Rattle.figures.specs.Carried.{progressIn, Within, mostBefore, mostWith, plannedOf};
 
@@ -68,7 +69,7 @@ fn own_delay(carried: Carried, operator: Operator, paired: bool) -> Slots
         Operator::Compactor(n) => Slots(n.0),
         Operator::Expander(n) => { if paired { Slots(0) } else { Slots(n.0) } }
         Operator::Filter(rate) => added(carried, behind_filter(carried, rate)),
-        Operator::Delayer(delay) => added(carried, behind_delayer(carried, delay)),
+        Operator::Delayer(delay) => Slots(delay.0),
     }
 }
 
@@ -115,30 +116,27 @@ fn framed_after_filter(carried: Carried, operator: Operator) -> bool
     }
 }
 
-// The quota of a change of interval, where the operator changes it.
-fn operators_quota(carried: Carried, operator: Operator) -> Units
-    requires { ⌜ Within mostBefore (progressIn carried) × (numberInRange operator ≡ true) ⌝ }
-    ensures { λ r. ⌜ r .0 ≡ changedQuota (progressIn carried) operator ⌝ }
+// The quota of a change of interval, where the operator changes it: that is its capacity then.
+fn operators_quota(most: Units, operator: Operator) -> Units
+    ensures { λ r. ⌜ ((p : Progress) → most .0 ≡ capacity p operator → r .0 ≡ changedQuota p operator) ⌝ }
 {
-    let class = carried.class;
     match operator {
         Operator::Limiter(_) => Units(0),
-        Operator::Compactor(n) => changed_quota(class, n),
-        Operator::Expander(n) => changed_quota(class, n),
+        Operator::Compactor(_) => most,
+        Operator::Expander(_) => most,
         Operator::Filter(_) => Units(0),
         Operator::Delayer(_) => Units(0),
     }
 }
 
-// 7
-fn figure_too_large(carried: Carried, operator: Operator) -> bool
-    requires { ⌜ Within mostBefore (progressIn carried) × (numberInRange operator ≡ true) ⌝ }
-    ensures { λ r. ⌜ r ≡ figureTooLarge (progressIn carried) operator ⌝ }
+// 7, of an operator's capacity
+fn figure_too_large(most: Units, operator: Operator) -> bool
+    ensures { λ r. ⌜ ((p : Progress) → most .0 ≡ capacity p operator → r ≡ figureTooLarge p operator) ⌝ }
 {
-    if LARGEST_CHANGED_QUOTA < operators_quota(carried, operator).0 {
+    if LARGEST_CHANGED_QUOTA < operators_quota(most, operator).0 {
         true
     } else {
-        Units::LARGEST < capacity(carried, operator).0
+        Units::LARGEST < most.0
     }
 }
 
@@ -170,13 +168,13 @@ pub(crate) fn plan(carried: Carried, operator: Operator, paired: bool, k: usize)
     if framed_after_filter(carried, operator) {
         return Planned::Refused(Refusal::FramedAfterFilter(k));
     }
-    if figure_too_large(carried, operator) {
+    let most = capacity(carried, operator);
+    if figure_too_large(most, operator) {
         return Planned::Refused(Refusal::FigureTooLarge(k));
     }
     if rate_too_low(carried, operator) {
         return Planned::Refused(Refusal::RateTooLow(k));
     }
-    let most = capacity(carried, operator);
     let own = own_delay(carried, operator, paired);
     Planned::Fits(Figure {
         capacity: most,

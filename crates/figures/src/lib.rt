@@ -112,9 +112,9 @@ fn figures_of_path(path: Path) -> PathFigures
             Planned::Fits(figure) => {
                 figures[k] = figure;
                 delay = delay.plus(figure.delay);
+                carried = behind(carried, operator, figure.capacity);
             }
         }
-        carried = behind(carried, operator);
         k += 1;
     }
     if path.wanted.0 < delay.0 {

@@ -11,6 +11,7 @@ mod Misreadings
 pub mod Metering
 pub mod Keeping
 mod StoredLaws
+mod ScanLaws
 mod UsableMeter
 pub mod SingleLaws
 pub mod Stands
@@ -18,3 +19,4 @@ pub mod WithinLaws
 mod StepAnswers
 pub mod MeterWithinLaws
 mod MeterAnswers
+pub mod ReferenceUnits

@@ -9,10 +9,9 @@ use quantity::Units;
 ghost use mathlib.Core.Path.{_≡_};
 ghost use mathlib.Core.Bool.{not};
 ghost use mathlib.Core.List.{[], _∷_};
-ghost use Prim.Native.Nat.{_≤_};
+ghost use Prim.Native.Nat.{_*_, _/_, _≤_, _<_};
 ghost use lib.Dec.{ltb, eqb};
 ghost use lib.ListN.{length};
-ghost use Rattle.quantity.specs.Choice.{both};
 ghost use Rattle.quantity.specs.Sums.{total, every};
 ghost use Rattle.quantity.specs.Limits.{largestAmount, lastSlot};
 ghost use Rattle.operator.specs.Stored.{wordAt, storedFits, wordFits, anyOf};
@@ -84,26 +83,61 @@ pub struct SourceMeter {
     pub block: Units,
 }
 
-// Whether every lent word fits, of which the first so many are used, and the sum of the words: one pass.
+// Whether every lent word fits, of which the first so many are used, and the sum of the words.
 struct Scanned {
     fits: bool,
     units: u64,
 }
 
+// Words that are not used are all 0 if their sum is.
 fn scan(words: &[u32], used: usize) -> Scanned
     requires { ⌜ length (now words) ≤ 1024 ⌝ }
     ensures { λ r. ⌜ (r .fits ≡ every (wordFits used (now (words .entry))) (length (now (words .entry)))) × (r .units ≡ total (wordAt (now (words .entry))) (length (now (words .entry)))) ⌝ }
 {
-    let mut fits = true;
+    let end = at_most(used, words.len());
+    let first = &words[0..end];
+    let rest = &words[end..words.len()];
+    let above = beyond(first);
+    let unused = sum(rest);
+    Scanned {
+        fits: above as u64 + unused == 0,
+        units: sum(first) + unused,
+    }
+}
+
+// A count, or the most that it may be.
+fn at_most(count: usize, most: usize) -> usize
+    ensures { λ r. ⌜ (r ≤ count) × (r ≤ most) × (r < count → r ≡ most) ⌝ }
+{
+    if count < most { count } else { most }
+}
+
+// The sum of the words.
+fn sum(words: &[u32]) -> u64
+    requires { ⌜ length (now words) ≤ 1024 ⌝ }
+    ensures { λ r. ⌜ (r ≡ total (wordAt (now (words .entry))) (length (now (words .entry)))) × (r ≤ 1024 * 4294967295) ⌝ }
+{
     let mut units: u64 = 0;
     let mut j = 0;
     while j < words.len() {
-        let word = words[j] as u64;
-        fits = and(fits, stored_fits(j < used, word));
-        units = units + word;
+        units = units + words[j] as u64;
         j = j + 1;
     }
-    Scanned { fits, units }
+    units
+}
+
+// 0 if no word is above the limit, which is one less than 2^30: the sum of what each word has of it.
+fn beyond(words: &[u32]) -> u32
+    requires { ⌜ length (now words) ≤ 1024 ⌝ }
+    ensures { λ r. ⌜ r ≡ total (λ j. wordAt (now (words .entry)) j / 1073741824) (length (now (words .entry))) ⌝ }
+{
+    let mut parts: u32 = 0;
+    let mut j = 0;
+    while j < words.len() {
+        parts = parts + words[j] / 1_073_741_824;
+        j = j + 1;
+    }
+    parts
 }
 
 // Refusal 1, of numbers: not so many words are lent as there should be, no slot number is left, or one of two amounts is above the limit.
@@ -131,10 +165,4 @@ fn stored_fits(used: bool, amount: u64) -> bool
     } else {
         amount == 0
     }
-}
-
-fn and(a: bool, b: bool) -> bool
-    ensures { λ r. ⌜ r ≡ both a b ⌝ }
-{
-    if a { b } else { false }
 }

@@ -10,3 +10,4 @@ mod AnswerLaws
 mod ReadLaws
 mod SheetWritten
 mod WriteLaws
+pub mod ReferenceSheets

@@ -5,7 +5,7 @@ use native.Mathlib.Omega.{arith}
 use borrow.Author.Needs.{needs}
 use lib.ListN.{length, length-map}
 use Rattle.sheet.specs.Paths.{standsFor}
-use Rattle.figures.proofs.EachOperator.{Walked, plannedAt, walked-start, walked-planned, walked-next, path-operator, operator-ready, delay-counted, refused-path, late-path, accepted-path}
+use Rattle.figures.proofs.EachOperator.{Walked, plannedAt, walked-start, walked-planned, walked-capacity, walked-next, path-operator, operator-ready, delay-counted, refused-path, late-path, accepted-path}
 use Rattle.figures.proofs.figures_of_path.Statement.{statement}
 use Rattle.figures.proofs.figures_of_path.Tie as tie
 
@@ -78,7 +78,12 @@ plus-requires : tie.Need-plus-requires Inv-loop μ-loop
 plus-requires c κs = search needs
 
 behind-requires : tie.Need-behind-requires Inv-loop μ-loop
-behind-requires c κs = operator-ready _ (c .before .before .before .before .before .before .before .before .before .before .before .before .before .pre) (full (c .before .before .before .before .before .before .before .before .before .before .before .before .before)) (c .before .before .before .before .before .before .before .before .loop .inv .1) (c .before .before .before .before .before .before .before .loop-test .taken)
+behind-requires c κs =
+    let s = c .before .before .before .before .before .before .before .before .before .before .before .before .before in
+    let walked = c .before .before .before .before .before .before .before .before .loop .inv .1 in
+    let here = c .before .before .before .before .before .before .before .loop-test .taken in
+    let (within, inside) = operator-ready _ (s .pre) (full s) walked here in
+    (within, inside, walked-capacity walked (sym (path-operator _ _ here)) (sym (c .before .before .figure .given .1) ∙ planned-at (c .before .before .before .before)))
 
 add-k : tie.Need-add-k Inv-loop μ-loop
 add-k c = omega (arith, c .before .before .before .before .before .before .before .before .loop-test .taken, c .before .before .before .before .before .before .before .before .before .before .before .before .before .before .pre .few)

@@ -1,86 +1,84 @@
--- Of the words passed: whether each fits, and their sum, which is below 2^32 for each.
-use mathlib.Core.Path.{_≡_, refl, sym, _∙_, ap, ap₂}
-use Prim.Native.Nat.{_-_, _*_, _≤_}
-use native.Mathlib.Omega.{arith}
-use lib.ListN.{length}
+-- The words in two parts, those used and the rest.
+use mathlib.Core.Path.{ap₂, _∙_}
+use Prim.Native.Nat.{ℕ, _+_}
+use lib.Dec.{eqb}
+use Rattle.operator.proofs.ScanLaws.{scanned-fits, scanned-units}
 use borrow.Author.Needs.{needs}
-use Rattle.quantity.specs.Choice.{both}
-use Rattle.quantity.specs.Sums.{total, every}
-use Rattle.quantity.proofs.Sums.{total-zero, total-next, every-next}
-use Rattle.operator.specs.Stored.{wordAt, wordFits}
 use Rattle.operator.proofs.scan.Statement.{statement}
 use Rattle.operator.proofs.scan.Tie as tie
 
-abbrev Inv-loop : tie.InvT-loop
-Inv-loop words used fits₀ units₀ j₀ fits units j =
-    (j ≤ length words) × (fits ≡ every (wordFits used words) j) × (units ≡ total (wordAt words) j) × (units ≤ j * 4294967295)
+at-most-requires : tie.Need-at-most-requires
+at-most-requires c κs = search needs
 
-abbrev μ-loop : tie.MeasureT-loop
-μ-loop words used fits₀ units₀ j₀ fits units j = length words - j
+sub-first : tie.Need-sub-first
+sub-first c = search needs
 
-loop-holds : tie.Need-loop-holds Inv-loop μ-loop
-unfolding every
-loop-holds c = (omega arith, refl, sym (total-zero _), omega arith)
+part-first-start : tie.Need-part-first-start
+part-first-start c = search needs
 
-mul-word : tie.Need-mul-word Inv-loop μ-loop
-mul-word c = search needs
+part-first-end : tie.Need-part-first-end
+part-first-end c = search needs
 
-shared-slice-read-word : tie.Need-shared-slice-read-word Inv-loop μ-loop
-shared-slice-read-word c = omega arith
+mul-rest : tie.Need-mul-rest
+mul-rest c = search needs
 
-cast-word : tie.Need-cast-word Inv-loop μ-loop
-cast-word c = omega (arith, c .shared-slice-known2 .given (c .before .before .loop .j))
+sub-rest : tie.Need-sub-rest
+sub-rest c = search needs
 
-stored-fits-requires : tie.Need-stored-fits-requires Inv-loop μ-loop
-stored-fits-requires c κs = search needs
+part-rest-start : tie.Need-part-rest-start
+part-rest-start c = search needs
 
-and-requires : tie.Need-and-requires Inv-loop μ-loop
-and-requires c κs = search needs
+part-rest-end : tie.Need-part-rest-end
+part-rest-end c = search needs
 
-add-units : tie.Need-add-units Inv-loop μ-loop
-add-units c =
-    let j = c .before .before .before .before .loop .j in
-    omega (arith, c .before .before .shared-slice-known2 .given j, c .before .before .before .before .before .before .pre)
+beyond-requires : tie.Need-beyond-requires
+beyond-requires c κs = search needs
 
-add-j : tie.Need-add-j Inv-loop μ-loop
-add-j c = omega arith
+sum-requires : tie.Need-sum-requires
+sum-requires c κs = search needs
 
-loop-less : tie.Need-loop-less Inv-loop μ-loop
-loop-less c = omega arith
+cast-t15 : tie.Need-cast-t15
+cast-t15 c = search needs
 
-loop-again : tie.Need-loop-again Inv-loop μ-loop
-unfolding wordFits
-loop-again c =
-    let at = c .before .before .before .before in
-    let j = at .loop .j in
-    let words = at .before .before .args .words .now in
-    let used = at .before .before .args .used in (
-      omega arith,
-      c .and .ensures ∙ ap₂ both (at .loop .inv .1) (c .before .stored-fits .ensures) ∙ sym (every-next (wordFits used words) j),
-      omega (arith, total-next (wordAt words) j),
-      omega (arith, c .before .before .shared-slice-known2 .given j),
-    )
+add-t16 : tie.Need-add-t16
+add-t16 c = search needs
 
-returns : tie.Need-returns Inv-loop μ-loop
+sum-requires-2 : tie.Need-sum-requires-2
+sum-requires-2 c κs = search needs
+
+add-t19 : tie.Need-add-t19
+add-t19 c = search needs
+
+returns : tie.Need-returns
 returns c =
-    let words = c .before .before .before .args .words .now in
-    let all : c .before .loop .j ≡ length words = omega arith in
-    (c .before .loop .inv .1 ∙ ap (every (wordFits (c .before .before .before .args .used) words)) all, c .before .loop .inv .2 ∙ ap (total (wordAt words)) all)
+    let start = c .before .before .before .before .before .before .before in
+    let words = start .args .words .now in
+    let used = start .args .used in
+    let ends = c .before .before .before .before .before .at-most in
+    let end = ends .result in
+    let (below, within, all) = ends .ensures in
+    let above = c .before .before .beyond .ensures in
+    let unused = c .before .sum .ensures .0 in (
+      ap₂ (λ (a b : ℕ). eqb (a + b) 0) above unused ∙ scanned-fits words used end below within all,
+      ap₂ _+_ (c .sum2 .ensures .0) unused ∙ scanned-units words used end below within all,
+    )
 
 pub scan-spec : {M : Type 1} → statement M
 scan-spec =
     tie.close
     (tie.spec
-    Inv-loop
-    μ-loop
-    loop-holds
-    mul-word
-    shared-slice-read-word
-    cast-word
-    stored-fits-requires
-    and-requires
-    add-units
-    add-j
-    loop-less
-    loop-again
+    at-most-requires
+    sub-first
+    part-first-start
+    part-first-end
+    mul-rest
+    sub-rest
+    part-rest-start
+    part-rest-end
+    beyond-requires
+    sum-requires
+    cast-t15
+    add-t16
+    sum-requires-2
+    add-t19
     returns)

@@ -1,9 +1,9 @@
--- Each operator has its case of the definition; an interval in range is at most 1,024.
-use borrow.Author.Needs.{needs}
-use Rattle.quantity.specs.Ranges.{intervalRange}
+-- Each operator has its case of the definition.
 use Rattle.operator.specs.Operators.{numberInRange}
 use Rattle.figures.specs.Progress.{behind}
-use Rattle.figures.proofs.Bounds.{in-range, inside-of}
+use Rattle.figures.specs.Figures.{capacity}
+use Rattle.figures.proofs.Bounds.{inside-of}
+use borrow.Author.Needs.{needs}
 use Rattle.figures.proofs.carried.behind.Statement.{statement}
 use Rattle.figures.proofs.carried.behind.Tie as tie
 
@@ -19,19 +19,11 @@ framed-requires c κs = search needs
 enum-known-operator-2 : tie.Need-enum-known-operator-2
 enum-known-operator-2 c = search needs
 
-changed-quota-requires : tie.Need-changed-quota-requires
-unfolding numberInRange
-changed-quota-requires c κs = let s = c .before .before .before .before in (s .pre .0 .class, in-range intervalRange (c .before .operator2 .given .0 .0 .0) (inside-of (c .before .operator2 .given .1) (s .pre .1)) .1)
-
 framed-requires-2 : tie.Need-framed-requires-2
 framed-requires-2 c κs = search needs
 
 enum-known-operator-3 : tie.Need-enum-known-operator-3
 enum-known-operator-3 c = search needs
-
-changed-quota-requires-2 : tie.Need-changed-quota-requires-2
-unfolding numberInRange
-changed-quota-requires-2 c κs = let s = c .before .before .before .before in (s .pre .0 .class, in-range intervalRange (c .before .operator3 .given .0 .0 .0) (inside-of (c .before .operator3 .given .1) (s .pre .1)) .1)
 
 framed-requires-3 : tie.Need-framed-requires-3
 framed-requires-3 c κs = search needs
@@ -47,19 +39,19 @@ enum-known-operator-5 c = search needs
 
 behind-delayer-requires : tie.Need-behind-delayer-requires
 unfolding numberInRange
-behind-delayer-requires c κs = let s = c .before .before .before .before in (s .pre .0, inside-of (c .before .operator5 .given .1) (s .pre .1))
+behind-delayer-requires c κs = let s = c .before .before .before in (s .pre .0, inside-of (c .before .operator5 .given .1) (s .pre .1))
 
 returns : tie.Need-returns
 unfolding behind
 returns c = rw (c .before .before .before .operator .given .1, c .framed .ensures, c .before .wide .ensures)
 
 returns-2 : tie.Need-returns-2
-unfolding behind
-returns-2 c = rw (c .before .before .before .operator2 .given .1, c .framed2 .ensures, c .before .changed-quota .ensures)
+unfolding behind capacity
+returns-2 c = rw (c .framed2 .ensures, c .before .before .before .before .pre .2, c .before .before .operator2 .given .1)
 
 returns-3 : tie.Need-returns-3
-unfolding behind
-returns-3 c = rw (c .before .before .before .operator3 .given .1, c .framed3 .ensures, c .before .changed-quota2 .ensures)
+unfolding behind capacity
+returns-3 c = rw (c .framed3 .ensures, c .before .before .before .before .pre .2, c .before .before .operator3 .given .1)
 
 returns-4 : tie.Need-returns-4
 returns-4 c = rw (c .before .before .operator4 .given .1, c .behind-filter .ensures)
@@ -75,10 +67,8 @@ behind-spec =
     wide-requires
     framed-requires
     enum-known-operator-2
-    changed-quota-requires
     framed-requires-2
     enum-known-operator-3
-    changed-quota-requires-2
     framed-requires-3
     enum-known-operator-4
     behind-filter-requires

@@ -1,14 +1,14 @@
 -- Each operator has its case of the definition; a filter or a delayer only adds to the delay of its part.
 use borrow.Author.Needs.{needs}
 use Prim.Native.Nat.{_-_}
-use mathlib.Core.Path.{ap, _∙_}
+use mathlib.Core.Path.{ap, sym, _∙_}
 use native.Mathlib.Omega.{arith}
 use Rattle.quantity.specs.Ranges.{rateRange}
 use Rattle.operator.specs.Operators.{numberInRange}
 use Rattle.figures.specs.Progress.{Progress}
 use Rattle.figures.specs.Figures.{delayOfPart, ownDelay}
 use Rattle.figures.specs.Carried.{classIn, progressIn}
-use Rattle.figures.proofs.Bounds.{in-range, inside-of, burst-bound, round-up-at-most, filter-adds, delayer-adds}
+use Rattle.figures.proofs.Bounds.{in-range, inside-of, burst-bound, round-up-at-most, filter-adds, delayer-delay}
 use Rattle.figures.proofs.each.own_delay.Statement.{statement}
 use Rattle.figures.proofs.each.own_delay.Tie as tie
 
@@ -52,14 +52,6 @@ added-requires c κs = let s = c .before .before .before .before .before in
 enum-known-operator-5 : tie.Need-enum-known-operator-5
 enum-known-operator-5 c = search needs
 
-behind-delayer-requires : tie.Need-behind-delayer-requires
-unfolding numberInRange
-behind-delayer-requires c κs = let s = c .before .before .before .before in (s .pre .0, inside-of (c .before .operator5 .given .1) (s .pre .1))
-
-added-requires-2 : tie.Need-added-requires-2
-added-requires-2 c κs = let s = c .before .before .before .before .before in
-    delayer-adds (c .before .before .operator5 .given .1) (c .behind-delayer .ensures) (s .pre .0) (s .pre .1)
-
 returns : tie.Need-returns
 unfolding ownDelay
 returns c = rw (c .before .before .before .before .operator .given .1, c .round-up .ensures, c .before .before .burst .ensures, c .before .wide .ensures)
@@ -83,8 +75,7 @@ returns-5 c = let p = progressIn (c .before .before .before .before .before .bef
 
 returns-6 : tie.Need-returns-6
 unfolding ownDelay
-returns-6 c = let p = progressIn (c .before .before .before .before .before .before .args .carried) in
-    rw (c .before .before .before .operator5 .given .1) (c .added2 .ensures ∙ ap (λ (after : Progress). delayOfPart after - delayOfPart p) (c .before .behind-delayer .ensures))
+returns-6 c = rw (c .before .operator5 .given .1) (sym (delayer-delay (progressIn (c .before .before .before .before .args .carried)) (c .before .operator5 .given .0 .0)))
 
 pub own-delay-spec : {M : Type 1} → statement M
 own-delay-spec =
@@ -101,8 +92,6 @@ own-delay-spec =
     behind-filter-requires
     added-requires
     enum-known-operator-5
-    behind-delayer-requires
-    added-requires-2
     returns
     returns-2
     returns-3

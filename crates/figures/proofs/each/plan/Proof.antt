@@ -12,29 +12,29 @@ returns : tie.Need-returns
 unfolding plannedOf
 returns c = rw (sym (c .before .framed-after-filter .ensures) ∙ c .if1 .taken)
 
+capacity-requires : tie.Need-capacity-requires
+capacity-requires c κs = search needs
+
 figure-too-large-requires : tie.Need-figure-too-large-requires
 figure-too-large-requires c κs = search needs
 
 returns-2 : tie.Need-returns-2
 unfolding plannedOf
-returns-2 c = rw (sym (c .before .before .before .framed-after-filter .ensures) ∙ c .before .before .if1 .left, sym (c .before .figure-too-large .ensures) ∙ c .if2 .taken)
+returns-2 c = rw (sym (c .before .before .before .before .framed-after-filter .ensures) ∙ c .before .before .before .if1 .left, sym (c .before .figure-too-large .ensures _ (c .before .before .capacity .ensures)) ∙ c .if2 .taken)
 
 rate-too-low-requires : tie.Need-rate-too-low-requires
 rate-too-low-requires c κs = search needs
 
 returns-3 : tie.Need-returns-3
 unfolding plannedOf
-returns-3 c = rw (sym (c .before .before .before .before .before .framed-after-filter .ensures) ∙ c .before .before .before .before .if1 .left, sym (c .before .before .before .figure-too-large .ensures) ∙ c .before .before .if2 .left, sym (c .before .rate-too-low .ensures) ∙ c .if3 .taken)
-
-capacity-requires : tie.Need-capacity-requires
-capacity-requires c κs = search needs
+returns-3 c = rw (sym (c .before .before .before .before .before .before .framed-after-filter .ensures) ∙ c .before .before .before .before .before .if1 .left, sym (c .before .before .before .figure-too-large .ensures _ (c .before .before .before .before .capacity .ensures)) ∙ c .before .before .if2 .left, sym (c .before .rate-too-low .ensures) ∙ c .if3 .taken)
 
 own-delay-requires : tie.Need-own-delay-requires
 own-delay-requires c κs = search needs
 
 returns-4 : tie.Need-returns-4
 unfolding plannedOf
-returns-4 c = rw (sym (c .before .before .before .before .before .before .before .framed-after-filter .ensures) ∙ c .before .before .before .before .before .before .if1 .left, sym (c .before .before .before .before .before .figure-too-large .ensures) ∙ c .before .before .before .before .if2 .left, sym (c .before .before .before .rate-too-low .ensures) ∙ c .before .before .if3 .left, c .own-delay .ensures, c .before .capacity .ensures)
+returns-4 c = rw (sym (c .before .before .before .before .before .before .before .framed-after-filter .ensures) ∙ c .before .before .before .before .before .before .if1 .left, sym (c .before .before .before .before .figure-too-large .ensures _ (c .before .before .before .before .before .capacity .ensures)) ∙ c .before .before .before .if2 .left, sym (c .before .before .rate-too-low .ensures) ∙ c .before .if3 .left, c .own-delay .ensures, c .before .before .before .before .before .capacity .ensures)
 
 pub plan-spec : {M : Type 1} → statement M
 plan-spec =
@@ -42,10 +42,10 @@ plan-spec =
     (tie.spec
     framed-after-filter-requires
     returns
+    capacity-requires
     figure-too-large-requires
     returns-2
     rate-too-low-requires
     returns-3
-    capacity-requires
     own-delay-requires
     returns-4)
