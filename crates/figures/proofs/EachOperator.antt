@@ -37,7 +37,7 @@ use Rattle.figures.specs.declared.PathFigures.{PathFigures}
 use Rattle.figures.specs.declared.carried.Carried.{Carried}
 use Rattle.figures.specs.declared.each.Planned.{Planned}
 use Rattle.figures.specs.Progress.{Progress, start, behind, progressAt}
-use Rattle.figures.specs.Figures.{capacity, changedQuota, figureTooLarge, largestChangedQuota}
+use Rattle.figures.specs.Figures.{capacity, pairs, changedQuota, figureTooLarge, largestChangedQuota}
 use Rattle.figures.specs.Answers.{operatorAt, before, pairedAt, capacityAt, delayAt, operatorCases, operatorsCases, lineCases, figureAt, noFigure, figureIn, pathDelay, refusedFigures}
 use Rattle.figures.specs.Carried.{progressIn, Within, mostBefore, plannedOf, PathWithin, figuresOfPath}
 use Rattle.figures.proofs.Bounds.{in-range, within-le, behind-within, own-delay-bound}
@@ -260,6 +260,21 @@ module _ (path : Path) (within : PathWithin path) (full : length (path .places) 
       rw (walked .carries) (before-operator (standsFor path) path-few (within .inside) k before-end (walked .passed)),
       rw (← path-operator path k here) (number-inside (standsFor path) path-few (within .inside) k before-end),
     )
+
+    -- it is paired with the operator at the next place, if one follows
+    pub paired-here : {next : ℕ} {paired : Bool} → (k + 1 < 16 → next ≡ k + 1)
+        → paired ≡ pick (ltb (k + 1) (path .count)) (pairs (getD (path .places) k noPlace .operator) (getD (path .places) next noPlace .operator)) false → paired ≡ pairedAt (standsFor path) k
+    unfolding pairedAt
+    paired-here {next} found tested = tested ∙ by-test (ltb (k + 1) (path .count)) refl ∙ ap (λ (n : ℕ). pick (ltb (k + 1) n) (pairs (operatorAt (standsFor path) k) (operatorAt (standsFor path) (k + 1))) false) (sym path-size)
+      where
+        by-test : (t : Bool) → ltb (k + 1) (path .count) ≡ t
+            → pick t (pairs (getD (path .places) k noPlace .operator) (getD (path .places) next noPlace .operator)) false ≡ pick t (pairs (operatorAt (standsFor path) k) (operatorAt (standsFor path) (k + 1))) false
+        by-test true e =
+            let follows = ltb-true (k + 1) (path .count) e in
+            let few = within .few in
+            ap₂ pairs (sym (path-operator path k here))
+            (ap (λ (n : ℕ). getD (path .places) n noPlace .operator) (found (omega arith)) ∙ sym (path-operator path (k + 1) follows))
+        by-test false e = refl
 
     -- the sum of the delays does not stop at its largest number
     pub delay-counted : {figure : Figure} {later : Slots} → Planned.Fits figure ≡ plannedAt (standsFor path) k → later ≡ slotsSum delay (figure .delay) → later .0 ≡ delay .0 + figure .delay .0

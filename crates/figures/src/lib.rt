@@ -5,6 +5,7 @@ use crate::carried::start;
 use crate::each::Planned;
 use crate::each::pairs;
 use crate::each::plan;
+use operator::Operator;
 use quantity::Slots;
 use quantity::Units;
 use quantity::refusal::Refusal;
@@ -13,9 +14,11 @@ use sheet::no_path;
 use sheet::read::Verdict;
 use sheet::read::read;
 ghost use mathlib.Core.Path.{_≡_};
-ghost use Prim.Native.Nat.{_<_};
-ghost use Rattle.sheet.specs.Paths.{standsFor};
-ghost use Rattle.figures.specs.Answers.{pairedAt, noFigure, refusedFigures, figuresOf};
+ghost use mathlib.Core.Bool.{false};
+ghost use Prim.Native.Nat.{_+_, _<_};
+ghost use Rattle.quantity.specs.Choice.{pick};
+ghost use Rattle.figures.specs.Figures.{pairs};
+ghost use Rattle.figures.specs.Answers.{noFigure, refusedFigures, figuresOf};
 ghost use Rattle.figures.specs.Carried.{PathWithin, figuresOfPath};
 
 mod carried;
@@ -73,18 +76,19 @@ fn refused(why: Refusal) -> PathFigures
     }
 }
 
-// Whether operator k is an expander and the next one a compactor of its interval.
-fn paired(path: Path, k: usize) -> bool
-    requires { ⌜ PathWithin path × (k < path .count) ⌝ }
-    ensures { λ r. ⌜ r ≡ pairedAt (standsFor path) k ⌝ }
+// Where the next operator stands; behind the sixteenth place there is none, and it is that place itself.
+fn next_place(k: usize) -> usize
+    requires { ⌜ k < 16 ⌝ }
+    ensures { λ r. ⌜ (r < 16) × (k + 1 < 16 → r ≡ k + 1) ⌝ }
 {
-    let places = path.places;
-    let next = k + 1;
-    if next < path.count {
-        let place = places[k];
-        let operator = place.operator;
-        let following = places[next];
-        let follower = following.operator;
+    if k < 15 { k + 1 } else { k }
+}
+
+// Whether an operator is an expander and the next one, if one follows, a compactor of its interval.
+fn paired(operator: Operator, follower: Operator, follows: bool) -> bool
+    ensures { λ r. ⌜ r ≡ pick follows (pairs operator follower) false ⌝ }
+{
+    if follows {
         pairs(operator, follower)
     } else {
         false
@@ -107,7 +111,15 @@ fn figures_of_path(path: Path) -> PathFigures
     while k < count {
         let place = places[k];
         let operator = place.operator;
-        match plan(carried, operator, paired(path, k), k) {
+        let following = places[next_place(k)];
+        let follower = following.operator;
+        let next = k + 1;
+        match plan(
+            carried,
+            operator,
+            paired(operator, follower, next < count),
+            k,
+        ) {
             Planned::Refused(why) => return refused(why),
             Planned::Fits(figure) => {
                 figures[k] = figure;

@@ -1,9 +1,9 @@
 // An evening's re-planning from text: one command a line, one answer each (document 01, sections 6 and 7).
 
-use crate::lend::admit_path;
-use crate::lend::open_book;
-use crate::lend::release_path;
-use crate::lend::spare_on;
+use book::admit_path;
+use book::open_book;
+use book::release_path;
+use book::spare_on;
 use console::input::Input;
 use console::input::advance;
 use console::input::begin;
@@ -33,8 +33,6 @@ use text::hexadecimal::hexadecimal_from;
 use text::line::starts_with;
 ghost use Prim.Native.Nat.{_≤_};
 ghost use lib.ListN.{length};
-
-mod lend;
 
 const SPACE: u8 = 32;
 

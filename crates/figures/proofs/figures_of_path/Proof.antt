@@ -5,7 +5,7 @@ use native.Mathlib.Omega.{arith}
 use borrow.Author.Needs.{needs}
 use lib.ListN.{length, length-map}
 use Rattle.sheet.specs.Paths.{standsFor}
-use Rattle.figures.proofs.EachOperator.{Walked, plannedAt, walked-start, walked-planned, walked-capacity, walked-next, path-operator, operator-ready, delay-counted, refused-path, late-path, accepted-path}
+use Rattle.figures.proofs.EachOperator.{Walked, plannedAt, walked-start, walked-planned, walked-capacity, walked-next, path-operator, operator-ready, paired-here, delay-counted, refused-path, late-path, accepted-path}
 use Rattle.figures.proofs.figures_of_path.Statement.{statement}
 use Rattle.figures.proofs.figures_of_path.Tie as tie
 
@@ -20,9 +20,12 @@ full : (c : tie.Start Inv-loop μ-loop) → length (c .args .path .places) ≡ 1
 full c = sym (length-map (c .args .path .places) _) ∙ c .good .0 .1 .1 .1 .1 .1 .0 .1 .0 .1
 
 -- what was planned of operator k
-planned-at : (c : tie.After-plan Inv-loop μ-loop) → c .plan .result ≡ plannedAt (standsFor (c .before .before .before .before .before .before .before .before .before .args .path)) (c .before .before .before .before .loop .k)
+planned-at : (c : tie.After-plan Inv-loop μ-loop) → c .plan .result ≡ plannedAt (standsFor (c .before .before .before .before .before .before .before .before .before .before .before .args .path)) (c .before .before .before .before .before .before .loop .k)
 planned-at c =
-    walked-planned (c .before .before .before .before .loop .inv .1) (sym (path-operator _ _ (c .before .before .before .loop-test .taken))) (c .before .paired .ensures) (c .plan .ensures)
+    let s = c .before .before .before .before .before .before .before .before .before .before .before in
+    let walked = c .before .before .before .before .before .before .loop .inv .1 in
+    let here = c .before .before .before .before .before .loop-test .taken in
+    walked-planned walked (sym (path-operator _ _ here)) (paired-here _ (s .pre) (full s) walked here (c .before .before .before .next-place .ensures .1) (c .before .paired .ensures)) (c .plan .ensures)
 
 -- behind the last operator
 walked-through : (c : tie.After-loop Inv-loop μ-loop) → Walked (standsFor (c .before .before .before .before .before .before .args .path)) (c .before .before .before .before .before .before .args .path .count) (c .before .loop .carried) (c .before .loop .figures) (c .before .loop .delay)
@@ -48,11 +51,23 @@ mul-place c = omega arith
 array-copy-out-place : tie.Need-array-copy-out-place Inv-loop μ-loop
 array-copy-out-place c = omega arith
 
+next-place-requires : tie.Need-next-place-requires Inv-loop μ-loop
+next-place-requires c κs = let few = c .before .before .before .before .before .before .before .pre .few in omega arith
+
+mul-following : tie.Need-mul-following Inv-loop μ-loop
+mul-following c = search needs
+
+array-copy-out-following : tie.Need-array-copy-out-following Inv-loop μ-loop
+array-copy-out-following c = search needs
+
+add-next : tie.Need-add-next Inv-loop μ-loop
+add-next c = search needs
+
 paired-requires : tie.Need-paired-requires Inv-loop μ-loop
-paired-requires c κs = (c .before .before .before .before .before .before .before .pre, c .before .loop-test .taken)
+paired-requires c κs = search needs
 
 plan-requires : tie.Need-plan-requires Inv-loop μ-loop
-plan-requires c κs = operator-ready _ (c .before .before .before .before .before .before .before .before .pre) (full (c .before .before .before .before .before .before .before .before)) (c .before .before .before .loop .inv .1) (c .before .before .loop-test .taken)
+plan-requires c κs = operator-ready _ (c .before .before .before .before .before .before .before .before .before .before .pre) (full (c .before .before .before .before .before .before .before .before .before .before)) (c .before .before .before .before .before .loop .inv .1) (c .before .before .before .before .loop-test .taken)
 
 enum-known-why : tie.Need-enum-known-why Inv-loop μ-loop
 enum-known-why c = search needs
@@ -62,8 +77,8 @@ refused-requires c κs = search needs
 
 returns : tie.Need-returns Inv-loop μ-loop
 returns c =
-    let s = c .before .before .before .before .before .before .before .before .before .before .before .before .before in
-    c .refused .ensures ∙ refused-path _ (s .pre) (full s) (c .before .before .before .before .before .before .before .before .loop .inv .1) (c .before .before .before .before .before .before .before .loop-test .taken) (sym (c .before .before .why .given .1) ∙ planned-at (c .before .before .before .before))
+    let s = c .before .before .before .before .before .before .before .before .before .before .before .before .before .before .before in
+    c .refused .ensures ∙ refused-path _ (s .pre) (full s) (c .before .before .before .before .before .before .before .before .before .before .loop .inv .1) (c .before .before .before .before .before .before .before .before .before .loop-test .taken) (sym (c .before .before .why .given .1) ∙ planned-at (c .before .before .before .before))
 
 enum-known-figure : tie.Need-enum-known-figure Inv-loop μ-loop
 enum-known-figure c = search needs
@@ -79,24 +94,24 @@ plus-requires c κs = search needs
 
 behind-requires : tie.Need-behind-requires Inv-loop μ-loop
 behind-requires c κs =
-    let s = c .before .before .before .before .before .before .before .before .before .before .before .before .before in
-    let walked = c .before .before .before .before .before .before .before .before .loop .inv .1 in
-    let here = c .before .before .before .before .before .before .before .loop-test .taken in
+    let s = c .before .before .before .before .before .before .before .before .before .before .before .before .before .before .before in
+    let walked = c .before .before .before .before .before .before .before .before .before .before .loop .inv .1 in
+    let here = c .before .before .before .before .before .before .before .before .before .loop-test .taken in
     let (within, inside) = operator-ready _ (s .pre) (full s) walked here in
     (within, inside, walked-capacity walked (sym (path-operator _ _ here)) (sym (c .before .before .figure .given .1) ∙ planned-at (c .before .before .before .before)))
 
 add-k : tie.Need-add-k Inv-loop μ-loop
-add-k c = omega (arith, c .before .before .before .before .before .before .before .before .loop-test .taken, c .before .before .before .before .before .before .before .before .before .before .before .before .before .before .pre .few)
+add-k c = omega (arith, c .before .before .before .before .before .before .before .before .before .before .loop-test .taken, c .before .before .before .before .before .before .before .before .before .before .before .before .before .before .before .before .pre .few)
 
 loop-less : tie.Need-loop-less Inv-loop μ-loop
 loop-less c = omega arith
 
 loop-again : tie.Need-loop-again Inv-loop μ-loop
 loop-again c =
-    let s = c .before .before .before .before .before .before .before .before .before .before .before .before .before .before in
-    let here = c .before .before .before .before .before .before .before .before .loop-test .taken in
+    let s = c .before .before .before .before .before .before .before .before .before .before .before .before .before .before .before .before in
+    let here = c .before .before .before .before .before .before .before .before .before .before .loop-test .taken in
     let few = s .pre .few in
-    let walked = c .before .before .before .before .before .before .before .before .before .loop .inv .1 in
+    let walked = c .before .before .before .before .before .before .before .before .before .before .before .loop .inv .1 in
     let planned = sym (c .before .before .before .figure .given .1) ∙ planned-at (c .before .before .before .before .before) in (
       omega (arith, here),
       walked-next walked (omega (arith, here, few)) (sym (path-operator _ _ here)) planned (c .behind .ensures) (delay-counted _ (s .pre) (full s) walked here planned (c .before .plus .ensures)),
@@ -126,6 +141,10 @@ figures-of-path-spec =
     loop-holds
     mul-place
     array-copy-out-place
+    next-place-requires
+    mul-following
+    array-copy-out-following
+    add-next
     paired-requires
     plan-requires
     enum-known-why

@@ -1,4 +1,4 @@
--- `plan::lend::open_book` is safe: a walk of its MIR, by hand. The records are lent to `open` for a lifetime of the call, and come back with the answer.
+-- `book::open_book` is safe: a walk of its MIR, by hand. The records are lent to `open` for a lifetime of the call, and come back with the answer.
 use mathlib.Core.Path.{_≡_, refl, _∙_}
 use Prim.Native.Nat.{ℕ}
 use mathlib.Core.List.{[], _∷_, List}
@@ -40,7 +40,7 @@ use denote.Triple.Walked.{Stays, stay-dropped, walkOf, goes-dropped, Walks, ends
 use denote.Exit.{yes}
 use Rattle.ledger.specs.declared.Record.{Record}
 use Rattle.ledger.specs.declared.opening.Opened.{Opened}
-use Rattle.plan.specs.declared.lend.NewBook.{NewBook}
+use Rattle.book.specs.declared.NewBook.{NewBook}
 use Rattle.ledger.proofs.Filling.{frees-all}
 use Rattle.ledger.proofs.Record as T
 use Rattle.ledger.proofs.Record.Laws as T′
@@ -50,13 +50,13 @@ use Rattle.ledger.proofs.opening.open as op
 use Rattle.ledger.proofs.opening.open.Symbol as op-def
 use Rattle.ledger.proofs.opening.open.Symbol.{name as #open}
 use Rattle.ledger.proofs.opening.open.Met as op-thm
-use Rattle.plan.proofs.Lending.{array-val, as-field, left, typed, lent, slice, lends, comes-back}
-use Rattle.plan.proofs.lend.NewBook as N
-use Rattle.plan.proofs.lend.NewBook.Laws as N′
-use Rattle.plan.proofs.lend.open_book.Key.{name as #open-book}
-use Rattle.plan.proofs.lend.open_book as f
-use Rattle.plan.proofs.lend.open_book.Statement as stated
-use Rattle.plan.proofs.lend.open_book.Code as code
+use Rattle.book.proofs.Lending.{array-val, as-field, left, typed, lent, slice, lends, comes-back}
+use Rattle.book.proofs.NewBook as N
+use Rattle.book.proofs.NewBook.Laws as N′
+use Rattle.book.proofs.open_book.Key.{name as #open-book}
+use Rattle.book.proofs.open_book as f
+use Rattle.book.proofs.open_book.Statement as stated
+use Rattle.book.proofs.open_book.Code as code
 
 abbrev stayed : Stays (f.ended .signature .params) (f.ended .kept)
 stayed = (stay-dropped (plain (λ _. Array u32 16)) yes, (stay-dropped (plain (λ _. Array T.the-row 64)) yes, tt))

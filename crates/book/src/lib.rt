@@ -26,7 +26,7 @@ pub struct ReleasedPath {
     pub records: [Record; 64],
 }
 
-pub(crate) fn open_book(capacities: [u32; 16], records: [Record; 64]) -> NewBook {
+pub fn open_book(capacities: [u32; 16], records: [Record; 64]) -> NewBook {
     let mut lent = records;
     let opened = open(capacities, &mut lent);
     NewBook {
@@ -35,7 +35,7 @@ pub(crate) fn open_book(capacities: [u32; 16], records: [Record; 64]) -> NewBook
     }
 }
 
-pub(crate) fn admit_path(
+pub fn admit_path(
     ledger: Ledger,
     records: [Record; 64],
     number: u32,
@@ -49,7 +49,7 @@ pub(crate) fn admit_path(
     }
 }
 
-pub(crate) fn release_path(ledger: Ledger, records: [Record; 64], number: u32) -> ReleasedPath {
+pub fn release_path(ledger: Ledger, records: [Record; 64], number: u32) -> ReleasedPath {
     let mut lent = records;
     let released = release(ledger, &mut lent, number);
     ReleasedPath {
@@ -58,7 +58,7 @@ pub(crate) fn release_path(ledger: Ledger, records: [Record; 64], number: u32) -
     }
 }
 
-pub(crate) fn spare_on(ledger: Ledger, records: [Record; 64], link: u32) -> Spare {
+pub fn spare_on(ledger: Ledger, records: [Record; 64], link: u32) -> Spare {
     let lent = records;
     spare_rate(ledger, &lent, link)
 }

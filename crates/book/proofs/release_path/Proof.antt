@@ -40,24 +40,24 @@ use denote.Exit.{yes}
 use Rattle.ledger.specs.declared.Record.{Record}
 use Rattle.ledger.specs.declared.Ledger.{Ledger}
 use Rattle.ledger.specs.declared.release.Released.{Released}
-use Rattle.plan.specs.declared.lend.ReleasedPath.{ReleasedPath}
-use Rattle.plan.proofs.Lending.{array-val, as-field, left, typed, lent, slice, lends, comes-back}
+use Rattle.book.specs.declared.ReleasedPath.{ReleasedPath}
+use Rattle.book.proofs.Lending.{array-val, as-field, left, typed, lent, slice, lends, comes-back}
 use Rattle.ledger.proofs.Record as T
 use Rattle.ledger.proofs.Record.Laws as T′
 use Rattle.ledger.proofs.Ledger as L
 use Rattle.ledger.proofs.Ledger.Laws as L′
 use Rattle.ledger.proofs.release.Released as S
 use Rattle.ledger.proofs.release.Released.Laws as S′
-use Rattle.plan.proofs.lend.ReleasedPath as N
-use Rattle.plan.proofs.lend.ReleasedPath.Laws as N′
+use Rattle.book.proofs.ReleasedPath as N
+use Rattle.book.proofs.ReleasedPath.Laws as N′
 use Rattle.ledger.proofs.release.release as rl
 use Rattle.ledger.proofs.release.release.Symbol as rl-def
 use Rattle.ledger.proofs.release.release.Symbol.{name as #release}
 use Rattle.ledger.proofs.release.release.Met as rl-thm
-use Rattle.plan.proofs.lend.release_path.Key.{name as #release-path}
-use Rattle.plan.proofs.lend.release_path as f
-use Rattle.plan.proofs.lend.release_path.Statement as stated
-use Rattle.plan.proofs.lend.release_path.Code as code
+use Rattle.book.proofs.release_path.Key.{name as #release-path}
+use Rattle.book.proofs.release_path as f
+use Rattle.book.proofs.release_path.Statement as stated
+use Rattle.book.proofs.release_path.Code as code
 
 abbrev stayed : Stays (f.ended .signature .params) (f.ended .kept)
 stayed = (stay-dropped (plain (λ _. L.the-row)) yes, (stay-dropped (plain (λ _. Array T.the-row 64)) yes, (stay-dropped (plain (λ _. u32)) yes, tt)))

@@ -41,24 +41,24 @@ use denote.Exit.{yes}
 use Rattle.ledger.specs.declared.Record.{Record}
 use Rattle.ledger.specs.declared.Ledger.{Ledger}
 use Rattle.ledger.specs.declared.admission.Admission.{Admission}
-use Rattle.plan.specs.declared.lend.AdmittedPath.{AdmittedPath}
-use Rattle.plan.proofs.Lending.{array-val, as-field, left, typed, lent, slice, lends, comes-back}
+use Rattle.book.specs.declared.AdmittedPath.{AdmittedPath}
+use Rattle.book.proofs.Lending.{array-val, as-field, left, typed, lent, slice, lends, comes-back}
 use Rattle.ledger.proofs.Record as T
 use Rattle.ledger.proofs.Record.Laws as T′
 use Rattle.ledger.proofs.Ledger as L
 use Rattle.ledger.proofs.Ledger.Laws as L′
 use Rattle.ledger.proofs.admission.Admission as S
 use Rattle.ledger.proofs.admission.Admission.Laws as S′
-use Rattle.plan.proofs.lend.AdmittedPath as N
-use Rattle.plan.proofs.lend.AdmittedPath.Laws as N′
+use Rattle.book.proofs.AdmittedPath as N
+use Rattle.book.proofs.AdmittedPath.Laws as N′
 use Rattle.ledger.proofs.admission.admit as ad
 use Rattle.ledger.proofs.admission.admit.Symbol as ad-def
 use Rattle.ledger.proofs.admission.admit.Symbol.{name as #admit}
 use Rattle.ledger.proofs.admission.admit.Met as ad-thm
-use Rattle.plan.proofs.lend.admit_path.Key.{name as #admit-path}
-use Rattle.plan.proofs.lend.admit_path as f
-use Rattle.plan.proofs.lend.admit_path.Statement as stated
-use Rattle.plan.proofs.lend.admit_path.Code as code
+use Rattle.book.proofs.admit_path.Key.{name as #admit-path}
+use Rattle.book.proofs.admit_path as f
+use Rattle.book.proofs.admit_path.Statement as stated
+use Rattle.book.proofs.admit_path.Code as code
 
 abbrev stayed : Stays (f.ended .signature .params) (f.ended .kept)
 stayed = (stay-dropped (plain (λ _. L.the-row)) yes, (stay-dropped (plain (λ _. Array T.the-row 64)) yes, (stay-dropped (plain (λ _. u32)) yes, (stay-dropped (shrSliceOf (0 ∷ []) tt (plain (λ _. u8))) yes, tt))))

@@ -27,7 +27,7 @@ use Rattle.ledger.specs.declared.Record.{Record}
 use Rattle.ledger.proofs.Rows.{local-row, row-local}
 use Rattle.ledger.proofs.Record as T
 use Rattle.ledger.proofs.Record.Laws as T′
-use Rattle.plan.proofs.Lending.{array-val, lent, slice}
+use Rattle.book.proofs.Lending.{array-val, lent, slice}
 
 abbrev arr : Ty
 arr = tyArray T′.mir 64

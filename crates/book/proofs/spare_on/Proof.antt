@@ -1,4 +1,4 @@
--- `plan::lend::spare_on` is safe: a walk of its MIR, by hand. The records are lent to `spare_rate` for a lifetime of the call, and come back as they were.
+-- `book::spare_on` is safe: a walk of its MIR, by hand. The records are lent to `spare_rate` for a lifetime of the call, and come back as they were.
 use mathlib.Core.Path.{_≡_, refl}
 use Prim.Native.Nat.{ℕ, _<_, _^_}
 use mathlib.Core.List.{[], _∷_, List}
@@ -52,12 +52,12 @@ use Rattle.ledger.proofs.spare.spare_rate as sp
 use Rattle.ledger.proofs.spare.spare_rate.Symbol as sp-def
 use Rattle.ledger.proofs.spare.spare_rate.Symbol.{name as #spare-rate}
 use Rattle.ledger.proofs.spare.spare_rate.Met as sp-thm
-use Rattle.plan.proofs.Lending.{array-val, typed, lent, slice}
-use Rattle.plan.proofs.Sharing.{lends-shared, shared-back}
-use Rattle.plan.proofs.lend.spare_on.Key.{name as #spare-on}
-use Rattle.plan.proofs.lend.spare_on as f
-use Rattle.plan.proofs.lend.spare_on.Statement as stated
-use Rattle.plan.proofs.lend.spare_on.Code as code
+use Rattle.book.proofs.Lending.{array-val, typed, lent, slice}
+use Rattle.book.proofs.Sharing.{lends-shared, shared-back}
+use Rattle.book.proofs.spare_on.Key.{name as #spare-on}
+use Rattle.book.proofs.spare_on as f
+use Rattle.book.proofs.spare_on.Statement as stated
+use Rattle.book.proofs.spare_on.Code as code
 
 abbrev stayed : Stays (f.ended .signature .params) (f.ended .kept)
 stayed = (stay-dropped (plain (λ _. L.the-row)) yes, (stay-dropped (plain (λ _. Array T.the-row 64)) yes, (stay-dropped (plain (λ _. u32)) yes, tt)))

@@ -1,0 +1,175 @@
+//! The ledger of links (section 6).
+
+use super::Refusal;
+use super::figures::figures;
+use super::sheet::{Declaration, Path};
+
+pub const LINKS: usize = 16;
+
+/// The records that a ledger is lent.
+pub const RECORDS: usize = 64;
+
+const LARGEST_CAPACITY: u32 = 1_000_000;
+
+const LARGEST_NUMBER: u32 = 65_535;
+
+#[derive(Clone, Copy, Debug, Default, PartialEq, Eq)]
+pub struct Record {
+    pub number: u32,
+    pub rate: u32,
+    /// Bit i for link i.
+    pub links: u32,
+}
+
+impl Record {
+    const CLEAR: Record = Record {
+        number: 0,
+        rate: 0,
+        links: 0,
+    };
+
+    fn in_range(&self) -> bool {
+        self.number <= LARGEST_NUMBER && (1..=65_535).contains(&self.rate) && self.links <= 0xFFFF
+    }
+
+    fn is_on(&self, link: usize) -> bool {
+        self.links >> link & 1 == 1
+    }
+}
+
+/// What an admitted path reserves, and its delay.
+#[derive(Clone, Copy, Debug, PartialEq, Eq)]
+pub struct Admitted {
+    pub rate: u32,
+    pub delay: u64,
+}
+
+/// The links' capacities, and how many of the lent records stand.
+#[derive(Clone, Copy, Debug, PartialEq, Eq)]
+pub struct Ledger {
+    pub capacities: [u32; LINKS],
+    pub count: usize,
+}
+
+/// What a path reserves on each link that it names.
+fn reserved_by(declaration: Declaration) -> u32 {
+    declaration.quota.div_ceil(declaration.interval)
+}
+
+fn links_of(path: &Path) -> u32 {
+    path.places[..path.count]
+        .iter()
+        .fold(0, |links, place| links | 1 << place.link)
+}
+
+fn find(standing: &[Record], number: u32) -> Option<usize> {
+    standing.iter().position(|record| record.number == number)
+}
+
+impl Ledger {
+    /// A new ledger; clears all records.
+    pub fn open(capacities: [u32; LINKS], records: &mut [Record]) -> Result<Ledger, Refusal> {
+        if records.len() != RECORDS {
+            return Err(Refusal::Unusable);
+        }
+        if capacities
+            .iter()
+            .any(|&capacity| capacity > LARGEST_CAPACITY)
+        {
+            return Err(Refusal::OutOfRange(0));
+        }
+        records.fill(Record::CLEAR);
+        Ok(Ledger {
+            capacities,
+            count: 0,
+        })
+    }
+
+    /// Admits a sheet's path under a number.
+    pub fn admit(
+        &mut self,
+        records: &mut [Record],
+        number: u32,
+        sheet: &[u8],
+    ) -> Result<Admitted, Refusal> {
+        if number > LARGEST_NUMBER {
+            return Err(Refusal::Unusable);
+        }
+        let reserved = self.test(records)?;
+        let figures = figures(sheet)?;
+        if find(&records[..self.count], number).is_some() {
+            return Err(Refusal::PathNumberWrong);
+        }
+        if self.count == RECORDS {
+            return Err(Refusal::LedgerFull);
+        }
+        let record = Record {
+            number,
+            rate: reserved_by(figures.path.declaration),
+            links: links_of(&figures.path),
+        };
+        for link in 0..LINKS {
+            if record.is_on(link) && reserved[link] + record.rate > self.capacities[link] {
+                return Err(Refusal::LinkShort);
+            }
+        }
+        records[self.count] = record;
+        self.count += 1;
+        Ok(Admitted {
+            rate: record.rate,
+            delay: figures.delay,
+        })
+    }
+
+    /// Releases the path of a number, and closes the gap.
+    pub fn release(&mut self, records: &mut [Record], number: u32) -> Result<(), Refusal> {
+        if number > LARGEST_NUMBER {
+            return Err(Refusal::Unusable);
+        }
+        self.test(records)?;
+        let standing = &mut records[..self.count];
+        let at = find(standing, number).ok_or(Refusal::PathNumberWrong)?;
+        standing.copy_within(at + 1.., at);
+        self.count -= 1;
+        records[self.count] = Record::CLEAR;
+        Ok(())
+    }
+
+    /// Tests all that is stored and lent, and answers the reserved total of each link.
+    fn test(&self, records: &[Record]) -> Result<[u32; LINKS], Refusal> {
+        if records.len() != RECORDS
+            || self.count > RECORDS
+            || self
+                .capacities
+                .iter()
+                .any(|&capacity| capacity > LARGEST_CAPACITY)
+        {
+            return Err(Refusal::Unusable);
+        }
+        let (standing, clear) = records.split_at(self.count);
+        if !standing.iter().all(Record::in_range) || clear.iter().any(|r| *r != Record::CLEAR) {
+            return Err(Refusal::Unusable);
+        }
+        for (j, record) in standing.iter().enumerate() {
+            if find(&standing[..j], record.number).is_some() {
+                return Err(Refusal::Unusable);
+            }
+        }
+        let mut reserved = [0; LINKS];
+        for record in standing {
+            for (link, sum) in reserved.iter_mut().enumerate() {
+                if record.is_on(link) {
+                    *sum += record.rate;
+                }
+            }
+        }
+        if reserved
+            .iter()
+            .zip(&self.capacities)
+            .any(|(sum, capacity)| sum > capacity)
+        {
+            return Err(Refusal::Unusable);
+        }
+        Ok(reserved)
+    }
+}

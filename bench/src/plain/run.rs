@@ -1,0 +1,277 @@
+//! A path run slot by slot (sections 2, 3 and 6).
+
+use super::figures::figures;
+use super::sheet::{Declaration, Kind, MOST_OPERATORS, Operator};
+use super::{LARGEST, Refusal};
+
+/// The words that a run is lent: 1,024 of the meter, then 64 of each operator.
+pub const WORDS: usize = 2_048;
+
+const METER_WORDS: usize = 1_024;
+
+const OPERATOR_WORDS: usize = 64;
+
+const LAST_SLOT: u32 = 1_073_741_822;
+
+/// An operator with section 3's b and a filter's h. A delayer's b is in its words alone.
+#[derive(Clone, Copy, Debug, PartialEq, Eq)]
+pub struct Stage {
+    pub operator: Operator,
+    pub held: u64,
+    pub beside: u64,
+}
+
+impl Stage {
+    /// The stage behind the path's operators.
+    const NONE: Stage = Stage {
+        operator: Operator::Limiter(0),
+        held: 0,
+        beside: 0,
+    };
+
+    /// Tests the stage and its words, and answers section 3's b.
+    fn test(&self, words: &[u32]) -> Result<u64, Refusal> {
+        let beside_fits = match self.operator {
+            Operator::Filter(_) => self.beside <= LARGEST,
+            _ => self.beside == 0,
+        };
+        if !self.operator.in_range() || !beside_fits {
+            return Err(Refusal::Unusable);
+        }
+        let held = match self.operator {
+            Operator::Delayer(delay) => {
+                let (used, unused) = words.split_at(delay as usize);
+                if self.held != 0 || !all_zero(unused) {
+                    return Err(Refusal::Unusable);
+                }
+                sum(used)?
+            }
+            _ => {
+                if !all_zero(words) {
+                    return Err(Refusal::Unusable);
+                }
+                self.held
+            }
+        };
+        if held > LARGEST {
+            return Err(Refusal::Unusable);
+        }
+        Ok(held)
+    }
+}
+
+/// What an operator does in a slot.
+#[derive(Clone, Copy, Default)]
+struct Move {
+    input: u64,
+    kept: u64,
+    beside: u64,
+}
+
+#[derive(Clone, Copy, Debug, PartialEq, Eq)]
+pub struct Run {
+    pub declaration: Declaration,
+    pub slot: u32,
+    /// The block's total under a smooth declaration.
+    pub block: u64,
+    pub count: usize,
+    pub stages: [Stage; MOST_OPERATORS],
+}
+
+fn all_zero(words: &[u32]) -> bool {
+    words.iter().all(|&word| word == 0)
+}
+
+/// The sum of the words, each of which is an amount stored.
+fn sum(words: &[u32]) -> Result<u64, Refusal> {
+    if words.iter().any(|&word| u64::from(word) > LARGEST) {
+        return Err(Refusal::Unusable);
+    }
+    Ok(words.iter().map(|&word| u64::from(word)).sum())
+}
+
+/// A delayer's words after a slot: `leaving` units leave beyond those that are due, the oldest first.
+fn age(words: &mut [u32], input: u64, mut leaving: u64) {
+    let last = words.len() - 1;
+    for word in words[..last].iter_mut().rev() {
+        if leaving == 0 {
+            break;
+        }
+        let part = leaving.min(u64::from(*word));
+        *word -= part as u32;
+        leaving -= part;
+    }
+    words.copy_within(..last, 1);
+    words[0] = (input - leaving) as u32;
+}
+
+impl Run {
+    /// Opens the run of a sheet's path and clears its words.
+    pub fn open(sheet: &[u8], words: &mut [u32]) -> Result<Run, Refusal> {
+        if words.len() != WORDS {
+            return Err(Refusal::Unusable);
+        }
+        let path = figures(sheet)?.path;
+        words.fill(0);
+        Ok(Run {
+            declaration: path.declaration,
+            slot: 0,
+            block: 0,
+            count: path.count,
+            stages: path.places.map(|place| Stage {
+                operator: place.operator,
+                ..Stage::NONE
+            }),
+        })
+    }
+
+    /// Takes one slot, with a choice for each operator, and answers the last operator's output.
+    pub fn slot(&mut self, words: &mut [u32], input: u64, choices: &[u64]) -> Result<u64, Refusal> {
+        if choices.len() != self.count
+            || input > LARGEST
+            || choices.iter().any(|&choice| choice > LARGEST)
+        {
+            return Err(Refusal::Unusable);
+        }
+        let (counted, held) = self.test(words)?;
+        if counted + input > u64::from(self.declaration.quota) {
+            return Err(Refusal::InputBreaksDeclaration);
+        }
+        let (moves, output) = self.decide(words, &held, input, choices)?;
+        self.write(words, counted, input, choices, &moves);
+        Ok(output)
+    }
+
+    /// Tests all that is stored and lent. Answers the units that count with the next input, and section 3's b of each operator.
+    fn test(&self, words: &[u32]) -> Result<(u64, [u64; MOST_OPERATORS]), Refusal> {
+        if words.len() != WORDS
+            || self.count == 0
+            || self.count > MOST_OPERATORS
+            || self.slot > LAST_SLOT
+            || !self.declaration.in_range()
+        {
+            return Err(Refusal::Unusable);
+        }
+        let (meter_words, operator_words) = words.split_at(METER_WORDS);
+        let counted = self.test_meter(meter_words)?;
+        let mut held = [0; MOST_OPERATORS];
+        for (k, words) in operator_words.chunks_exact(OPERATOR_WORDS).enumerate() {
+            let stage = &self.stages[k];
+            if k < self.count {
+                held[k] = stage.test(words)?;
+            } else if *stage != Stage::NONE || !all_zero(words) {
+                return Err(Refusal::Unusable);
+            }
+        }
+        Ok((counted, held))
+    }
+
+    fn test_meter(&self, words: &[u32]) -> Result<u64, Refusal> {
+        let interval = self.declaration.interval;
+        let at = self.slot % interval;
+        match self.declaration.kind {
+            Kind::Smooth => {
+                if self.block > LARGEST || !all_zero(words) {
+                    return Err(Refusal::Unusable);
+                }
+                Ok(if at == 0 { 0 } else { self.block })
+            }
+            Kind::Uniform => {
+                let (used, unused) = words.split_at(interval as usize);
+                if self.block != 0 || !all_zero(unused) {
+                    return Err(Refusal::Unusable);
+                }
+                Ok(sum(used)? - u64::from(used[at as usize]))
+            }
+        }
+    }
+
+    /// Decides on all operators, from the left, before anything is written.
+    fn decide(
+        &self,
+        words: &[u32],
+        held: &[u64; MOST_OPERATORS],
+        input: u64,
+        choices: &[u64],
+    ) -> Result<([Move; MOST_OPERATORS], u64), Refusal> {
+        let mut moves = [Move::default(); MOST_OPERATORS];
+        let mut arriving = input;
+        let mut storable = true;
+        for (k, &choice) in choices.iter().enumerate() {
+            let stage = &self.stages[k];
+            let there = held[k] + arriving;
+            let mut beside = 0;
+            let (least, greatest) = match stage.operator {
+                Operator::Limiter(rate) => {
+                    let sent = there.min(u64::from(rate));
+                    (sent, sent)
+                }
+                Operator::Compactor(interval) => {
+                    let sent = if self.slot % interval == 0 {
+                        held[k]
+                    } else {
+                        0
+                    };
+                    (sent, sent)
+                }
+                Operator::Expander(interval) => {
+                    let last = (self.slot + 1) % interval == 0;
+                    (if last { there } else { 0 }, there)
+                }
+                Operator::Filter(rate) => {
+                    beside = (stage.beside + arriving).saturating_sub(u64::from(rate));
+                    (there.saturating_sub(beside), there)
+                }
+                Operator::Delayer(delay) => {
+                    let oldest = METER_WORDS + OPERATOR_WORDS * k + delay as usize - 1;
+                    (u64::from(words[oldest]), there)
+                }
+            };
+            if choice > greatest - least {
+                return Err(Refusal::ChoiceAboveGreatest(k));
+            }
+            let sent = least + choice;
+            let kept = there - sent;
+            storable &= kept <= LARGEST && beside <= LARGEST;
+            moves[k] = Move {
+                input: arriving,
+                kept,
+                beside,
+            };
+            arriving = sent;
+        }
+        if !storable {
+            return Err(Refusal::Unusable);
+        }
+        Ok((moves, arriving))
+    }
+
+    fn write(
+        &mut self,
+        words: &mut [u32],
+        counted: u64,
+        input: u64,
+        choices: &[u64],
+        moves: &[Move; MOST_OPERATORS],
+    ) {
+        match self.declaration.kind {
+            Kind::Smooth => self.block = counted + input,
+            Kind::Uniform => words[(self.slot % self.declaration.interval) as usize] = input as u32,
+        }
+        for (k, &choice) in choices.iter().enumerate() {
+            let stage = &mut self.stages[k];
+            if let Operator::Delayer(delay) = stage.operator {
+                let start = METER_WORDS + OPERATOR_WORDS * k;
+                age(
+                    &mut words[start..start + delay as usize],
+                    moves[k].input,
+                    choice,
+                );
+            } else {
+                stage.held = moves[k].kept;
+                stage.beside = moves[k].beside;
+            }
+        }
+        self.slot += 1;
+    }
+}

@@ -1,0 +1,255 @@
+//! A path and its sheet (sections 1 and 5).
+
+use super::Refusal;
+
+pub const MOST_OPERATORS: usize = 16;
+
+/// The length of the memory that the writer is lent.
+pub const SHEET_MEMORY: usize = 256;
+
+const HEADER: usize = 3;
+
+#[derive(Clone, Copy, Debug, PartialEq, Eq)]
+pub enum Kind {
+    Smooth,
+    Uniform,
+}
+
+#[derive(Clone, Copy, Debug, PartialEq, Eq)]
+pub struct Declaration {
+    pub kind: Kind,
+    pub interval: u32,
+    pub quota: u32,
+}
+
+impl Declaration {
+    pub fn in_range(&self) -> bool {
+        (1..=1_024).contains(&self.interval) && (1..=65_535).contains(&self.quota)
+    }
+}
+
+#[derive(Clone, Copy, Debug, PartialEq, Eq)]
+pub enum Operator {
+    Limiter(u32),
+    Compactor(u32),
+    Expander(u32),
+    Filter(u32),
+    Delayer(u32),
+}
+
+impl Operator {
+    fn new(kind: u8, number: u32) -> Option<Operator> {
+        match kind {
+            0 => Some(Operator::Limiter(number)),
+            1 => Some(Operator::Compactor(number)),
+            2 => Some(Operator::Expander(number)),
+            3 => Some(Operator::Filter(number)),
+            4 => Some(Operator::Delayer(number)),
+            _ => None,
+        }
+    }
+
+    pub fn kind(self) -> u8 {
+        match self {
+            Operator::Limiter(_) => 0,
+            Operator::Compactor(_) => 1,
+            Operator::Expander(_) => 2,
+            Operator::Filter(_) => 3,
+            Operator::Delayer(_) => 4,
+        }
+    }
+
+    pub fn number(self) -> u32 {
+        match self {
+            Operator::Limiter(number)
+            | Operator::Compactor(number)
+            | Operator::Expander(number)
+            | Operator::Filter(number)
+            | Operator::Delayer(number) => number,
+        }
+    }
+
+    pub fn in_range(self) -> bool {
+        match self {
+            Operator::Limiter(rate) | Operator::Filter(rate) => (1..=65_535).contains(&rate),
+            Operator::Compactor(n) | Operator::Expander(n) => (1..=1_024).contains(&n),
+            Operator::Delayer(delay) => (1..=64).contains(&delay),
+        }
+    }
+}
+
+/// An operator and the link that it is on.
+#[derive(Clone, Copy, Debug, PartialEq, Eq)]
+pub struct Place {
+    pub operator: Operator,
+    pub link: u32,
+}
+
+impl Place {
+    const NONE: Place = Place {
+        operator: Operator::Limiter(0),
+        link: 0,
+    };
+
+    fn in_range(&self) -> bool {
+        self.operator.in_range() && self.link <= 15
+    }
+}
+
+/// The path has the first `count` of its places.
+#[derive(Clone, Copy, Debug, PartialEq, Eq)]
+pub struct Path {
+    pub declaration: Declaration,
+    pub wanted: u32,
+    pub count: usize,
+    pub places: [Place; MOST_OPERATORS],
+}
+
+/// The fields of a sheet, from the left.
+struct Fields<'a> {
+    sheet: &'a [u8],
+    at: usize,
+}
+
+impl<'a> Fields<'a> {
+    /// The body of the next field, which is due with this tag and length (refusals 2 to 4).
+    fn body<const LENGTH: usize>(&mut self, tag: u8) -> Result<&'a [u8; LENGTH], Refusal> {
+        let at = self.at;
+        let rest = &self.sheet[at..];
+        if rest.is_empty() {
+            return Err(Refusal::FieldUnexpected(at));
+        }
+        let Some((header, rest)) = rest.split_first_chunk::<HEADER>() else {
+            return Err(Refusal::HeaderCutOff(at));
+        };
+        let length = usize::from(u16::from_be_bytes([header[1], header[2]]));
+        if header[0] != tag || length != LENGTH {
+            return Err(Refusal::FieldUnexpected(at));
+        }
+        let body = rest.first_chunk().ok_or(Refusal::BodyCutOff(at))?;
+        self.at = at + HEADER + LENGTH;
+        Ok(body)
+    }
+
+    fn declaration(&mut self) -> Result<Declaration, Refusal> {
+        let at = self.at;
+        let &[kind, m0, m1, q0, q1, q2, q3] = self.body(0x01)?;
+        let kind = match kind {
+            0 => Kind::Smooth,
+            1 => Kind::Uniform,
+            _ => return Err(Refusal::OutOfRange(at)),
+        };
+        let declaration = Declaration {
+            kind,
+            interval: u32::from(u16::from_be_bytes([m0, m1])),
+            quota: u32::from_be_bytes([q0, q1, q2, q3]),
+        };
+        if !declaration.in_range() {
+            return Err(Refusal::OutOfRange(at));
+        }
+        Ok(declaration)
+    }
+
+    fn wanted(&mut self) -> Result<u32, Refusal> {
+        let at = self.at;
+        let wanted = u32::from_be_bytes(*self.body(0x02)?);
+        if wanted > 65_535 {
+            return Err(Refusal::OutOfRange(at));
+        }
+        Ok(wanted)
+    }
+
+    fn place(&mut self) -> Result<Place, Refusal> {
+        let at = self.at;
+        let &[kind, link, n0, n1, n2, n3] = self.body(0x03)?;
+        let number = u32::from_be_bytes([n0, n1, n2, n3]);
+        let operator = Operator::new(kind, number).ok_or(Refusal::OutOfRange(at))?;
+        let place = Place {
+            operator,
+            link: u32::from(link),
+        };
+        if !place.in_range() {
+            return Err(Refusal::OutOfRange(at));
+        }
+        Ok(place)
+    }
+
+    fn left(&self) -> usize {
+        self.sheet.len() - self.at
+    }
+}
+
+/// The path of a sheet.
+pub fn read(sheet: &[u8]) -> Result<Path, Refusal> {
+    let mut fields = Fields { sheet, at: 0 };
+    let declaration = fields.declaration()?;
+    let wanted = fields.wanted()?;
+    let mut path = Path {
+        declaration,
+        wanted,
+        count: 0,
+        places: [Place::NONE; MOST_OPERATORS],
+    };
+    loop {
+        path.places[path.count] = fields.place()?;
+        path.count += 1;
+        if fields.left() == 0 {
+            return Ok(path);
+        }
+        if path.count == MOST_OPERATORS {
+            return Err(if fields.left() < HEADER {
+                Refusal::HeaderCutOff(fields.at)
+            } else {
+                Refusal::FieldUnexpected(fields.at)
+            });
+        }
+    }
+}
+
+/// Writes the sheet of a path into 256 bytes, and answers its length.
+pub fn write(path: &Path, sheet: &mut [u8]) -> Result<usize, Refusal> {
+    if sheet.len() != SHEET_MEMORY {
+        return Err(Refusal::Unusable);
+    }
+    if path.count == 0 || path.count > MOST_OPERATORS {
+        return Err(Refusal::FieldUnexpected(0));
+    }
+    let places = &path.places[..path.count];
+    if !path.declaration.in_range() || path.wanted > 65_535 || !places.iter().all(Place::in_range) {
+        return Err(Refusal::OutOfRange(0));
+    }
+    let mut at = 0;
+    let mut put = |field: &[u8]| {
+        sheet[at..at + field.len()].copy_from_slice(field);
+        at += field.len();
+    };
+    let Declaration {
+        kind,
+        interval,
+        quota,
+    } = path.declaration;
+    let kind = match kind {
+        Kind::Smooth => 0,
+        Kind::Uniform => 1,
+    };
+    let [_, _, m0, m1] = interval.to_be_bytes();
+    let [q0, q1, q2, q3] = quota.to_be_bytes();
+    put(&[0x01, 0, 7, kind, m0, m1, q0, q1, q2, q3]);
+    let [w0, w1, w2, w3] = path.wanted.to_be_bytes();
+    put(&[0x02, 0, 4, w0, w1, w2, w3]);
+    for place in places {
+        let [n0, n1, n2, n3] = place.operator.number().to_be_bytes();
+        put(&[
+            0x03,
+            0,
+            6,
+            place.operator.kind(),
+            place.link as u8,
+            n0,
+            n1,
+            n2,
+            n3,
+        ]);
+    }
+    Ok(at)
+}

@@ -1,0 +1,179 @@
+//! The workloads over the plain implementation, step by step as `crates/workload` has them.
+
+use crate::plain::Refusal;
+use crate::plain::figures::figures as figures_of;
+use crate::plain::ledger::{LINKS, Ledger, RECORDS, Record};
+use crate::plain::run::Run;
+use crate::plain::sheet::{Path, read, write};
+
+/// A checksum with one more number.
+pub fn mix(sum: u64, number: u64) -> u64 {
+    sum.rotate_left(5).wrapping_add(number)
+}
+
+fn mix_refusal(sum: u64, why: Refusal) -> u64 {
+    mix(mix(sum, u64::from(why.number())), why.place() as u64)
+}
+
+/// Where the next part of a list begins, all being of one width; behind the last the first again.
+fn after(at: usize, width: usize, length: usize) -> usize {
+    let end = at + width;
+    if width <= length - end { end } else { 0 }
+}
+
+pub fn figures(sheets: &[u8], width: usize, turns: u64) -> u64 {
+    let (mut sum, mut at, mut k) = (0, 0, 0);
+    for _ in 0..turns {
+        sum = match figures_of(&sheets[at..at + width]) {
+            Err(why) => mix_refusal(sum, why),
+            Ok(answer) => {
+                let figure = answer.figures[k];
+                mix(mix(mix(sum, answer.delay), figure.capacity), figure.delay)
+            }
+        };
+        at = after(at, width, sheets.len());
+        k = after(k, 1, 16);
+    }
+    sum
+}
+
+pub fn reading(sheets: &[u8], width: usize, turns: u64) -> u64 {
+    let (mut sum, mut at, mut k) = (0, 0, 0);
+    for _ in 0..turns {
+        sum = match read(&sheets[at..at + width]) {
+            Err(why) => mix_refusal(sum, why),
+            Ok(path) => mix_path(sum, &path, k),
+        };
+        at = after(at, width, sheets.len());
+        k = after(k, 1, 16);
+    }
+    sum
+}
+
+fn mix_path(sum: u64, path: &Path, k: usize) -> u64 {
+    let place = path.places[k];
+    let sum = mix(sum, path.count as u64);
+    let sum = mix(sum, u64::from(path.wanted));
+    let sum = mix(sum, u64::from(path.declaration.interval));
+    let sum = mix(sum, u64::from(path.declaration.quota));
+    let sum = mix(sum, u64::from(place.link));
+    let sum = mix(sum, u64::from(place.operator.kind()));
+    mix(sum, u64::from(place.operator.number()))
+}
+
+pub fn writing(sheets: &[u8], width: usize, written: &mut [u8], turns: u64) -> u64 {
+    let (mut sum, mut at) = (0, 0);
+    let paths: [Path; 64] = std::array::from_fn(|_| {
+        let path =
+            read(&sheets[at..at + width]).expect("the sheets to be written back are accepted");
+        at = after(at, width, sheets.len());
+        path
+    });
+    let mut j = 0;
+    for left in (1..=turns).rev() {
+        sum = match write(&paths[j], written) {
+            Err(why) => mix_refusal(sum, why),
+            Ok(length) => mix(sum, length as u64),
+        };
+        sum = mix(sum, u64::from(written[(left % 256) as usize]));
+        j = after(j, 1, 64);
+    }
+    sum
+}
+
+pub fn slots(
+    sheet: &[u8],
+    words: &mut [u32],
+    inputs: &[u64],
+    choices: &[u64],
+    width: usize,
+    turns: u64,
+) -> u64 {
+    let mut run = match Run::open(sheet, words) {
+        Err(why) => return mix_refusal(0, why),
+        Ok(run) => run,
+    };
+    let (mut sum, mut t, mut at) = (0, 0, 0);
+    for _ in 0..turns {
+        sum = match run.slot(words, inputs[t], &choices[at..at + width]) {
+            Err(why) => mix_refusal(sum, why),
+            Ok(output) => mix(sum, output),
+        };
+        t = after(t, 1, inputs.len());
+        at = after(at, width, choices.len());
+    }
+    sum = mix(mix(sum, u64::from(run.slot)), run.block);
+    for stage in run.stages {
+        sum = mix(mix(sum, stage.held), stage.beside);
+    }
+    sum
+}
+
+fn filled(
+    capacity: u32,
+    numbers: &[u32],
+    sheets: &[u8],
+    width: usize,
+) -> (Ledger, [Record; RECORDS]) {
+    let mut records = [Record::default(); RECORDS];
+    let mut ledger =
+        Ledger::open([capacity; LINKS], &mut records).expect("the capacity is in its range");
+    let mut at = 0;
+    for &number in numbers.iter().rev() {
+        // a refused path does not stand
+        let _ = ledger.admit(&mut records, number, &sheets[at..at + width]);
+        at = after(at, width, sheets.len());
+    }
+    (ledger, records)
+}
+
+pub fn admissions(
+    capacity: u32,
+    standing: &[u32],
+    further: &[u32],
+    sheets: &[u8],
+    width: usize,
+    turns: u64,
+) -> u64 {
+    let (ledger, records) = filled(capacity, standing, sheets, width);
+    let (mut sum, mut at, mut j) = (0, 0, 0);
+    for _ in 0..turns {
+        let (mut ledger, mut records) = (ledger, records);
+        let answer = ledger.admit(&mut records, further[j], &sheets[at..at + width]);
+        sum = mix(sum, ledger.count as u64);
+        sum = match answer {
+            Err(why) => mix_refusal(sum, why),
+            Ok(admitted) => mix_record(mix(sum, admitted.delay), records[63]),
+        };
+        at = after(at, width, sheets.len());
+        j = after(j, 1, further.len());
+    }
+    sum
+}
+
+pub fn releases(
+    capacity: u32,
+    standing: &[u32],
+    released: &[u32],
+    sheets: &[u8],
+    width: usize,
+    turns: u64,
+) -> u64 {
+    let (ledger, records) = filled(capacity, standing, sheets, width);
+    let (mut sum, mut j) = (0, 0);
+    for left in (1..=turns).rev() {
+        let (mut ledger, mut records) = (ledger, records);
+        let answer = ledger.release(&mut records, released[j]);
+        sum = mix_record(mix(sum, ledger.count as u64), records[(left % 64) as usize]);
+        if let Err(why) = answer {
+            sum = mix_refusal(sum, why);
+        }
+        j = after(j, 1, released.len());
+    }
+    sum
+}
+
+fn mix_record(sum: u64, record: Record) -> u64 {
+    let sum = mix(sum, u64::from(record.number));
+    mix(mix(sum, u64::from(record.rate)), u64::from(record.links))
+}

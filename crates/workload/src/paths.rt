@@ -1,0 +1,157 @@
+// Admissions into a ledger and releases from it. Each turn begins with the same ledger.
+
+use crate::after;
+use crate::mix;
+use crate::mix_refusal;
+use book::AdmittedPath;
+use book::ReleasedPath;
+use book::admit_path;
+use book::open_book;
+use book::release_path;
+use ledger::Ledger;
+use ledger::Record;
+use ledger::no_record;
+use sheet::read::Verdict;
+ghost use Prim.Native.Nat.{_≤_, _<_};
+ghost use lib.ListN.{length};
+
+// A ledger with its records.
+struct Book {
+    ledger: Ledger,
+    records: [Record; 64],
+}
+
+// A ledger of sixteen links of one capacity, into which a sheet's path is admitted under each of some numbers, from the last on.
+fn filled(capacity: u32, numbers: &[u32], sheets: &[u8], width: usize) -> Book
+    requires { ⌜ width ≤ length (now sheets) ⌝ }
+{
+    let none = no_record();
+    let opened = open_book([capacity; 16], [none; 64]);
+    let records = opened.records;
+    let answer = opened.opened;
+    let ledger = answer.ledger;
+    let mut book = Book { ledger, records };
+    let mut at = 0;
+    let mut left = numbers.len();
+    while 0 < left {
+        left -= 1;
+        let ledger = book.ledger;
+        let records = book.records;
+        let end = at + width;
+        book = admitted(admit_path(ledger, records, numbers[left], &sheets[at..end]));
+        at = after(at, width, sheets.len());
+    }
+    book
+}
+
+fn admitted(answer: AdmittedPath) -> Book {
+    let admission = answer.admission;
+    let ledger = admission.ledger;
+    let records = answer.records;
+    Book { ledger, records }
+}
+
+// A ledger with paths; then in each turn an admission into it, under the next of further numbers.
+#[no_mangle]
+pub extern "C" fn workload_admissions(
+    capacity: u32,
+    standing: &[u32],
+    further: &[u32],
+    sheets: &[u8],
+    width: usize,
+    turns: u64,
+) -> u64 {
+    let mut sum: u64 = 0;
+    if further.len() == 0 {
+        return sum;
+    }
+    if sheets.len() < width {
+        return sum;
+    }
+    let book = filled(capacity, standing, sheets, width);
+    let ledger = book.ledger;
+    let records = book.records;
+    let mut at = 0;
+    let mut j = 0;
+    let mut left = turns;
+    while 0 < left {
+        let end = at + width;
+        sum = mix_admitted(
+            sum,
+            admit_path(ledger, records, further[j], &sheets[at..end]),
+        );
+        at = after(at, width, sheets.len());
+        j = after(j, 1, further.len());
+        left -= 1;
+    }
+    sum
+}
+
+// A ledger with paths; then in each turn the release of one of them.
+#[no_mangle]
+pub extern "C" fn workload_releases(
+    capacity: u32,
+    standing: &[u32],
+    released: &[u32],
+    sheets: &[u8],
+    width: usize,
+    turns: u64,
+) -> u64 {
+    let mut sum: u64 = 0;
+    if released.len() == 0 {
+        return sum;
+    }
+    if sheets.len() < width {
+        return sum;
+    }
+    let book = filled(capacity, standing, sheets, width);
+    let ledger = book.ledger;
+    let records = book.records;
+    let mut j = 0;
+    let mut left = turns;
+    while 0 < left {
+        sum = mix_released(
+            sum,
+            release_path(ledger, records, released[j]),
+            (left % 64) as usize,
+        );
+        j = after(j, 1, released.len());
+        left -= 1;
+    }
+    sum
+}
+
+fn mix_admitted(sum: u64, answer: AdmittedPath) -> u64 {
+    let admission = answer.admission;
+    let ledger = admission.ledger;
+    let verdict = admission.verdict;
+    let next = mix(sum, ledger.count as u64);
+    match verdict {
+        Verdict::Refused(why) => mix_refusal(next, why),
+        Verdict::Accepted => {
+            let records = answer.records;
+            mix_record(mix(next, admission.delay.0 as u64), records[63])
+        }
+    }
+}
+
+fn mix_released(sum: u64, answer: ReleasedPath, k: usize) -> u64
+    requires { ⌜ k < 64 ⌝ }
+{
+    let released = answer.released;
+    let ledger = released.ledger;
+    let verdict = released.verdict;
+    let records = answer.records;
+    let next = mix_record(mix(sum, ledger.count as u64), records[k]);
+    match verdict {
+        Verdict::Refused(why) => mix_refusal(next, why),
+        Verdict::Accepted => next,
+    }
+}
+
+fn mix_record(sum: u64, entry: Record) -> u64 {
+    mix(
+        mix(mix(sum, entry.number.0 as u64), entry.rate.0 as u64),
+        entry.links as u64,
+    )
+}
