@@ -1,80 +1,37 @@
--- Words in two parts: those used fit if none has a part above the limit, the rest if their sum is 0, and both sums make the sum of all.
+-- Words in two parts: those used fit if each is small, the rest if each is 0, and then the used ones make the sum of all.
 use mathlib.Core.Path.{_≡_, refl, ap, ap₂, sym, _∙_}
 use mathlib.Core.Bool.{Bool, true, false}
-use Prim.Native.Nat.{ℕ, zero, suc, _+_, _-_, _/_, _≤_, _<_}
+use mathlib.Core.List.{List}
+use Prim.Native.Nat.{ℕ, zero, suc, _+_, _-_, _≤_, _<_}
 use native.Mathlib.Nat.{add-zero, add-suc}
 use native.Mathlib.Decide.{decLt}
-use mathlib.Core.List.{List}
+use native.Mathlib.Omega.{arith}
 use lib.ListN.{length, take, drop, length-drop}
 use lib.Seq.{length-take-le, getD-take, getD-drop}
-use native.Mathlib.Omega.{arith}
 use lib.Dec.{leb, ltb, eqb}
-use borrow.Author.Tests.{lt-ltb, le-ltb, le-leb, leb-true, eq-eqb, eqb-true}
+use borrow.Author.Tests.{lt-ltb, le-ltb, eqb-true}
 use Rattle.quantity.specs.Choice.{pick, both}
 use Rattle.quantity.specs.Sums.{total, every}
 use Rattle.quantity.specs.Limits.{largestAmount}
-use Rattle.quantity.proofs.Sums.{total-suc, total-same, total-none, term-le-total, every-at, every-holds, both-true}
+use Rattle.quantity.proofs.Sums.{total-suc, total-same, total-none, every-at, every-same, both-true, both-assoc}
 use Rattle.operator.specs.Stored.{wordAt, storedFits, wordFits}
+
+every-parts : (test : ℕ → Bool) (n k : ℕ) → every test (n + k) ≡ both (every test n) (every (λ j. test (n + j)) k)
+unfolding every
+every-parts test n zero = ap (every test) (add-zero n) ∙ both-true-end (every test n)
+  where
+    both-true-end : (a : Bool) → a ≡ both a true
+    both-true-end true = refl
+    both-true-end false = refl
+every-parts test n (suc k) =
+    ap (every test) (add-suc n k) ∙ ap (λ (t : Bool). both t (test (n + k))) (every-parts test n k) ∙ both-assoc (every test n) (every (λ j. test (n + j)) k) (test (n + k))
 
 total-parts : (f : ℕ → ℕ) (n k : ℕ) → total f (n + k) ≡ total f n + total (λ j. f (n + j)) k
 unfolding total
 total-parts f n zero = ap (total f) (add-zero n) ∙ sym (add-zero (total f n))
 total-parts f n (suc k) = ap (total f) (add-suc n k) ∙ (let shorter = total-parts f n k in omega arith)
 
--- a sum is 0 where each term is, and only there
-total-all-zero : (f : ℕ → ℕ) (n : ℕ) → ((k : ℕ) → k < n → f k ≡ 0) → total f n ≡ 0
-total-all-zero f n each = total-same f (λ k. 0) n each ∙ total-none n
-
--- tests that hold in the same cases are the same
-same-tests : (a b : Bool) → (a ≡ true → b ≡ true) → (b ≡ true → a ≡ true) → a ≡ b
-same-tests true b to from = sym (to refl)
-same-tests false true to from = from refl
-same-tests false false to from = refl
-
--- the first `end` numbers are used and the `rest` behind them are not
-module _ (word : ℕ → ℕ) (used end rest : ℕ) (below : end ≤ used) (past : (k : ℕ) → end ≤ k → k < end + rest → used ≤ k) where
-  abbrev above : ℕ
-  above = total (λ j. word j / 1073741824) end
-
-  abbrev unused : ℕ
-  unused = total (λ j. word (end + j)) rest
-
-  abbrev fits : ℕ → Bool
-  fits k = storedFits (ltb k used) (word k)
-
-  used-fits : (k : ℕ) → k < end → fits k ≡ leb (word k) largestAmount
-  unfolding storedFits
-  used-fits k less = ap (λ (t : Bool). pick t (leb (word k) largestAmount) (eqb (word k) 0)) (lt-ltb k used (omega arith))
-
-  rest-fits : (k : ℕ) → end ≤ k → k < end + rest → fits k ≡ eqb (word k) 0
-  unfolding storedFits
-  rest-fits k behind less = ap (λ (t : Bool). pick t (leb (word k) largestAmount) (eqb (word k) 0)) (le-ltb k used (past k behind less))
-
-  all-fit : above ≡ 0 → unused ≡ 0 → every fits (end + rest) ≡ true
-  all-fit none zero-sum =
-      every-holds fits (end + rest)
-      (λ k less. elim (decLt k end) [
-        | no behind ↦ rest-fits k (omega arith) less ∙ eq-eqb (word k) 0 (let here = term-le-total (λ j. word (end + j)) rest (k - end) (omega arith) in let at : end + (k - end) ≡ k = omega arith in omega (arith, here, zero-sum, ap word at))
-        | yes before ↦ used-fits k before ∙ le-leb (word k) largestAmount (let here = term-le-total (λ j. word j / 1073741824) end k before in omega (arith, here, none))
-      ])
-
-  none-above : every fits (end + rest) ≡ true → above ≡ 0
-  none-above all =
-      total-all-zero (λ j. word j / 1073741824) end
-      (λ k less. let small = leb-true (word k) largestAmount (sym (used-fits k less) ∙ every-at fits (end + rest) all k (omega arith)) in omega (arith, small))
-
-  none-unused : every fits (end + rest) ≡ true → unused ≡ 0
-  none-unused all =
-      total-all-zero (λ j. word (end + j)) rest
-      (λ j less. eqb-true (word (end + j)) 0 (sym (rest-fits (end + j) (omega arith) (omega (arith, less))) ∙ every-at fits (end + rest) all (end + j) (omega (arith, less))))
-
-  fits-in-parts : eqb (above + unused) 0 ≡ every fits (end + rest)
-  fits-in-parts =
-      same-tests (eqb (above + unused) 0) (every fits (end + rest))
-      (λ e. let none = eqb-true (above + unused) 0 e in all-fit (omega arith) (omega arith))
-      (λ e. eq-eqb (above + unused) 0 (omega (arith, none-above e, none-unused e)))
-
--- the same of the words that are lent in two parts
+-- the first `end` words are used, and those behind them are not
 module _ (words : List ℕ) (used end : ℕ) (below : end ≤ used) (within : end ≤ length words) (all : end < used → end ≡ length words) where
   abbrev first : List ℕ
   first = take (end - 0) words
@@ -88,30 +45,55 @@ module _ (words : List ℕ) (used end : ℕ) (below : end ≤ used) (within : en
   first-length : length first ≡ end
   first-length = let long = length-take-le (end - 0) words (omega arith) in omega arith
 
-  first-sum : (f : ℕ → ℕ) → total (λ j. f (wordAt first j)) (length first) ≡ total (λ j. f (wordAt words j)) end
-  first-sum f =
-      ap (total (λ j. f (wordAt first j))) first-length
-      ∙ total-same (λ j. f (wordAt first j)) (λ j. f (wordAt words j)) end (λ j less. ap f (getD-take (end - 0) words j 0 (omega (arith, less))))
+  behind-length : length behind ≡ rest
+  behind-length = length-take-le rest (drop end words) (omega (arith, length-drop end words))
 
-  rest-sum : total (wordAt behind) (length behind) ≡ total (λ j. wordAt words (end + j)) rest
-  rest-sum =
-      ap (total (wordAt behind)) (length-take-le rest (drop end words) (omega (arith, length-drop end words)))
-      ∙ total-same (wordAt behind) (λ j. wordAt words (end + j)) rest (λ j less. getD-take rest (drop end words) j 0 less ∙ getD-drop end words j 0)
+  first-word : (j : ℕ) → j < end → wordAt first j ≡ wordAt words j
+  first-word j less = getD-take (end - 0) words j 0 (omega (arith, less))
+
+  behind-word : (j : ℕ) → j < rest → wordAt behind j ≡ wordAt words (end + j)
+  behind-word j less = getD-take rest (drop end words) j 0 less ∙ getD-drop end words j 0
 
   whole : end + rest ≡ length words
   whole = omega arith
 
-  pub scanned-fits : eqb (total (λ j. wordAt first j / 1073741824) (length first) + total (wordAt behind) (length behind)) 0 ≡ every (wordFits used words) (length words)
-  unfolding wordFits
-  scanned-fits =
-      ap₂ (λ (a b : ℕ). eqb (a + b) 0) (first-sum (λ w. w / 1073741824)) rest-sum
-      ∙ fits-in-parts (wordAt words) used end rest below (λ k past less. omega (arith, all-used k past less)) ∙ ap (every (wordFits used words)) whole
-    where
-      all-used : (k : ℕ) → end ≤ k → k < end + rest → used ≤ end
-      all-used k past less = elim (decLt end used) [
-        | yes fewer ↦ let none = all fewer in omega arith
-        | no enough ↦ omega arith
-      ]
+  none-used : (j : ℕ) → j < rest → used ≤ end + j
+  none-used j less = elim (decLt end used) [
+    | yes fewer ↦ let none = all fewer in omega arith
+    | no enough ↦ omega arith
+  ]
 
-  pub scanned-units : total (wordAt first) (length first) + total (wordAt behind) (length behind) ≡ total (wordAt words) (length words)
-  scanned-units = ap₂ _+_ (first-sum (λ w. w)) rest-sum ∙ sym (total-parts (wordAt words) end rest) ∙ ap (total (wordAt words)) whole
+  abbrev small : Bool
+  small = every (λ j. leb (wordAt first j) largestAmount) (length first)
+
+  abbrev clear : Bool
+  clear = every (λ j. eqb (wordAt behind j) 0) (length behind)
+
+  first-fits : small ≡ every (wordFits used words) end
+  unfolding wordFits storedFits
+  first-fits =
+      ap (every (λ j. leb (wordAt first j) largestAmount)) first-length
+      ∙ every-same (λ j. leb (wordAt first j) largestAmount) (wordFits used words) end
+      (λ j less. ap (λ (w : ℕ). leb w largestAmount) (first-word j less)
+      ∙ ap (λ (t : Bool). pick t (leb (wordAt words j) largestAmount) (eqb (wordAt words j) 0)) (sym (lt-ltb j used (omega arith))))
+
+  behind-fits : clear ≡ every (λ j. wordFits used words (end + j)) rest
+  unfolding wordFits storedFits
+  behind-fits =
+      ap (every (λ j. eqb (wordAt behind j) 0)) behind-length
+      ∙ every-same (λ j. eqb (wordAt behind j) 0) (λ j. wordFits used words (end + j)) rest
+      (λ j less. ap (λ (w : ℕ). eqb w 0) (behind-word j less)
+      ∙ ap (λ (t : Bool). pick t (leb (wordAt words (end + j)) largestAmount) (eqb (wordAt words (end + j)) 0)) (sym (le-ltb (end + j) used (none-used j less))))
+
+  pub scanned-fits : both small clear ≡ every (wordFits used words) (length words)
+  scanned-fits = ap₂ both first-fits behind-fits ∙ sym (every-parts (wordFits used words) end rest) ∙ ap (every (wordFits used words)) whole
+
+  pub scanned-units : both small clear ≡ true → total (wordAt first) (length first) ≡ total (wordAt words) (length words)
+  scanned-units fits =
+      let zeros = both-true small clear fits .1 in
+      let none : total (λ j. wordAt words (end + j)) rest ≡ 0 =
+      total-same (λ j. wordAt words (end + j)) (λ j. 0) rest
+      (λ j less. sym (behind-word j less) ∙ eqb-true (wordAt behind j) 0 (every-at (λ j. eqb (wordAt behind j) 0) (length behind) zeros j (omega (arith, behind-length, less))))
+      ∙ total-none rest in
+      ap (total (wordAt first)) first-length ∙ total-same (wordAt first) (wordAt words) end first-word
+      ∙ (let parts = total-parts (wordAt words) end rest in let same = ap (total (wordAt words)) whole in omega arith)

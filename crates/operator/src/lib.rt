@@ -7,11 +7,12 @@ use quantity::Rate;
 use quantity::Slots;
 use quantity::Units;
 ghost use mathlib.Core.Path.{_≡_};
-ghost use mathlib.Core.Bool.{not};
+ghost use mathlib.Core.Bool.{true, not};
 ghost use mathlib.Core.List.{[], _∷_};
-ghost use Prim.Native.Nat.{_*_, _/_, _≤_, _<_};
-ghost use lib.Dec.{ltb, eqb};
+ghost use Prim.Native.Nat.{_*_, _≤_, _<_};
+ghost use lib.Dec.{leb, ltb, eqb};
 ghost use lib.ListN.{length};
+ghost use Rattle.quantity.specs.Choice.{both};
 ghost use Rattle.quantity.specs.Sums.{total, every};
 ghost use Rattle.quantity.specs.Limits.{largestAmount, lastSlot};
 ghost use Rattle.operator.specs.Stored.{wordAt, storedFits, wordFits, anyOf};
@@ -83,25 +84,24 @@ pub struct SourceMeter {
     pub block: Units,
 }
 
-// Whether every lent word fits, of which the first so many are used, and the sum of the words.
+// Whether every lent word fits, of which the first so many are used, and then the sum of the words.
 struct Scanned {
     fits: bool,
     units: u64,
 }
 
-// Words that are not used are all 0 if their sum is.
+// Where all fit, the words that are not used are 0 and add nothing.
 fn scan(words: &[u32], used: usize) -> Scanned
     requires { ⌜ length (now words) ≤ 1024 ⌝ }
-    ensures { λ r. ⌜ (r .fits ≡ every (wordFits used (now (words .entry))) (length (now (words .entry)))) × (r .units ≡ total (wordAt (now (words .entry))) (length (now (words .entry)))) ⌝ }
+    ensures { λ r. ⌜ (r .fits ≡ every (wordFits used (now (words .entry))) (length (now (words .entry)))) × (r .fits ≡ true → r .units ≡ total (wordAt (now (words .entry))) (length (now (words .entry)))) ⌝ }
 {
     let end = at_most(used, words.len());
     let first = &words[0..end];
     let rest = &words[end..words.len()];
-    let above = beyond(first);
-    let unused = sum(rest);
+    let small = all_small(first);
     Scanned {
-        fits: above as u64 + unused == 0,
-        units: sum(first) + unused,
+        fits: and(small, all_clear(rest)),
+        units: sum(first),
     }
 }
 
@@ -126,18 +126,36 @@ fn sum(words: &[u32]) -> u64
     units
 }
 
-// 0 if no word is above the limit, which is one less than 2^30: the sum of what each word has of it.
-fn beyond(words: &[u32]) -> u32
-    requires { ⌜ length (now words) ≤ 1024 ⌝ }
-    ensures { λ r. ⌜ r ≡ total (λ j. wordAt (now (words .entry)) j / 1073741824) (length (now (words .entry))) ⌝ }
+// Whether no word is above the limit.
+fn all_small(words: &[u32]) -> bool
+    ensures { λ r. ⌜ r ≡ every (λ j. leb (wordAt (now (words .entry)) j) largestAmount) (length (now (words .entry))) ⌝ }
 {
-    let mut parts: u32 = 0;
+    let mut small = true;
     let mut j = 0;
     while j < words.len() {
-        parts = parts + words[j] / 1_073_741_824;
+        small = and(small, words[j] as u64 <= Units::LARGEST);
         j = j + 1;
     }
-    parts
+    small
+}
+
+// Whether every word is 0.
+fn all_clear(words: &[u32]) -> bool
+    ensures { λ r. ⌜ r ≡ every (λ j. eqb (wordAt (now (words .entry)) j) 0) (length (now (words .entry))) ⌝ }
+{
+    let mut clear = true;
+    let mut j = 0;
+    while j < words.len() {
+        clear = and(clear, words[j] == 0);
+        j = j + 1;
+    }
+    clear
+}
+
+fn and(a: bool, b: bool) -> bool
+    ensures { λ r. ⌜ r ≡ both a b ⌝ }
+{
+    if a { b } else { false }
 }
 
 // Refusal 1, of numbers: not so many words are lent as there should be, no slot number is left, or one of two amounts is above the limit.

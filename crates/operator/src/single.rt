@@ -256,10 +256,10 @@ fn undecidable(state: SingleOperator, words: &[u32], held: u64, input: u64, choi
     Units::LARGEST < choice
 }
 
-// Whether every word fits, by how many the operator uses, and the sum of the words.
+// Whether every word fits, by how many the operator uses, and then the sum of the words.
 fn scan(operator: Operator, words: &[u32]) -> Scanned
     requires { ⌜ length (now words) ≡ wordCount ⌝ }
-    ensures { λ r. ⌜ (r .fits ≡ every (wordFits (wordsUsed operator) (now (words .entry))) wordCount) × (r .units ≡ total (wordAt (now (words .entry))) wordCount) ⌝ }
+    ensures { λ r. ⌜ (r .fits ≡ every (wordFits (wordsUsed operator) (now (words .entry))) wordCount) × (r .fits ≡ true → r .units ≡ total (wordAt (now (words .entry))) wordCount) ⌝ }
 {
     crate::scan(words, words_used(operator))
 }

@@ -1,7 +1,6 @@
 -- The words in two parts, those used and the rest.
-use mathlib.Core.Path.{ap₂, _∙_}
-use Prim.Native.Nat.{ℕ, _+_}
-use lib.Dec.{eqb}
+use mathlib.Core.Path.{ap₂, sym, _∙_}
+use Rattle.quantity.specs.Choice.{both}
 use Rattle.operator.proofs.ScanLaws.{scanned-fits, scanned-units}
 use borrow.Author.Needs.{needs}
 use Rattle.operator.proofs.scan.Statement.{statement}
@@ -31,37 +30,28 @@ part-rest-start c = search needs
 part-rest-end : tie.Need-part-rest-end
 part-rest-end c = search needs
 
-beyond-requires : tie.Need-beyond-requires
-beyond-requires c κs = search needs
+all-small-requires : tie.Need-all-small-requires
+all-small-requires c κs = search needs
+
+all-clear-requires : tie.Need-all-clear-requires
+all-clear-requires c κs = search needs
+
+and-requires : tie.Need-and-requires
+and-requires c κs = search needs
 
 sum-requires : tie.Need-sum-requires
 sum-requires c κs = search needs
 
-cast-t15 : tie.Need-cast-t15
-cast-t15 c = search needs
-
-add-t16 : tie.Need-add-t16
-add-t16 c = search needs
-
-sum-requires-2 : tie.Need-sum-requires-2
-sum-requires-2 c κs = search needs
-
-add-t19 : tie.Need-add-t19
-add-t19 c = search needs
-
 returns : tie.Need-returns
 returns c =
-    let start = c .before .before .before .before .before .before .before in
+    let start = c .before .before .before .before .before .before .before .before in
     let words = start .args .words .now in
     let used = start .args .used in
-    let ends = c .before .before .before .before .before .at-most in
+    let ends = c .before .before .before .before .before .before .at-most in
     let end = ends .result in
     let (below, within, all) = ends .ensures in
-    let above = c .before .before .beyond .ensures in
-    let unused = c .before .sum .ensures .0 in (
-      ap₂ (λ (a b : ℕ). eqb (a + b) 0) above unused ∙ scanned-fits words used end below within all,
-      ap₂ _+_ (c .sum2 .ensures .0) unused ∙ scanned-units words used end below within all,
-    )
+    let tested = c .before .and .ensures ∙ ap₂ both (c .before .before .before .all-small .ensures) (c .before .before .all-clear .ensures) in
+    (tested ∙ scanned-fits words used end below within all, λ fits. c .sum .ensures .0 ∙ scanned-units words used end below within all (sym tested ∙ fits))
 
 pub scan-spec : {M : Type 1} → statement M
 scan-spec =
@@ -75,10 +65,8 @@ scan-spec =
     sub-rest
     part-rest-start
     part-rest-end
-    beyond-requires
+    all-small-requires
+    all-clear-requires
+    and-requires
     sum-requires
-    cast-t15
-    add-t16
-    sum-requires-2
-    add-t19
     returns)

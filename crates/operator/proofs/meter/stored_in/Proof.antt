@@ -1,6 +1,6 @@
 -- Each test that fails makes the meter unusable; where all pass, it is usable, and the sum is the scan's.
 use mathlib.Core.Path.{_≡_, sym, ap, ap₂, _∙_}
-use mathlib.Core.Bool.{Bool}
+use mathlib.Core.Bool.{Bool, true}
 use Prim.Native.Nat.{ℕ}
 use borrow.Author.Tests.{not-true, not-false}
 use Rattle.quantity.specs.Sums.{total, every}
@@ -32,11 +32,11 @@ words-tested c =
 
 words-summed : (c : tie.After-scan) →
     let words = c .before .before .before .before .before .before .before .before .before .before .args .words .now in
-    c .scan .result .units ≡ total (wordAt words) meterWordCount
-words-summed c =
+    c .scan .result .fits ≡ true → c .scan .result .units ≡ total (wordAt words) meterWordCount
+words-summed c fits =
     let words = c .before .before .before .before .before .before .before .before .before .before .args .words .now in
     let sized = c .before .before .before .before .before .before .before .before .if1 .left in
-    c .scan .ensures .1 ∙ ap (total (wordAt words)) sized
+    c .scan .ensures .1 fits ∙ ap (total (wordAt words)) sized
 
 returns : tie.Need-returns
 returns c = sym (pick-true _ _ _ (wrong-length _ _ (c .if1 .taken)))
@@ -64,7 +64,7 @@ returns-4 c = sym (pick-true _ _ _ (word-misfit _ _ (words-tested (c .before .be
 
 returns-5 : tie.Need-returns-5
 returns-5 c =
-    ap Stored.Words (words-summed (c .before .before))
+    ap Stored.Words (words-summed (c .before .before) (not-false _ (c .if4 .left)))
     ∙ sym
     (pick-false _ _ _
     (meter-usable _ _

@@ -19,7 +19,7 @@ returns c =
     let start = c .before .before .before in
     let words = start .args .words .now in (
       c .scan .ensures .0 ∙ ap₂ (λ (used n : ℕ). every (wordFits used words) n) (c .before .words-used .ensures) (start .pre),
-      c .scan .ensures .1 ∙ ap (total (wordAt words)) (start .pre),
+      λ fits. c .scan .ensures .1 fits ∙ ap (total (wordAt words)) (start .pre),
     )
 
 pub scan-spec : {M : Type 1} → statement M

@@ -25,7 +25,7 @@ passed c =
       held-fits = fits-answered (c .before .before .before .before .before .before .before .before .before .before .uses-held .ensures) _ (c .before .before .before .before .before .before .before .before .before .stored-fits .ensures) ∙ not-false _ (c .before .before .before .before .before .before .before .before .if3 .left);
       beside-fits = fits-answered (c .before .before .before .before .before .before .before .uses-beside .ensures) _ (c .before .before .before .before .before .before .stored-fits2 .ensures) ∙ not-false _ (c .before .before .before .before .before .if4 .left);
       words-fit = sym (c .before .before .before .before .scan .ensures .0) ∙ not-false _ (c .before .before .if5 .left);
-      sum-fits = omega (arith, c .before .before .before .before .scan .ensures .1, c .if6 .left);
+      sum-fits = omega (arith, c .before .before .before .before .scan .ensures .1 (not-false _ (c .before .before .if5 .left)), c .if6 .left);
     }
 
 returns : tie.Need-returns
@@ -59,7 +59,7 @@ returns-5 : tie.Need-returns-5
 returns-5 c = stored-refused _ _ (λ stored. contradiction (stored .words-fit) (sym (c .before .before .scan .ensures .0) ∙ not-true _ (c .if5 .taken)))
 
 returns-6 : tie.Need-returns-6
-returns-6 c = stored-refused _ _ (λ stored. omega (arith, c .before .before .before .before .scan .ensures .1, c .if6 .taken))
+returns-6 c = stored-refused _ _ (λ stored. omega (arith, c .before .before .before .before .scan .ensures .1 (not-false _ (c .before .before .if5 .left)), c .if6 .taken))
 
 add-t9 : tie.Need-add-t9
 add-t9 c = omega (arith, held-le _ _ (passed (c .before .before)), passed (c .before .before))
@@ -67,7 +67,7 @@ add-t9 c = omega (arith, held-le _ _ (passed (c .before .before)), passed (c .be
 returns-7 : tie.Need-returns-7
 returns-7 c =
     let stored = passed (c .before .before) in
-    stored-found _ _ stored _ (rw (c .before .before .before .before .before .before .scan .ensures .1) (b-sum _ _ stored))
+    stored-found _ _ stored _ (rw (c .before .before .before .before .before .before .scan .ensures .1 (not-false _ (c .before .before .before .before .if5 .left))) (b-sum _ _ stored))
 
 pub stored-in-spec : {M : Type 1} → statement M
 stored-in-spec =
