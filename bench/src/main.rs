@@ -15,7 +15,7 @@ use std::time::{Duration, Instant};
 const WANTED: f64 = 1.1;
 
 /// Each side is timed so often, in turn with the other, and its least time counts.
-const ROUNDS: usize = 40;
+const ROUNDS: usize = 100;
 
 /// What one round is to take.
 const ROUND: Duration = Duration::from_millis(5);
@@ -88,6 +88,13 @@ fn compare(part: &str) -> ExitCode {
     };
     println!("{compared} pseudo-random calls, many of them refused: the same answers");
     println!();
+    let timed = match time(part) {
+        Ok(timed) => timed,
+        Err(name) => {
+            eprintln!("bench: the checksums of \"{name}\" differ");
+            return ExitCode::FAILURE;
+        }
+    };
     let counts = valgrind_is_there();
     if counts {
         println!(
@@ -99,15 +106,7 @@ fn compare(part: &str) -> ExitCode {
         println!("|---|--:|--:|--:|");
     }
     let mut above = Vec::new();
-    for (index, kind) in ROWS.iter().enumerate() {
-        if !kind.name.contains(part) {
-            continue;
-        }
-        let row = kind.with_calls(CALLS);
-        let Some(took) = time(&row) else {
-            eprintln!("bench: the checksums of \"{}\" differ", row.name);
-            return ExitCode::FAILURE;
-        };
+    for (index, row, took) in timed {
         print!("| {} | {took:.1} |", row.name);
         let mut most = took.ratio();
         if counts {
@@ -135,23 +134,36 @@ fn compare(part: &str) -> ExitCode {
     ExitCode::SUCCESS
 }
 
-/// The time of one call in nanoseconds, unless the checksums differ.
-fn time(row: &Row) -> Option<Pair> {
-    let calls = calls_in_a_round(row);
-    let mut least = [Duration::MAX; 2];
+/// The rows whose names have the part, with the time of one call in nanoseconds; or a row whose checksums differ.
+/// A round goes through all rows, so that no row has to itself a while in which the machine is busy.
+fn time(part: &str) -> Result<Vec<(usize, Row, Pair)>, &'static str> {
+    let rows: Vec<(usize, Row)> = (0..)
+        .zip(&ROWS)
+        .filter(|(_, kind)| kind.name.contains(part))
+        .map(|(index, kind)| (index, kind.with_calls(CALLS)))
+        .collect();
+    let calls: Vec<u64> = rows.iter().map(|(_, row)| calls_in_a_round(row)).collect();
+    let mut least = vec![[Duration::MAX; 2]; rows.len()];
     for _ in 0..ROUNDS {
-        let mut sums = [0; 2];
-        for (side, planner) in [&PROVED, &PLAIN].into_iter().enumerate() {
-            let began = Instant::now();
-            sums[side] = row.play(planner, calls);
-            least[side] = least[side].min(began.elapsed());
-        }
-        if sums[0] != sums[1] {
-            return None;
+        for (((_, row), &calls), least) in rows.iter().zip(&calls).zip(&mut least) {
+            let mut sums = [0; 2];
+            for (side, planner) in [&PROVED, &PLAIN].into_iter().enumerate() {
+                let began = Instant::now();
+                sums[side] = row.play(planner, calls);
+                least[side] = least[side].min(began.elapsed());
+            }
+            if sums[0] != sums[1] {
+                return Err(row.name);
+            }
         }
     }
-    let [proved, plain] = least.map(|took| took.as_nanos() as f64 / calls as f64);
-    Some(Pair { proved, plain })
+    let timed = rows.into_iter().zip(calls).zip(least);
+    Ok(timed
+        .map(|(((index, row), calls), least)| {
+            let [proved, plain] = least.map(|took| took.as_nanos() as f64 / calls as f64);
+            (index, row, Pair { proved, plain })
+        })
+        .collect())
 }
 
 fn calls_in_a_round(row: &Row) -> u64 {

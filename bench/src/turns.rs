@@ -38,20 +38,19 @@ pub fn figures(sheets: &[u8], width: usize, turns: u64) -> u64 {
 }
 
 pub fn reading(sheets: &[u8], width: usize, turns: u64) -> u64 {
-    let (mut sum, mut at, mut k) = (0, 0, 0);
+    let (mut sum, mut at) = (0, 0);
     for _ in 0..turns {
         sum = match read(&sheets[at..at + width]) {
             Err(why) => mix_refusal(sum, why),
-            Ok(path) => mix_path(sum, &path, k),
+            Ok(path) => mix_path(sum, &path),
         };
         at = after(at, width, sheets.len());
-        k = after(k, 1, 16);
     }
     sum
 }
 
-fn mix_path(sum: u64, path: &Path, k: usize) -> u64 {
-    let place = path.places[k];
+fn mix_path(sum: u64, path: &Path) -> u64 {
+    let place = path.places[15];
     let sum = mix(sum, path.count as u64);
     let sum = mix(sum, u64::from(path.wanted));
     let sum = mix(sum, u64::from(path.declaration.interval));

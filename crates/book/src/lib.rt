@@ -10,6 +10,11 @@ use ledger::release::Released;
 use ledger::release::release;
 use ledger::spare::Spare;
 use ledger::spare::spare_rate;
+ghost use mathlib.Core.Path.{_≡_};
+ghost use Rattle.ledger.specs.Opening.{openedOf, recordsOpened};
+ghost use Rattle.ledger.specs.Admission.{admissionOf, recordsAdmitted};
+ghost use Rattle.ledger.specs.Release.{releasedOf, recordsReleased};
+ghost use Rattle.ledger.specs.Spare.{spareOf};
 
 pub struct NewBook {
     pub opened: Opened,
@@ -26,7 +31,9 @@ pub struct ReleasedPath {
     pub records: [Record; 64],
 }
 
-pub fn open_book(capacities: [u32; 16], records: [Record; 64]) -> NewBook {
+pub fn open_book(capacities: [u32; 16], records: [Record; 64]) -> NewBook
+    ensures { λ r. ⌜ (r .opened ≡ openedOf capacities records) × (r .records ≡ recordsOpened capacities records) ⌝ }
+{
     let mut lent = records;
     let opened = open(capacities, &mut lent);
     NewBook {
@@ -35,12 +42,9 @@ pub fn open_book(capacities: [u32; 16], records: [Record; 64]) -> NewBook {
     }
 }
 
-pub fn admit_path(
-    ledger: Ledger,
-    records: [Record; 64],
-    number: u32,
-    sheet: &[u8],
-) -> AdmittedPath {
+pub fn admit_path(ledger: Ledger, records: [Record; 64], number: u32, sheet: &[u8]) -> AdmittedPath
+    ensures { λ r. ⌜ (r .admission ≡ admissionOf ledger records number (now (sheet .entry))) × (r .records ≡ recordsAdmitted ledger records number (now (sheet .entry))) ⌝ }
+{
     let mut lent = records;
     let admission = admit(ledger, &mut lent, number, sheet);
     AdmittedPath {
@@ -49,7 +53,9 @@ pub fn admit_path(
     }
 }
 
-pub fn release_path(ledger: Ledger, records: [Record; 64], number: u32) -> ReleasedPath {
+pub fn release_path(ledger: Ledger, records: [Record; 64], number: u32) -> ReleasedPath
+    ensures { λ r. ⌜ (r .released ≡ releasedOf ledger records number) × (r .records ≡ recordsReleased ledger records number) ⌝ }
+{
     let mut lent = records;
     let released = release(ledger, &mut lent, number);
     ReleasedPath {
@@ -58,7 +64,9 @@ pub fn release_path(ledger: Ledger, records: [Record; 64], number: u32) -> Relea
     }
 }
 
-pub fn spare_on(ledger: Ledger, records: [Record; 64], link: u32) -> Spare {
+pub fn spare_on(ledger: Ledger, records: [Record; 64], link: u32) -> Spare
+    ensures { λ r. ⌜ r ≡ spareOf ledger records link ⌝ }
+{
     let lent = records;
     spare_rate(ledger, &lent, link)
 }

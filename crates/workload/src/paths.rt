@@ -129,8 +129,8 @@ fn mix_admitted(sum: u64, answer: AdmittedPath) -> u64 {
     match verdict {
         Verdict::Refused(why) => mix_refusal(next, why),
         Verdict::Accepted => {
-            let records = answer.records;
-            mix_record(mix(next, admission.delay.0 as u64), records[63])
+            let entry = answer.records[63];
+            mix_record(mix(next, admission.delay.0 as u64), entry)
         }
     }
 }
@@ -141,8 +141,8 @@ fn mix_released(sum: u64, answer: ReleasedPath, k: usize) -> u64
     let released = answer.released;
     let ledger = released.ledger;
     let verdict = released.verdict;
-    let records = answer.records;
-    let next = mix_record(mix(sum, ledger.count as u64), records[k]);
+    let entry = answer.records[k];
+    let next = mix_record(mix(sum, ledger.count as u64), entry);
     match verdict {
         Verdict::Refused(why) => mix_refusal(next, why),
         Verdict::Accepted => next,

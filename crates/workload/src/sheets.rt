@@ -36,7 +36,7 @@ pub extern "C" fn workload_figures(sheets: &[u8], width: usize, turns: u64) -> u
     sum
 }
 
-// A sheet is read in each turn, of which one operator goes into the checksum.
+// A sheet is read in each turn. Of the operators the last goes into the checksum.
 #[no_mangle]
 pub extern "C" fn workload_reading(sheets: &[u8], width: usize, turns: u64) -> u64 {
     let mut sum: u64 = 0;
@@ -44,13 +44,11 @@ pub extern "C" fn workload_reading(sheets: &[u8], width: usize, turns: u64) -> u
         return sum;
     }
     let mut at = 0;
-    let mut k = 0;
     let mut left = turns;
     while 0 < left {
         let end = at + width;
-        sum = mix_read(sum, read(&sheets[at..end]), k);
+        sum = mix_read(sum, read(&sheets[at..end]));
         at = after(at, width, sheets.len());
-        k = after(k, 1, 16);
         left -= 1;
     }
     sum
@@ -107,8 +105,7 @@ fn mix_figures(sum: u64, answer: PathFigures, k: usize) -> u64
     match verdict {
         Verdict::Refused(why) => mix_refusal(sum, why),
         Verdict::Accepted => {
-            let figures = answer.figures;
-            let figure = figures[k];
+            let figure = answer.figures[k];
             mix(
                 mix(mix(sum, answer.delay.0 as u64), figure.capacity.0),
                 figure.delay.0 as u64,
@@ -117,30 +114,24 @@ fn mix_figures(sum: u64, answer: PathFigures, k: usize) -> u64
     }
 }
 
-fn mix_read(sum: u64, answer: ReadSheet, k: usize) -> u64
-    requires { ⌜ k < 16 ⌝ }
-{
+fn mix_read(sum: u64, answer: ReadSheet) -> u64 {
     let verdict = answer.verdict;
     match verdict {
         Verdict::Refused(why) => mix_refusal(sum, why),
         Verdict::Accepted => {
             let path = answer.path;
-            mix_path(sum, path, k)
+            mix_path(sum, path)
         }
     }
 }
 
-fn mix_path(sum: u64, path: Path, k: usize) -> u64
-    requires { ⌜ k < 16 ⌝ }
-{
-    let declaration = path.declaration;
-    let places = path.places;
-    let place = places[k];
+fn mix_path(sum: u64, path: Path) -> u64 {
+    let place = path.places[15];
     let operator = place.operator;
     let mut next = mix(sum, path.count as u64);
     next = mix(next, path.wanted.0 as u64);
-    next = mix(next, declaration.interval.0 as u64);
-    next = mix(next, declaration.quota.0 as u64);
+    next = mix(next, path.declaration.interval.0 as u64);
+    next = mix(next, path.declaration.quota.0 as u64);
     next = mix(next, place.link.0 as u64);
     mix_operator(next, operator)
 }

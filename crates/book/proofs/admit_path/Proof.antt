@@ -1,5 +1,5 @@
--- `admit_path` keeps to what it may do: a walk of its MIR, by hand. The copy of the records is lent to `admit` for a lifetime of the call, beside the sheet, and comes back as the answer's records.
-use mathlib.Core.Path.{refl, _∙_}
+-- `book::admit_path` meets its contract: a walk of its MIR, by hand. The copy of the records is lent to `admit` for a lifetime of the call, beside the sheet, and comes back as the answer's records.
+use mathlib.Core.Path.{_≡_, refl, _∙_}
 use Prim.Native.Nat.{ℕ}
 use mathlib.Core.List.{[], _∷_, List}
 use lib.Dec.{lit<}
@@ -14,7 +14,7 @@ use prog.Memory.{Memory}
 use prog.Routine.{Routine}
 use prog.Wp.{Heap, Calls, Loops, WpFn, Tables}
 use ghost.Atoms.{Atoms}
-use contract.Monad.{Fun}
+use contract.Monad.{Fun, fact}
 use contract.Running.{givenOf, tables, tablesOf}
 use types.Kit.{Given, Item, ‵, raw, some, later, _⊛_, ⋆, _$_, _∵_, !, qed, by, move, keep, drop, use1, use3, split, join, pick, fsplit, fjoin, feqL, suffices, frame, await, done}
 use types.Run.{look, init, forget, stop, from, load, lit, and-then, no-more, of-opd, addr, assigns, land, returns, enter, alloc1, alloc0, params1, pass1, pass0, free1, free0}
@@ -28,7 +28,7 @@ use denote.Array.{Array, array-vals, array-tells}
 use denote.Ref.{RefT}
 use denote.Slice.{sliceVal, MutSlice, ShrSlice, Room, slice-vals, shr-slice-tells}
 use denote.Signature.{plain, shrSliceOf}
-use denote.Steps.{owned, facts, nothing}
+use denote.Steps.{owned, facts, heard, nothing}
 use denote.Struct.Laws as LL
 use denote.Triple.Statement.{Contract, Triple}
 use denote.Triple.Call.{calls-at}
@@ -36,13 +36,14 @@ use denote.Triple.Clauses.{ensured, lasts}
 use denote.Triple.Entry.{onEntry}
 use denote.Triple.Spec.{Meets, tripleOf}
 use denote.Triple.Table.{entered, cited}
-use denote.Triple.Walked.{Stays, stay-dropped, walkOf, goes-dropped, Walks, ends-at, walked, walk-meets}
+use denote.Triple.Walked.{says, Stays, stay-dropped, walkOf, goes-dropped, Walks, ends-at, walked, walk-meets}
 use denote.Exit.{yes}
 use Rattle.ledger.specs.declared.Record.{Record}
 use Rattle.ledger.specs.declared.Ledger.{Ledger}
 use Rattle.ledger.specs.declared.admission.Admission.{Admission}
+use Rattle.ledger.specs.Admission.{admissionOf, recordsAdmitted}
 use Rattle.book.specs.declared.AdmittedPath.{AdmittedPath}
-use Rattle.book.proofs.Lending.{array-val, as-field, left, typed, lent, slice, lends, comes-back}
+use Rattle.book.proofs.Lending.{array-val, as-field, typed, lent, slice, lends, comes-back}
 use Rattle.ledger.proofs.Record as T
 use Rattle.ledger.proofs.Record.Laws as T′
 use Rattle.ledger.proofs.Ledger as L
@@ -93,11 +94,15 @@ module _ {M : Type 1} (𝓤 : URA M) (H : Heap 𝓤) (A : Atoms 𝓤) (W : Given
   abbrev Post : Val → SProp 𝓤
   Post = walkOf 𝓤 H A f.ended stayed (f.clauses 𝓤 H A at-mem run) .post (((κ, tt), (q, tt), tt, a, vals), tt)
 
-  exits : (r : AdmittedPath) (v : Val) → ent 𝓤 (⋆ 𝓤 H A (‵ (N.the-row .own r (v ∷ [])) ∷ Lasting ∷ [])) (Post v)
-  exits r v =
+  -- what `admit` says of its answer and of what it leaves
+  abbrev Told : Admission → List Record → Type 0
+  Told r zs = (r ≡ admissionOf ledger ys n (sheet .now)) × (zs ≡ recordsAdmitted ledger ys n (sheet .now))
+
+  exits : (r : AdmittedPath) (v : Val) → Told (r .admission) (r .records) → ent 𝓤 (⋆ 𝓤 H A (‵ (N.the-row .own r (v ∷ [])) ∷ Lasting ∷ [])) (Post v)
+  exits r v told =
       qed W (‵ (N.the-row .own r (v ∷ [])) ∷ Lasting ∷ []) ∵
-      suffices ! _ (ends-at 𝓤 H A f.ended stayed (f.clauses 𝓤 H A at-mem run) W (((κ, tt), (q, tt), tt, a, vals), tt) v r (tt, (tt, (tt, (tt, tt)))) (tt, (tt, (tt, (tt, tt))))) $
-      nothing ! $ nothing ! $ fjoin ! $ nothing ! $ fjoin ! $ nothing ! $ fjoin ! $ nothing ! $ fjoin ! $ join ! $ move ! (1 ∷ 0 ∷ []) $ join ! $ nothing ! $ move ! (1 ∷ 0 ∷ []) $ done !
+      suffices ! _ (ends-at 𝓤 H A f.ended stayed (f.clauses 𝓤 H A at-mem run) W (((κ, tt), (q, tt), tt, a, vals), tt) v r (tt, (tt, (tt, (tt, tt)))) (tt, (tt, (tt, (tt, tt))))) $ says ! told $
+      move ! (1 ∷ 0 ∷ []) $ frame ! $ nothing ! $ nothing ! $ fjoin ! $ nothing ! $ fjoin ! $ nothing ! $ fjoin ! $ nothing ! $ fjoin ! $ frame ! $ done !
 
   -- ---- `admit`, with the records lent
   module _ (l : ℕ) (δ : GName) where
@@ -136,7 +141,8 @@ module _ {M : Type 1} (𝓤 : URA M) (H : Heap 𝓤) (A : Atoms 𝓤) (W : Given
         -- [what `admit` asks for; what comes back; _9 (2); …; _6 (8); …; what frees _5 (10); _4 (11); …; _0 (19); …]
         calls-at ! fm (Admit 𝓤 H A at-mem run) known (to-admit l₅ δ ν) (and-then ! (load ! (from ! (stop !)) (look ! 17 refl)) (and-then ! (load ! (from ! (stop !)) (look ! 4 refl)) (and-then ! (load ! (from ! (stop !)) (look ! 13 refl)) (and-then ! (load ! (from ! (stop !)) (look ! 11 refl)) (no-more !))))) (λ w.
         use1 W (later (some (λ (r : Admission). ((‵ (flft (ν ∷ []) fullShare) ⊛ Lasting) ⊛ ‵ (S.the-row .own r (w ∷ []))) ⊛ raw (ensured 𝓤 H A ad.ended (ad.clauses 𝓤 H A at-mem run) (ν ∷ [], (κ, tt)) (passed l₅ δ) tt r)))) (id⊢ 𝓤 _) $ await ! tt $ pick ! (λ r.
-        split ! $ move ! (1 ∷ []) $ use1 W (some (λ (us : Unit {0} × (List Record × (Unit {0} × (Unit {0} × Unit {0})))). ‵ (lasts ad.ended (ν ∷ [], (κ, tt)) (passed l₅ δ) us))) (left 𝓤 H A ad.ended (ad.clauses 𝓤 H A at-mem run) (ν ∷ [], (κ, tt)) (passed l₅ δ) tt r) $ pick ! (λ us.
+        split ! $ move ! (1 ∷ []) $ use1 W (some (λ (us : Unit {0} × (List Record × (Unit {0} × (Unit {0} × Unit {0})))). ‵ (lasts ad.ended (ν ∷ [], (κ, tt)) (passed l₅ δ) us) ⊛ raw (fact 𝓤 (Told r (us .1 .0))))) (id⊢ 𝓤 _) $ pick ! (λ us.
+        split ! $ move ! (1 ∷ []) $ heard ! (Told r (us .1 .0)) (λ told.
         fsplit ! $ drop ! $ fsplit ! $ fsplit ! $ move ! (1 ∷ []) $ feqL ! (λ e.
         -- [the last list; nothing; the tokens and the answer (2); what comes back (3); _9 (4); …]
         move ! (2 ∷ []) $ split ! $ move ! (1 ∷ []) $ facts ! S.the-row (Is S.the-row) (shows 𝓤 H A S.the-row) r (w ∷ []) (λ ir. land ! (from ! (stop !)) (init ! 10 refl (LL.lawful S.the-type S′.the-laws 𝓤 H A W .typed r _ ir .0)) $
@@ -147,7 +153,7 @@ module _ {M : Type 1} (𝓤 : URA M) (H : Heap 𝓤) (A : Atoms 𝓤) (W : Given
         (init ! 20 refl (LL.lawful N.the-type N′.the-laws 𝓤 H A W .typed (answer r (us .1 .0)) _ (answer-is r w (us .1 .0) _ ir iz) .0)) $
         returns ! (look ! 20 refl) $ forget ! 0 refl $ forget ! 3 refl $ forget ! 5 refl $ forget ! 7 refl $ forget ! 9 refl $ forget ! 12 refl $ forget ! 14 refl $ forget ! 16 refl $ forget ! 18 refl $ forget ! 20 refl $
         keep ! (20 ∷ 21 ∷ 18 ∷ 19 ∷ 16 ∷ 17 ∷ 14 ∷ 15 ∷ 12 ∷ 13 ∷ 0 ∷ 11 ∷ 9 ∷ 10 ∷ 7 ∷ 8 ∷ 5 ∷ 6 ∷ 3 ∷ 4 ∷ 1 ∷ []) $ free1 ! $ free1 ! $ free1 ! $ free1 ! $ free1 ! $ free1 ! $ free1 ! $ free1 ! $ free1 ! $ free1 ! $ free0 ! $
-        owned ! N.the-row (Is N.the-row) (LL.makes N.the-type N′.the-plain 𝓤 H A) (answer r (us .1 .0)) _ (answer-is r w (us .1 .0) _ ir iz) $ by ! (exits (answer r (us .1 .0)) _)))))))))))))))))))
+        owned ! N.the-row (Is N.the-row) (LL.makes N.the-type N′.the-plain 𝓤 H A) (answer r (us .1 .0)) _ (answer-is r w (us .1 .0) _ ir iz) $ by ! (exits (answer r (us .1 .0)) _ told))))))))))))))))))))
 
 module _ {M : Type 1} (𝓤 : URA M) (H : Heap 𝓤) (A : Atoms 𝓤) (W : Given 𝓤 H A) (at-mem : Memory → SProp 𝓤) (run : Routine → Fun 𝓤) (C : Calls 𝓤 H) (Λ : Loops 𝓤 H) where
   walks : FmC 𝓤 H (W .laws) C → Triple 𝓤 (C #admit) (Admit 𝓤 H A at-mem run) → Walks 𝓤 H A f.ended stayed (WpFn 𝓤 H C Λ code.function) (f.clauses 𝓤 H A at-mem run)

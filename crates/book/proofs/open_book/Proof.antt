@@ -1,4 +1,4 @@
--- `book::open_book` is safe: a walk of its MIR, by hand. The records are lent to `open` for a lifetime of the call, and come back with the answer.
+-- `book::open_book` meets its contract: a walk of its MIR, by hand. The records are lent to `open` for a lifetime of the call, and come back with the answer.
 use mathlib.Core.Path.{_≡_, refl, _∙_}
 use Prim.Native.Nat.{ℕ}
 use mathlib.Core.List.{[], _∷_, List}
@@ -14,7 +14,7 @@ use prog.Memory.{Memory}
 use prog.Routine.{Routine}
 use prog.Wp.{Heap, Calls, Loops, WpFn, Tables}
 use ghost.Atoms.{Atoms, sem}
-use contract.Monad.{Fun}
+use contract.Monad.{Fun, fact}
 use contract.Running.{givenOf, tables, tablesOf}
 use types.Kit.{Given, ‵, raw, some, later, _⊛_, _$_, _∵_, !, qed, by, move, keep, drop, use1, use3, split, join, pick, fsplit, fjoin, feqL, suffices, frame, await, done}
 use types.Run.{look, init, forget, stop, from, load, lit, and-then, no-more, of-opd, addr, assigns, land, returns, enter, alloc1, alloc0, params1, pass1, pass0}
@@ -28,7 +28,7 @@ use denote.Ref.{RefT}
 use denote.Array.{Array, array-vals, array-tells, array-lawful}
 use denote.Slice.{MutSlice}
 use denote.Signature.{plain}
-use denote.Steps.{only, owned, facts, nothing}
+use denote.Steps.{only, owned, facts, heard, nothing}
 use denote.Struct.Laws as LL
 use denote.Triple.Statement.{Contract, Triple}
 use denote.Triple.Call.{calls-at}
@@ -36,10 +36,11 @@ use denote.Triple.Clauses.{ensured, lasts}
 use denote.Triple.Entry.{onEntry}
 use denote.Triple.Spec.{Meets, tripleOf}
 use denote.Triple.Table.{entered, cited}
-use denote.Triple.Walked.{Stays, stay-dropped, walkOf, goes-dropped, Walks, ends-at, walked, walk-meets}
+use denote.Triple.Walked.{says, Stays, stay-dropped, walkOf, goes-dropped, Walks, ends-at, walked, walk-meets}
 use denote.Exit.{yes}
 use Rattle.ledger.specs.declared.Record.{Record}
 use Rattle.ledger.specs.declared.opening.Opened.{Opened}
+use Rattle.ledger.specs.Opening.{openedOf, recordsOpened}
 use Rattle.book.specs.declared.NewBook.{NewBook}
 use Rattle.ledger.proofs.Filling.{frees-all}
 use Rattle.ledger.proofs.Record as T
@@ -50,7 +51,7 @@ use Rattle.ledger.proofs.opening.open as op
 use Rattle.ledger.proofs.opening.open.Symbol as op-def
 use Rattle.ledger.proofs.opening.open.Symbol.{name as #open}
 use Rattle.ledger.proofs.opening.open.Met as op-thm
-use Rattle.book.proofs.Lending.{array-val, as-field, left, typed, lent, slice, lends, comes-back}
+use Rattle.book.proofs.Lending.{array-val, as-field, typed, lent, slice, lends, comes-back}
 use Rattle.book.proofs.NewBook as N
 use Rattle.book.proofs.NewBook.Laws as N′
 use Rattle.book.proofs.open_book.Key.{name as #open-book}
@@ -84,11 +85,15 @@ module _ {M : Type 1} (𝓤 : URA M) (H : Heap 𝓤) (A : Atoms 𝓤) (W : Given
   abbrev Post : Val → SProp 𝓤
   Post = walkOf 𝓤 H A f.ended stayed (f.clauses 𝓤 H A at-mem run) .post ((tt, tt, tt, a, vals), tt)
 
-  exits : (r : NewBook) (v : Val) → ent 𝓤 (sem 𝓤 H A (N.the-row .own r (v ∷ []))) (Post v)
-  exits r v =
+  -- what `open` says of its answer and of what it leaves
+  abbrev Told : Opened → List Record → Type 0
+  Told r zs = (r ≡ openedOf capacities ys) × (zs ≡ recordsOpened capacities ys)
+
+  exits : (r : NewBook) (v : Val) → Told (r .opened) (r .records) → ent 𝓤 (sem 𝓤 H A (N.the-row .own r (v ∷ []))) (Post v)
+  exits r v told =
       qed W (‵ (N.the-row .own r (v ∷ [])) ∷ []) ∵
-      suffices ! _ (ends-at 𝓤 H A f.ended stayed (f.clauses 𝓤 H A at-mem run) W ((tt, tt, tt, a, vals), tt) v r (tt, (tt, tt)) (tt, (tt, tt))) $
-      nothing ! $ nothing ! $ fjoin ! $ nothing ! $ fjoin ! $ join ! $ nothing ! $ join ! $ frame ! $ nothing ! $ done !
+      suffices ! _ (ends-at 𝓤 H A f.ended stayed (f.clauses 𝓤 H A at-mem run) W ((tt, tt, tt, a, vals), tt) v r (tt, (tt, tt)) (tt, (tt, tt))) $ says ! told $
+      nothing ! $ frame ! $ nothing ! $ nothing ! $ fjoin ! $ nothing ! $ fjoin ! $ frame ! $ done !
 
   module _ (l : ℕ) where
     abbrev passed : GName → List ℕ × (RefT (List Record) × Unit {0})
@@ -120,7 +125,8 @@ module _ {M : Type 1} (𝓤 : URA M) (H : Heap 𝓤) (A : Atoms 𝓤) (W : Given
         use1 W (later (some (λ (r : Opened). ((‵ (flft (ν ∷ []) fullShare) ⊛ ‵ ftrue) ⊛ ‵ (S.the-row .own r (w ∷ []))) ⊛ raw (ensured 𝓤 H A op.ended (op.clauses 𝓤 H A at-mem run) (ν ∷ [], tt) (passed l₃ δ) tt r)))) (id⊢ 𝓤 _) $ await ! tt $ pick ! (λ r.
         split ! $ split ! $ move ! (1 ∷ []) $ facts ! S.the-row (Is S.the-row) (shows 𝓤 H A S.the-row) r (w ∷ []) (λ answer-is.
         land ! (from ! (stop !)) (init ! 10 refl (LL.lawful S.the-type S′.the-laws 𝓤 H A W .typed r _ answer-is .0)) $
-        move ! (1 ∷ []) $ use1 W (some (λ (ws : Unit {0} × (List Record × Unit {0})). ‵ (lasts op.ended (ν ∷ [], tt) (passed l₃ δ) ws))) (left 𝓤 H A op.ended (op.clauses 𝓤 H A at-mem run) (ν ∷ [], tt) (passed l₃ δ) tt r) $ pick ! (λ ws.
+        move ! (1 ∷ []) $ use1 W (some (λ (ws : Unit {0} × (List Record × Unit {0})). ‵ (lasts op.ended (ν ∷ [], tt) (passed l₃ δ) ws) ⊛ raw (fact 𝓤 (Told r (ws .1 .0))))) (id⊢ 𝓤 _) $ pick ! (λ ws.
+        split ! $ move ! (1 ∷ []) $ heard ! (Told r (ws .1 .0)) (λ told.
         fsplit ! $ drop ! $ fsplit ! $ fsplit ! $ move ! (1 ∷ []) $ feqL ! (λ as-long. move ! (2 ∷ []) $ split ! $ move ! (0 ∷ 2 ∷ 4 ∷ []) $
         comes-back 𝓤 H A W l₃ ν δ (ws .1 .0) (as-long ∙ sixty-four) (
         move ! (1 ∷ []) $ facts ! (Array T.the-row 64) (Is (Array T.the-row 64)) (shows 𝓤 H A (Array T.the-row 64)) (ws .1 .0) _ (λ last-are.
@@ -129,7 +135,7 @@ module _ {M : Type 1} (𝓤 : URA M) (H : Heap 𝓤) (A : Atoms 𝓤) (W : Given
         assigns ! (agg ! (and-then ! (load ! (from ! (stop !)) (look ! 10 refl)) (and-then ! (load ! (from ! (stop !)) (look ! 4 refl)) (no-more !)))) (from ! (stop !)) (init ! 17 refl (LL.lawful N.the-type N′.the-laws 𝓤 H A W .typed (book r (ws .1 .0)) _ (book-is r (ws .1 .0) w _ answer-is last-are) .0)) $
         returns ! (look ! 17 refl) $ forget ! 0 refl $ forget ! 4 refl $ forget ! 6 refl $ forget ! 8 refl $ forget ! 10 refl $ forget ! 13 refl $ forget ! 15 refl $ forget ! 17 refl $
         owned ! N.the-row (Is N.the-row) (LL.makes N.the-type N′.the-plain 𝓤 H A) (book r (ws .1 .0)) _ (book-is r (ws .1 .0) w _ answer-is last-are) $
-        keep ! (18 ∷ 19 ∷ 16 ∷ 17 ∷ 14 ∷ 15 ∷ 1 ∷ 13 ∷ 11 ∷ 12 ∷ 9 ∷ 10 ∷ 7 ∷ 8 ∷ 5 ∷ 6 ∷ 0 ∷ []) $ frees-all W _ (by ! (exits (book r (ws .1 .0)) _))))))))))))))))))
+        keep ! (18 ∷ 19 ∷ 16 ∷ 17 ∷ 14 ∷ 15 ∷ 1 ∷ 13 ∷ 11 ∷ 12 ∷ 9 ∷ 10 ∷ 7 ∷ 8 ∷ 5 ∷ 6 ∷ 0 ∷ []) $ frees-all W _ (by ! (exits (book r (ws .1 .0)) _ told)))))))))))))))))))
       where
         sixty-four : length ys ≡ 64
         sixty-four = records-are .1 .0 .1

@@ -1,5 +1,5 @@
--- `release_path` keeps to what it may do: a walk of its MIR, by hand. The copy of the records is lent to `release` for a lifetime of the call, and comes back as the answer's records.
-use mathlib.Core.Path.{refl, _∙_}
+-- `book::release_path` meets its contract: a walk of its MIR, by hand. The copy of the records is lent to `release` for a lifetime of the call, and comes back as the answer's records.
+use mathlib.Core.Path.{_≡_, refl, _∙_}
 use Prim.Native.Nat.{ℕ}
 use mathlib.Core.List.{[], _∷_, List}
 use lib.Dec.{lit<}
@@ -13,7 +13,7 @@ use prog.Memory.{Memory}
 use prog.Routine.{Routine}
 use prog.Wp.{Heap, Calls, Loops, WpFn, Tables}
 use ghost.Atoms.{Atoms, sem}
-use contract.Monad.{Fun}
+use contract.Monad.{Fun, fact}
 use contract.Running.{givenOf, tables, tablesOf}
 use types.Kit.{Given, Item, ‵, raw, some, later, _⊛_, ⋆, _$_, _∵_, !, qed, by, move, keep, drop, use1, use2, split, join, pick, fsplit, fjoin, feqL, suffices, frame, await, done}
 use types.Run.{look, init, forget, stop, from, load, lit, and-then, no-more, of-opd, addr, assigns, land, returns, enter, alloc1, alloc0, params1, pass1, pass0, free1, free0}
@@ -27,7 +27,7 @@ use denote.Array.{Array, array-vals, array-tells}
 use denote.Ref.{RefT}
 use denote.Slice.{MutSlice}
 use denote.Signature.{plain}
-use denote.Steps.{owned, facts, nothing}
+use denote.Steps.{owned, facts, heard, nothing}
 use denote.Struct.Laws as LL
 use denote.Triple.Statement.{Contract, Triple}
 use denote.Triple.Call.{calls-at}
@@ -35,13 +35,14 @@ use denote.Triple.Clauses.{ensured, lasts}
 use denote.Triple.Entry.{onEntry}
 use denote.Triple.Spec.{Meets, tripleOf}
 use denote.Triple.Table.{entered, cited}
-use denote.Triple.Walked.{Stays, stay-dropped, walkOf, goes-dropped, Walks, ends-at, walked, walk-meets}
+use denote.Triple.Walked.{says, Stays, stay-dropped, walkOf, goes-dropped, Walks, ends-at, walked, walk-meets}
 use denote.Exit.{yes}
 use Rattle.ledger.specs.declared.Record.{Record}
 use Rattle.ledger.specs.declared.Ledger.{Ledger}
 use Rattle.ledger.specs.declared.release.Released.{Released}
+use Rattle.ledger.specs.Release.{releasedOf, recordsReleased}
 use Rattle.book.specs.declared.ReleasedPath.{ReleasedPath}
-use Rattle.book.proofs.Lending.{array-val, as-field, left, typed, lent, slice, lends, comes-back}
+use Rattle.book.proofs.Lending.{array-val, as-field, typed, lent, slice, lends, comes-back}
 use Rattle.ledger.proofs.Record as T
 use Rattle.ledger.proofs.Record.Laws as T′
 use Rattle.ledger.proofs.Ledger as L
@@ -85,11 +86,15 @@ module _ {M : Type 1} (𝓤 : URA M) (H : Heap 𝓤) (A : Atoms 𝓤) (W : Given
   abbrev Post : Val → SProp 𝓤
   Post = walkOf 𝓤 H A f.ended stayed (f.clauses 𝓤 H A at-mem run) .post ((tt, tt, tt, a, vals), tt)
 
-  exits : (r : ReleasedPath) (v : Val) → ent 𝓤 (sem 𝓤 H A (N.the-row .own r (v ∷ []))) (Post v)
-  exits r v =
+  -- what `release` says of its answer and of what it leaves
+  abbrev Told : Released → List Record → Type 0
+  Told r zs = (r ≡ releasedOf ledger ys n) × (zs ≡ recordsReleased ledger ys n)
+
+  exits : (r : ReleasedPath) (v : Val) → Told (r .released) (r .records) → ent 𝓤 (sem 𝓤 H A (N.the-row .own r (v ∷ []))) (Post v)
+  exits r v told =
       qed W (‵ (N.the-row .own r (v ∷ [])) ∷ []) ∵
-      suffices ! _ (ends-at 𝓤 H A f.ended stayed (f.clauses 𝓤 H A at-mem run) W ((tt, tt, tt, a, vals), tt) v r (tt, (tt, (tt, tt))) (tt, (tt, (tt, tt)))) $
-      nothing ! $ nothing ! $ fjoin ! $ nothing ! $ fjoin ! $ nothing ! $ fjoin ! $ join ! $ nothing ! $ join ! $ nothing ! $ move ! (1 ∷ 0 ∷ []) $ done !
+      suffices ! _ (ends-at 𝓤 H A f.ended stayed (f.clauses 𝓤 H A at-mem run) W ((tt, tt, tt, a, vals), tt) v r (tt, (tt, (tt, tt))) (tt, (tt, (tt, tt)))) $ says ! told $
+      nothing ! $ frame ! $ nothing ! $ nothing ! $ fjoin ! $ nothing ! $ fjoin ! $ nothing ! $ fjoin ! $ frame ! $ done !
 
   -- ---- `release`, with the records lent
   module _ (l : ℕ) (δ : GName) where
@@ -126,7 +131,8 @@ module _ {M : Type 1} (𝓤 : URA M) (H : Heap 𝓤) (A : Atoms 𝓤) (W : Given
         -- [what `release` asks for; what comes back; _8 (2); …; _5 (8); …; what frees _4 (10); _3 (11); …; _0 (17); …]
         calls-at ! fm (Release 𝓤 H A at-mem run) known (to-release l₄ δ ν) (and-then ! (load ! (from ! (stop !)) (look ! 15 refl)) (and-then ! (load ! (from ! (stop !)) (look ! 4 refl)) (and-then ! (load ! (from ! (stop !)) (look ! 11 refl)) (no-more !)))) (λ w.
         use1 W (later (some (λ (r : Released). ((‵ (flft (ν ∷ []) fullShare) ⊛ ‵ ftrue) ⊛ ‵ (S.the-row .own r (w ∷ []))) ⊛ raw (ensured 𝓤 H A rl.ended (rl.clauses 𝓤 H A at-mem run) (ν ∷ [], tt) (passed l₄ δ) tt r)))) (id⊢ 𝓤 _) $ await ! tt $ pick ! (λ r.
-        split ! $ move ! (1 ∷ []) $ use1 W (some (λ (us : Unit {0} × (List Record × (Unit {0} × Unit {0}))). ‵ (lasts rl.ended (ν ∷ [], tt) (passed l₄ δ) us))) (left 𝓤 H A rl.ended (rl.clauses 𝓤 H A at-mem run) (ν ∷ [], tt) (passed l₄ δ) tt r) $ pick ! (λ us.
+        split ! $ move ! (1 ∷ []) $ use1 W (some (λ (us : Unit {0} × (List Record × (Unit {0} × Unit {0}))). ‵ (lasts rl.ended (ν ∷ [], tt) (passed l₄ δ) us) ⊛ raw (fact 𝓤 (Told r (us .1 .0))))) (id⊢ 𝓤 _) $ pick ! (λ us.
+        split ! $ move ! (1 ∷ []) $ heard ! (Told r (us .1 .0)) (λ told.
         fsplit ! $ drop ! $ fsplit ! $ fsplit ! $ move ! (1 ∷ []) $ feqL ! (λ e.
         -- [the last list; nothing; the token and the answer (2); what comes back (3); _8 (4); …]
         move ! (2 ∷ []) $ split ! $ move ! (1 ∷ []) $ facts ! S.the-row (Is S.the-row) (shows 𝓤 H A S.the-row) r (w ∷ []) (λ ir. land ! (from ! (stop !)) (init ! 10 refl (LL.lawful S.the-type S′.the-laws 𝓤 H A W .typed r _ ir .0)) $
@@ -137,7 +143,7 @@ module _ {M : Type 1} (𝓤 : URA M) (H : Heap 𝓤) (A : Atoms 𝓤) (W : Given
         (init ! 18 refl (LL.lawful N.the-type N′.the-laws 𝓤 H A W .typed (answer r (us .1 .0)) _ (answer-is r w (us .1 .0) _ ir iz) .0)) $
         returns ! (look ! 18 refl) $ forget ! 0 refl $ forget ! 3 refl $ forget ! 5 refl $ forget ! 7 refl $ forget ! 9 refl $ forget ! 12 refl $ forget ! 14 refl $ forget ! 16 refl $ forget ! 18 refl $
         keep ! (18 ∷ 19 ∷ 16 ∷ 17 ∷ 14 ∷ 15 ∷ 12 ∷ 13 ∷ 0 ∷ 11 ∷ 9 ∷ 10 ∷ 7 ∷ 8 ∷ 5 ∷ 6 ∷ 3 ∷ 4 ∷ []) $ free1 ! $ free1 ! $ free1 ! $ free1 ! $ free1 ! $ free1 ! $ free1 ! $ free1 ! $ free1 ! $ free0 ! $
-        owned ! N.the-row (Is N.the-row) (LL.makes N.the-type N′.the-plain 𝓤 H A) (answer r (us .1 .0)) _ (answer-is r w (us .1 .0) _ ir iz) $ by ! (exits (answer r (us .1 .0)) _))))))))))))))))))
+        owned ! N.the-row (Is N.the-row) (LL.makes N.the-type N′.the-plain 𝓤 H A) (answer r (us .1 .0)) _ (answer-is r w (us .1 .0) _ ir iz) $ by ! (exits (answer r (us .1 .0)) _ told)))))))))))))))))))
 
 module _ {M : Type 1} (𝓤 : URA M) (H : Heap 𝓤) (A : Atoms 𝓤) (W : Given 𝓤 H A) (at-mem : Memory → SProp 𝓤) (run : Routine → Fun 𝓤) (C : Calls 𝓤 H) (Λ : Loops 𝓤 H) where
   walks : FmC 𝓤 H (W .laws) C → Triple 𝓤 (C #release) (Release 𝓤 H A at-mem run) → Walks 𝓤 H A f.ended stayed (WpFn 𝓤 H C Λ code.function) (f.clauses 𝓤 H A at-mem run)

@@ -6,10 +6,10 @@ use Rattle.workload.proofs.sheets.workload_reading.Statement.{statement
 use Rattle.workload.proofs.sheets.workload_reading.Tie as tie
 
 abbrev Inv-loop : tie.InvT-loop
-Inv-loop sheets width turns sum₀ at₀ k₀ left₀ sum at k left = (at + width ≤ length sheets) × (k + 1 ≤ 16)
+Inv-loop sheets width turns sum₀ at₀ left₀ sum at left = at + width ≤ length sheets
 
 abbrev μ-loop : tie.MeasureT-loop
-μ-loop sheets width turns sum₀ at₀ k₀ left₀ sum at k left = left
+μ-loop sheets width turns sum₀ at₀ left₀ sum at left = left
 
 returns : tie.Need-returns Inv-loop μ-loop
 returns c = search needs
@@ -38,9 +38,6 @@ mix-read-requires c κs = search needs
 after-requires : tie.Need-after-requires Inv-loop μ-loop
 after-requires c κs = search needs
 
-after-requires-2 : tie.Need-after-requires-2 Inv-loop μ-loop
-after-requires-2 c κs = search needs
-
 sub-left : tie.Need-sub-left Inv-loop μ-loop
 sub-left c = search needs
 
@@ -68,7 +65,6 @@ workload-reading-spec =
     read-requires
     mix-read-requires
     after-requires
-    after-requires-2
     sub-left
     loop-less
     loop-again
