@@ -1,4 +1,4 @@
--- A list of calls: the first gets what a new ledger is and left, each later one what the call before it returned and left.
+-- A list of calls: the first gets what opening the ledger returned and left, each later one what the call before it did.
 use Prim.Native.Nat.{ℕ}
 use mathlib.Core.List.{List, [], _∷_}
 use Rattle.ledger.specs.declared.Record.{Record}
@@ -15,7 +15,7 @@ pub record Book : Type 0 where
   pub ledger : Ledger
   pub records : List Record
 
--- what a new ledger is and left
+-- what opening it returned and left
 unfoldable pub opened : List ℕ → List Record → Book
 opened capacities lent = record { ledger = openedOf capacities lent .ledger; records = recordsOpened capacities lent }
 

@@ -27,7 +27,7 @@ releaseCases ledger records number =
 unfoldable pub closedUp : List Record → ℕ → Record → List Record
 closedUp records at last = pick (ltb at recordCount) (take at records ++ (drop (at + 1) records ++ (last ∷ []))) records
 
--- what a release answers; refused, the ledger is as it was
+-- refused, the ledger is as it was
 unfoldable pub refusedRelease : Ledger → Refusal → Released
 refusedRelease ledger why = record { verdict = Verdict.Refused why; ledger = ledger }
 
@@ -35,6 +35,7 @@ refusedRelease ledger why = record { verdict = Verdict.Refused why; ledger = led
 unfoldable pub acceptedRelease : Ledger → Released
 acceptedRelease ledger = record { verdict = Verdict.Accepted; ledger = record { capacities = ledger .capacities; count = ledger .count - 1 } }
 
+-- what a release answers
 unfoldable pub releasedOf : Ledger → List Record → ℕ → Released
 releasedOf ledger records number = firstOf (releaseCases ledger records number) (refusedRelease ledger) (acceptedRelease ledger)
 

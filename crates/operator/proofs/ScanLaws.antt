@@ -8,12 +8,12 @@ use native.Mathlib.Decide.{decLt}
 use native.Mathlib.Omega.{arith}
 use lib.ListN.{length, take, drop, length-drop}
 use lib.Seq.{length-take-le, getD-take, getD-drop}
-use lib.Dec.{leb, ltb, eqb}
+use lib.Dec.{leb, eqb}
 use borrow.Author.Tests.{lt-ltb, le-ltb, eqb-true}
 use Rattle.quantity.specs.Choice.{pick, both}
 use Rattle.quantity.specs.Sums.{total, every}
 use Rattle.quantity.specs.Limits.{largestAmount}
-use Rattle.quantity.proofs.Sums.{total-suc, total-same, total-none, every-at, every-same, both-true, both-assoc}
+use Rattle.quantity.proofs.Sums.{total-same, total-none, every-at, every-same, both-true, both-assoc}
 use Rattle.operator.specs.Stored.{wordAt, storedFits, wordFits}
 
 every-parts : (test : ℕ → Bool) (n k : ℕ) → every test (n + k) ≡ both (every test n) (every (λ j. test (n + j)) k)
