@@ -3,17 +3,17 @@ use mathlib.Core.Path.{_≡_, refl, ap, ap₂, sym, _∙_}
 use mathlib.Core.Bool.{Bool, true, false}
 use mathlib.Core.List.{List}
 use Prim.Native.Nat.{ℕ, zero, suc, _+_, _-_, _≤_, _<_}
-use native.Mathlib.Nat.{add-zero, add-suc}
+use native.Mathlib.Nat.{zero-add, add-zero, add-suc}
 use native.Mathlib.Decide.{decLt}
 use native.Mathlib.Omega.{arith}
 use lib.ListN.{length, take, drop, length-drop}
 use lib.Seq.{length-take-le, getD-take, getD-drop}
 use lib.Dec.{leb, eqb}
-use borrow.Author.Tests.{lt-ltb, le-ltb, eqb-true}
+use borrow.Author.Tests.{lt-ltb, le-ltb, le-leb, eqb-true, ne-eqb}
 use Rattle.quantity.specs.Choice.{pick, both}
 use Rattle.quantity.specs.Sums.{total, every}
 use Rattle.quantity.specs.Limits.{largestAmount}
-use Rattle.quantity.proofs.Sums.{total-same, total-none, every-at, every-same, both-true, both-assoc}
+use Rattle.quantity.proofs.Sums.{total-le, total-suc, total-same, every-holds, every-same, both-true, both-assoc}
 use Rattle.operator.specs.Stored.{wordAt, storedFits, wordFits}
 
 every-parts : (test : ℕ → Bool) (n k : ℕ) → every test (n + k) ≡ both (every test n) (every (λ j. test (n + j)) k)
@@ -30,6 +30,30 @@ total-parts : (f : ℕ → ℕ) (n k : ℕ) → total f (n + k) ≡ total f n + 
 unfolding total
 total-parts f n zero = ap (total f) (add-zero n) ∙ sym (add-zero (total f n))
 total-parts f n (suc k) = ap (total f) (add-suc n k) ∙ (let shorter = total-parts f n k in omega arith)
+
+sum-clear : (f : ℕ → ℕ) (n : ℕ) → eqb (total f n) 0 ≡ every (λ j. eqb (f j) 0) n
+unfolding total every
+sum-clear f zero = refl
+sum-clear f (suc n) = sum-zero (total f n) (f n) ∙ ap (λ (t : Bool). both t (eqb (f n) 0)) (sum-clear f n)
+  where
+    sum-zero : (a b : ℕ) → eqb (a + b) 0 ≡ both (eqb a 0) (eqb b 0)
+    sum-zero zero b = ap (λ (n : ℕ). eqb n 0) (zero-add b)
+    sum-zero (suc a) b = ne-eqb (suc a + b) 0 (λ e. omega arith) ∙ ap (λ (t : Bool). both t (eqb b 0)) (sym (ne-eqb (suc a) 0 (λ e. omega arith)))
+
+module _ (words : List ℕ) where
+  -- none is used
+  pub unused-fits : every (λ j. eqb (wordAt words j) 0) (length words) ≡ every (wordFits 0 words) (length words)
+  unfolding wordFits storedFits
+  unused-fits = every-same (λ j. eqb (wordAt words j) 0) (wordFits 0 words) (length words) (λ j less. ap (λ (t : Bool). pick t (leb (wordAt words j) largestAmount) (eqb (wordAt words j) 0)) (sym (le-ltb j 0 (omega arith))))
+
+  pub unused-units : every (λ j. eqb (wordAt words j) 0) (length words) ≡ true → 0 ≡ total (wordAt words) (length words)
+  unused-units clear = sym (eqb-true (total (wordAt words) (length words)) 0 (sum-clear (wordAt words) (length words) ∙ clear))
+
+-- words whose sum is within the limit are
+pub words-small : (words : List ℕ) → total (wordAt words) (length words) ≤ largestAmount → every (λ j. leb (wordAt words j) largestAmount) (length words) ≡ true
+words-small words within =
+    every-holds (λ j. leb (wordAt words j) largestAmount) (length words)
+    (λ j less. le-leb (wordAt words j) largestAmount (omega (arith, within, total-le (wordAt words) {n = suc j} {m = length words} less, total-suc (wordAt words) j)))
 
 -- the first `end` words are used, and those behind them are not
 module _ (words : List ℕ) (used end : ℕ) (below : end ≤ used) (within : end ≤ length words) (all : end < used → end ≡ length words) where
@@ -67,7 +91,7 @@ module _ (words : List ℕ) (used end : ℕ) (below : end ≤ used) (within : en
   small = every (λ j. leb (wordAt first j) largestAmount) (length first)
 
   abbrev clear : Bool
-  clear = every (λ j. eqb (wordAt behind j) 0) (length behind)
+  clear = eqb (total (wordAt behind) (length behind)) 0
 
   first-fits : small ≡ every (wordFits used words) end
   unfolding wordFits storedFits
@@ -80,7 +104,8 @@ module _ (words : List ℕ) (used end : ℕ) (below : end ≤ used) (within : en
   behind-fits : clear ≡ every (λ j. wordFits used words (end + j)) rest
   unfolding wordFits storedFits
   behind-fits =
-      ap (every (λ j. eqb (wordAt behind j) 0)) behind-length
+      sum-clear (wordAt behind) (length behind)
+      ∙ ap (every (λ j. eqb (wordAt behind j) 0)) behind-length
       ∙ every-same (λ j. eqb (wordAt behind j) 0) (λ j. wordFits used words (end + j)) rest
       (λ j less. ap (λ (w : ℕ). eqb w 0) (behind-word j less)
       ∙ ap (λ (t : Bool). pick t (leb (wordAt words (end + j)) largestAmount) (eqb (wordAt words (end + j)) 0)) (sym (le-ltb (end + j) used (none-used j less))))
@@ -90,10 +115,7 @@ module _ (words : List ℕ) (used end : ℕ) (below : end ≤ used) (within : en
 
   pub scanned-units : both small clear ≡ true → total (wordAt first) (length first) ≡ total (wordAt words) (length words)
   scanned-units fits =
-      let zeros = both-true small clear fits .1 in
-      let none : total (λ j. wordAt words (end + j)) rest ≡ 0 =
-      total-same (λ j. wordAt words (end + j)) (λ j. 0) rest
-      (λ j less. sym (behind-word j less) ∙ eqb-true (wordAt behind j) 0 (every-at (λ j. eqb (wordAt behind j) 0) (length behind) zeros j (omega (arith, behind-length, less))))
-      ∙ total-none rest in
+      let none = eqb-true (total (wordAt behind) (length behind)) 0 (both-true small clear fits .1) in
+      let behind-total = ap (total (wordAt behind)) behind-length ∙ total-same (wordAt behind) (λ j. wordAt words (end + j)) rest behind-word in
       ap (total (wordAt first)) first-length ∙ total-same (wordAt first) (wordAt words) end first-word
       ∙ (let parts = total-parts (wordAt words) end rest in let same = ap (total (wordAt words)) whole in omega arith)

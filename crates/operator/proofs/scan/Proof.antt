@@ -1,10 +1,22 @@
 -- The words in two parts, those used and the rest.
-use mathlib.Core.Path.{ap₂, sym, _∙_}
+use mathlib.Core.Path.{_≡_, ap, ap₂, sym, _∙_}
+use Prim.Native.Nat.{ℕ}
+use lib.Dec.{eqb}
 use Rattle.quantity.specs.Choice.{both}
-use Rattle.operator.proofs.ScanLaws.{scanned-fits, scanned-units}
+use Rattle.operator.proofs.ScanLaws.{unused-fits, unused-units, scanned-fits, scanned-units}
 use borrow.Author.Needs.{needs}
 use Rattle.operator.proofs.scan.Statement.{statement}
 use Rattle.operator.proofs.scan.Tie as tie
+
+all-clear-requires : tie.Need-all-clear-requires
+all-clear-requires c κs = search needs
+
+returns : tie.Need-returns
+returns c =
+    let start = c .before .before .before in
+    let words = start .args .words .now in
+    let none : start .args .used ≡ 0 = c .before .if1 .taken in
+    rw none (c .all-clear .ensures ∙ unused-fits words, λ fits. unused-units words (sym (c .all-clear .ensures) ∙ fits))
 
 at-most-requires : tie.Need-at-most-requires
 at-most-requires c κs = search needs
@@ -30,33 +42,35 @@ part-rest-start c = search needs
 part-rest-end : tie.Need-part-rest-end
 part-rest-end c = search needs
 
-all-small-requires : tie.Need-all-small-requires
-all-small-requires c κs = search needs
+sum-requires : tie.Need-sum-requires
+sum-requires c κs = search needs
 
-all-clear-requires : tie.Need-all-clear-requires
-all-clear-requires c κs = search needs
+none-above-requires : tie.Need-none-above-requires
+none-above-requires c κs = search needs
+
+sum-requires-2 : tie.Need-sum-requires-2
+sum-requires-2 c κs = search needs
 
 and-requires : tie.Need-and-requires
 and-requires c κs = search needs
 
-sum-requires : tie.Need-sum-requires
-sum-requires c κs = search needs
-
-returns : tie.Need-returns
-returns c =
-    let start = c .before .before .before .before .before .before .before .before in
+returns-2 : tie.Need-returns-2
+returns-2 c =
+    let start = c .before .before .before .before .before .before .before .before .before in
     let words = start .args .words .now in
     let used = start .args .used in
     let ends = c .before .before .before .before .before .before .at-most in
     let end = ends .result in
     let (below, within, all) = ends .ensures in
-    let tested = c .before .and .ensures ∙ ap₂ both (c .before .before .before .all-small .ensures) (c .before .before .all-clear .ensures) in
-    (tested ∙ scanned-fits words used end below within all, λ fits. c .sum .ensures .0 ∙ scanned-units words used end below within all (sym tested ∙ fits))
+    let tested = c .and .ensures ∙ ap₂ both (c .before .before .none-above .ensures) (ap (λ (units : ℕ). eqb units 0) (c .before .sum2 .ensures .0)) in
+    (tested ∙ scanned-fits words used end below within all, λ fits. c .before .before .before .sum .ensures .0 ∙ scanned-units words used end below within all (sym tested ∙ fits))
 
 pub scan-spec : {M : Type 1} → statement M
 scan-spec =
     tie.close
     (tie.spec
+    all-clear-requires
+    returns
     at-most-requires
     sub-first
     part-first-start
@@ -65,8 +79,8 @@ scan-spec =
     sub-rest
     part-rest-start
     part-rest-end
-    all-small-requires
-    all-clear-requires
-    and-requires
     sum-requires
-    returns)
+    none-above-requires
+    sum-requires-2
+    and-requires
+    returns-2)
