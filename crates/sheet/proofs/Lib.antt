@@ -6,6 +6,7 @@ pub mod Accepted
 mod Sheets
 pub mod RoundTrip
 mod PlacesRead
+mod HeadRead
 mod AnswerLaws
 mod ReadLaws
 mod SheetWritten

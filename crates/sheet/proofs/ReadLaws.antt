@@ -14,6 +14,7 @@ use Rattle.quantity.specs.Refusals.{Case, _⇒_, firstOf}
 use Rattle.quantity.specs.declared.refusal.Refusal.{Refusal}
 use Rattle.quantity.specs.declared.refusal.Refusal.the-variants.{HeaderCutOff, FieldUnexpected, BodyCutOff, OutOfRange}
 use Rattle.quantity.proofs.Laws.{pick-true, pick-false}
+use Rattle.quantity.proofs.Refusals.{firstOf-map}
 use Rattle.sheet.specs.Numbers.{numberOf}
 use Rattle.sheet.specs.Bodies.{part}
 use Rattle.sheet.specs.Fields.{Format, bodyAt, fieldMissing, headerCutOff, fieldUnexpected, bodyCutOff, bodyOutOfRange, fieldCases}
@@ -88,6 +89,11 @@ any tag width = record { tag = tag; width = width; fits = λ body. true }
 abbrev pub after : {A : Type 0} → (Refusal → A) → A → Due → A
 after refused whole (Due.Refused why) = refused why
 after refused whole Due.Whole = whole
+
+-- the same of any conditions that were judged
+pub judged-answer : {A : Type 0} (refused : Refusal → A) (result : A) (cases : List Case) {judged found : Due} → judged ≡ firstOf cases Due.Refused Due.Whole → judged ≡ found
+    → firstOf cases refused result ≡ after refused result found
+judged-answer refused result cases e found = sym (firstOf-map (after refused result) Due.Refused Due.Whole cases) ∙ ap (after refused result) (sym e ∙ found)
 
 -- the conditions of the field that begins at a byte, with what stands of them left open
 abbrev conditions : ℕ → Bool → Bool → Bool → Bool → Bool → List Case

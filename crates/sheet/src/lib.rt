@@ -10,7 +10,7 @@ use quantity::Rate;
 use quantity::WantedDelay;
 ghost use mathlib.Core.Path.{_≡_};
 ghost use Rattle.sheet.specs.Bodies.{placeInRange};
-ghost use Rattle.sheet.specs.Paths.{noPath};
+ghost use Rattle.sheet.specs.Paths.{noPlace, noPath};
 
 pub mod read;
 pub mod write;
@@ -50,6 +50,16 @@ pub struct Path {
     pub places: [Place; 16],
 }
 
+// A place that no operator has.
+fn no_place() -> Place
+    ensures { λ r. ⌜ r ≡ noPlace ⌝ }
+{
+    Place {
+        operator: Operator::Limiter(Rate(0)),
+        link: Link(0),
+    }
+}
+
 // The empty path, which is handed back beside a refusal.
 pub fn no_path() -> Path
     ensures { λ r. ⌜ r ≡ noPath ⌝ }
@@ -59,10 +69,7 @@ pub fn no_path() -> Path
         interval: Interval(0),
         quota: Quota(0),
     };
-    let place = Place {
-        operator: Operator::Limiter(Rate(0)),
-        link: Link(0),
-    };
+    let place = no_place();
     let places = [place; 16];
     Path {
         declaration,

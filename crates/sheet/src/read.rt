@@ -13,6 +13,7 @@ use crate::WANTED_AT;
 use crate::WANTED_TAG;
 use crate::WANTED_WIDTH;
 use crate::no_path;
+use crate::no_place;
 use operator::Declaration;
 use operator::Kind;
 use operator::Operator;
@@ -26,16 +27,16 @@ use quantity::refusal::Refusal;
 ghost use mathlib.Core.Path.{_≡_};
 ghost use mathlib.Core.Bool.{true, not};
 ghost use mathlib.Core.List.{_++_};
-ghost use Prim.Native.Nat.{_+_, _≤_};
-ghost use lib.ListN.{length};
+ghost use Prim.Native.Nat.{_+_, _-_, _≤_, _<_};
+ghost use lib.ListN.{length, drop, replicate};
 ghost use lib.Dec.{eqb};
 ghost use Rattle.quantity.specs.Choice.{pick};
 ghost use Rattle.quantity.specs.Refusals.{firstOf};
 ghost use Rattle.sheet.specs.Numbers.{numberOf};
-ghost use Rattle.sheet.specs.Paths.{valueOf};
+ghost use Rattle.sheet.specs.Paths.{noPlace};
 ghost use Rattle.sheet.specs.Bodies.{part, declarationIn, declarationFits, wantedIn, wantedFits, operatorOf, placeIn, placeFits};
-ghost use Rattle.sheet.specs.Fields.{fieldUnexpected, fieldCases, placeFormat};
-ghost use Rattle.sheet.specs.Sheets.{placesAt, placeLength, furtherCases, placesFrom, refusedRead, readSheet};
+ghost use Rattle.sheet.specs.Fields.{fieldUnexpected, fieldCases, declarationFormat, wantedFormat};
+ghost use Rattle.sheet.specs.Sheets.{declarationAt, wantedAt, furtherCases, lineIn, refusedRead, readSheet};
 
 // What reading a sheet answers. Beside a refusal the path is the empty one.
 pub enum Verdict {
@@ -51,6 +52,17 @@ pub struct ReadSheet {
 // Whether the field that is due has begun and is whole.
 enum Due {
     Whole,
+    Refused(Refusal),
+}
+
+// What a sheet says before its operators.
+struct Head {
+    declaration: Declaration,
+    wanted: WantedDelay,
+}
+
+enum ReadHead {
+    Fits(Head),
     Refused(Refusal),
 }
 
@@ -98,8 +110,9 @@ fn is_due(sheet: &[u8], at: usize, tag: u8, width: usize) -> bool
     sheet[at] == tag && number_at(sheet, at + 1, 2) as usize == width
 }
 
-// Section 7's 2 to 4 of the field that is due at a byte, whichever it is.
-fn field_at(sheet: &[u8], at: usize, tag: u8, width: usize) -> Due
+// Section 7's 2 to 4 of a field of which the sheet has not every byte.
+fn cut_off_at(sheet: &[u8], at: usize, tag: u8, width: usize) -> Due
+    requires { ⌜ length (now sheet) < at + 3 + width ⌝ }
     ensures { λ r. ⌜ r ≡ firstOf (fieldCases (now (sheet .entry)) at (record { tag = tag; width = width; fits = λ body. true })) Due.Refused Due.Whole ⌝ }
 {
     if sheet.len() <= at {
@@ -110,14 +123,25 @@ fn field_at(sheet: &[u8], at: usize, tag: u8, width: usize) -> Due
         return Due::Refused(Refusal::HeaderCutOff(at));
     }
     let due = is_due(sheet, at, tag, width);
-    let whole = width <= left - HEADER;
     if !due {
         return Due::Refused(Refusal::FieldUnexpected(at));
     }
-    if !whole {
-        return Due::Refused(Refusal::BodyCutOff(at));
+    Due::Refused(Refusal::BodyCutOff(at))
+}
+
+// Section 7's 2 to 4 of the field that is due at a byte, whichever it is. Where the sheet has all its bytes, the header decides alone.
+fn field_at(sheet: &[u8], at: usize, tag: u8, width: usize) -> Due
+    requires { ⌜ at + width ≤ 256 ⌝ }
+    ensures { λ r. ⌜ r ≡ firstOf (fieldCases (now (sheet .entry)) at (record { tag = tag; width = width; fits = λ body. true })) Due.Refused Due.Whole ⌝ }
+{
+    let end = at + HEADER + width;
+    if sheet.len() < end {
+        return cut_off_at(sheet, at, tag, width);
     }
-    Due::Whole
+    if is_due(sheet, at, tag, width) {
+        return Due::Whole;
+    }
+    Due::Refused(Refusal::FieldUnexpected(at))
 }
 
 fn kind_of(byte: u8) -> Kind
@@ -192,49 +216,94 @@ fn read_place(body: &[u8]) -> ReadPlace
     }
 }
 
-fn refused(why: Refusal) -> ReadSheet
-    ensures { λ r. ⌜ r ≡ refusedRead why ⌝ }
+// The first two fields.
+fn read_head(sheet: &[u8]) -> ReadHead
+    ensures { λ r. ⌜ r ≡ firstOf (fieldCases (now (sheet .entry)) declarationAt declarationFormat ++ fieldCases (now (sheet .entry)) wantedAt wantedFormat) ReadHead.Refused (ReadHead.Fits (record { declaration = lineIn (now (sheet .entry)) .declaration; wanted = record { 0 = lineIn (now (sheet .entry)) .wanted } })) ⌝ }
 {
-    ReadSheet {
-        verdict: Verdict::Refused(why),
-        path: no_path(),
+    if let Due::Refused(why) = field_at(sheet, DECLARATION_AT, DECLARATION_TAG, DECLARATION_WIDTH) {
+        return ReadHead::Refused(why);
     }
+    let start = DECLARATION_AT + HEADER;
+    let end = start + DECLARATION_WIDTH;
+    let ReadDeclaration::Fits(declaration) = read_declaration(&sheet[start..end]) else {
+        return ReadHead::Refused(Refusal::OutOfRange(DECLARATION_AT));
+    };
+    if let Due::Refused(why) = field_at(sheet, WANTED_AT, WANTED_TAG, WANTED_WIDTH) {
+        return ReadHead::Refused(why);
+    }
+    let start = WANTED_AT + HEADER;
+    let end = start + WANTED_WIDTH;
+    let ReadWanted::Fits(wanted) = read_wanted(&sheet[start..end]) else {
+        return ReadHead::Refused(Refusal::OutOfRange(WANTED_AT));
+    };
+    ReadHead::Fits(Head {
+        declaration,
+        wanted,
+    })
 }
 
 // Behind the last operator the sheet ends, or a seventeenth begins, which is refused (section 7, 2 and 3).
-fn ended(sheet: &[u8], at: usize, path: Path) -> ReadSheet
+fn ended(sheet: &[u8], at: usize) -> Due
     requires { ⌜ at ≤ length (now sheet) ⌝ }
-    ensures { λ r. ⌜ r ≡ firstOf (furtherCases 0 at (now (sheet .entry))) refusedRead (record { verdict = Verdict.Accepted; path = path }) ⌝ }
+    ensures { λ r. ⌜ r ≡ firstOf (furtherCases 0 at (now (sheet .entry))) Due.Refused Due.Whole ⌝ }
 {
     let left = sheet.len() - at;
     if left == 0 {
-        return ReadSheet {
-            verdict: Verdict::Accepted,
-            path,
-        };
+        return Due::Whole;
     }
     if left < HEADER {
-        return refused(Refusal::HeaderCutOff(at));
+        return Due::Refused(Refusal::HeaderCutOff(at));
     }
-    refused(Refusal::FieldUnexpected(at))
+    Due::Refused(Refusal::FieldUnexpected(at))
 }
 
-// The operators: one is due, and behind each the sheet may end.
-fn read_places(sheet: &[u8], declaration: Declaration, wanted: WantedDelay) -> ReadSheet
-    ensures { λ r. ⌜ r ≡ firstOf (fieldCases (now (sheet .entry)) placesAt placeFormat ++ furtherCases 15 (placesAt + placeLength) (now (sheet .entry))) refusedRead (record { verdict = Verdict.Accepted; path = valueOf (record { declaration = declaration; wanted = wanted .0; places = placesFrom 16 placesAt (now (sheet .entry)) }) }) ⌝ }
+// A refusal with the empty path: the first `count` places are emptied again, so that every answer is a copy of the same places.
+fn refused(why: Refusal, stored: [Place; 16], count: usize) -> ReadSheet
+    requires { ⌜ (count ≤ 16) × (drop count stored ≡ replicate (16 - count) noPlace) ⌝ }
+    ensures { λ r. ⌜ r ≡ refusedRead why ⌝ }
 {
+    let none = no_place();
+    let mut places = stored;
+    let mut k = 0;
+    while k < count {
+        places[k] = none;
+        k += 1;
+    }
     let empty = no_path();
-    let mut places = empty.places;
+    let declaration = empty.declaration;
+    let wanted = empty.wanted;
+    let path = Path {
+        declaration,
+        wanted,
+        count: 0,
+        places,
+    };
+    ReadSheet {
+        verdict: Verdict::Refused(why),
+        path,
+    }
+}
+
+// Behind the first two fields an operator is due, and behind each the sheet may end.
+pub fn read(sheet: &[u8]) -> ReadSheet
+    ensures { λ r. ⌜ r ≡ readSheet (now (sheet .entry)) ⌝ }
+{
+    let none = no_place();
+    let mut places = [none; 16];
     let mut count = 0;
+    let head = match read_head(sheet) {
+        ReadHead::Refused(why) => return refused(why, places, count),
+        ReadHead::Fits(head) => head,
+    };
     let mut at = PLACES_AT;
     loop {
         if let Due::Refused(why) = field_at(sheet, at, PLACE_TAG, PLACE_WIDTH) {
-            return refused(why);
+            return refused(why, places, count);
         }
         let start = at + HEADER;
         let end = start + PLACE_WIDTH;
         let ReadPlace::Fits(place) = read_place(&sheet[start..end]) else {
-            return refused(Refusal::OutOfRange(at));
+            return refused(Refusal::OutOfRange(at), places, count);
         };
         places[count] = place;
         count += 1;
@@ -243,33 +312,19 @@ fn read_places(sheet: &[u8], declaration: Declaration, wanted: WantedDelay) -> R
             break;
         }
     }
+    if let Due::Refused(why) = ended(sheet, at) {
+        return refused(why, places, count);
+    }
+    let declaration = head.declaration;
+    let wanted = head.wanted;
     let path = Path {
         declaration,
         wanted,
         count,
         places,
     };
-    ended(sheet, at, path)
-}
-
-pub fn read(sheet: &[u8]) -> ReadSheet
-    ensures { λ r. ⌜ r ≡ readSheet (now (sheet .entry)) ⌝ }
-{
-    if let Due::Refused(why) = field_at(sheet, DECLARATION_AT, DECLARATION_TAG, DECLARATION_WIDTH) {
-        return refused(why);
+    ReadSheet {
+        verdict: Verdict::Accepted,
+        path,
     }
-    let start = DECLARATION_AT + HEADER;
-    let end = start + DECLARATION_WIDTH;
-    let ReadDeclaration::Fits(declaration) = read_declaration(&sheet[start..end]) else {
-        return refused(Refusal::OutOfRange(DECLARATION_AT));
-    };
-    if let Due::Refused(why) = field_at(sheet, WANTED_AT, WANTED_TAG, WANTED_WIDTH) {
-        return refused(why);
-    }
-    let start = WANTED_AT + HEADER;
-    let end = start + WANTED_WIDTH;
-    let ReadWanted::Fits(wanted) = read_wanted(&sheet[start..end]) else {
-        return refused(Refusal::OutOfRange(WANTED_AT));
-    };
-    read_places(sheet, declaration, wanted)
 }

@@ -14,26 +14,19 @@ sub-left c = search needs
 
 returns : tie.Need-returns
 unfolding furtherCases
-returns c = let a = c .before .before .args in simp (eq-eqb (a .at) (length (now (a .sheet))) (omega arith))
-
-refused-requires : tie.Need-refused-requires
-refused-requires c κs = search needs
+returns c = let a = c .before .args in simp (eq-eqb (a .at) (length (now (a .sheet))) (omega arith))
 
 returns-2 : tie.Need-returns-2
 unfolding furtherCases
 returns-2 c =
-    let a = c .before .before .before .before .args in
-    simp (ne-eqb (a .at) (length (now (a .sheet))) (λ e. omega arith), header-cut (now (a .sheet)) (a .at) (omega arith)) (c .refused .ensures)
-
-refused-requires-2 : tie.Need-refused-requires-2
-refused-requires-2 c κs = search needs
+    let a = c .before .before .args in
+    simp (ne-eqb (a .at) (length (now (a .sheet))) (λ e. omega arith), header-cut (now (a .sheet)) (a .at) (omega arith))
 
 returns-3 : tie.Need-returns-3
 unfolding furtherCases
 returns-3 c =
-    let a = c .before .before .before .before .args in
-    simp (ne-eqb (a .at) (length (now (a .sheet))) (λ e. omega arith), header-whole (now (a .sheet)) (a .at) (omega arith)) (c .refused2 .ensures)
+    let a = c .before .before .args in
+    simp (ne-eqb (a .at) (length (now (a .sheet))) (λ e. omega arith), header-whole (now (a .sheet)) (a .at) (omega arith))
 
 pub ended-spec : {M : Type 1} → statement M
-ended-spec =
-    tie.close (tie.spec sub-left returns refused-requires returns-2 refused-requires-2 returns-3)
+ended-spec = tie.close (tie.spec sub-left returns returns-2 returns-3)

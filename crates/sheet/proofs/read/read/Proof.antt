@@ -1,229 +1,219 @@
-use borrow.Author.Needs.{needs}
-use Prim.Native.Nat.{ℕ, _+_}
+-- Behind the first two fields each turn judges the field that is due, then its body: the loop's invariant says what is read so far and that the rest decides.
+use Prim.Native.Nat.{_+_, _-_, _≤_}
 use mathlib.Core.Path.{_≡_, refl, sym, _∙_}
 use mathlib.Core.Bool.{Bool, true, false}
-use mathlib.Core.List.{List, _++_}
+use mathlib.Core.Logic.{_⊎_, inl, inr, ⊎-elim}
+use borrow.Author.Needs.{needs}
+use borrow.Author.Tests.{eqb-true, eqb-false}
+use native.Mathlib.Omega.{arith}
 use denote.Ref.{now}
-use Rattle.quantity.specs.Refusals.{Case, firstOf}
+use lib.ListN.{length, set}
+use Rattle.quantity.specs.Choice.{pick}
 use Rattle.quantity.proofs.Laws.{pick-true}
-use Rattle.sheet.specs.Paths.{valueOf}
-use Rattle.sheet.specs.Bodies.{part, declarationIn, declarationFits, wantedIn, wantedFits}
-use Rattle.sheet.specs.Fields.{declarationFormat, wantedFormat, placeFormat, bodyAt, fieldCases}
-use Rattle.sheet.specs.Sheets.{declarationAt, wantedAt, placesAt, placeLength, furtherCases, lineIn, refusedRead, readSheet}
-use Rattle.sheet.specs.declared.read.Verdict.{Verdict}
-use Rattle.sheet.specs.declared.read.ReadSheet.{ReadSheet}
-use Rattle.sheet.specs.declared.read.ReadDeclaration.{ReadDeclaration}
-use Rattle.sheet.specs.declared.read.ReadWanted.{ReadWanted}
+use Rattle.sheet.specs.Bodies.{placeIn, placeFits}
+use Rattle.sheet.specs.Fields.{bodyAt}
+use Rattle.sheet.specs.Sheets.{placesAt, readSheet}
+use Rattle.sheet.specs.declared.read.ReadPlace.{ReadPlace}
 use Rattle.sheet.proofs.AnswerLaws.{tells}
-use Rattle.sheet.proofs.ReadLaws.{field-refused, field-outside, field-passed, field-inside}
+use Rattle.sheet.proofs.ReadLaws.{field-inside, handed-body, handed-length}
+use Rattle.sheet.proofs.HeadRead.{head-answer}
+use Rattle.sheet.proofs.PlacesRead.{dueAt, Reading, Passed, reached-rest, reading-first, header-refuses, body-refuses, operator-passes, reading-next, end-refuses, end-accepts}
 use Rattle.sheet.proofs.read.read.Statement.{statement}
 use Rattle.sheet.proofs.read.read.Tie as tie
 
-abbrev declarationFound : ReadDeclaration → Bool
-declarationFound (ReadDeclaration.Fits declaration) = true
-declarationFound ReadDeclaration.OutOfRange = false
+abbrev Inv-loop : tie.InvT-loop
+Inv-loop sheet places₀ count₀ head at₀ places count at = Reading sheet (head .declaration) (head .wanted) places count at
 
-abbrev wantedFound : ReadWanted → Bool
-wantedFound (ReadWanted.Fits wanted) = true
-wantedFound ReadWanted.OutOfRange = false
+abbrev μ-loop : tie.MeasureT-loop
+μ-loop sheet places₀ count₀ head at₀ places count at = 16 - count
 
--- the conditions of the operators, and those of all behind the declaration
-abbrev placeCases : List ℕ → List Case
-placeCases sheet = fieldCases sheet placesAt placeFormat ++ furtherCases 15 (placesAt + placeLength) sheet
+abbrev found : ReadPlace → Bool
+found (ReadPlace.Fits place) = true
+found ReadPlace.OutOfRange = false
 
-abbrev wantedCases : List ℕ → List Case
-wantedCases sheet = fieldCases sheet wantedAt wantedFormat ++ placeCases sheet
+no-place-requires : tie.Need-no-place-requires Inv-loop μ-loop
+no-place-requires c κs = search needs
 
-abbrev accepted : List ℕ → ReadSheet
-accepted sheet = record { verdict = Verdict.Accepted; path = valueOf (lineIn sheet) }
+read-head-requires : tie.Need-read-head-requires Inv-loop μ-loop
+read-head-requires c κs = search needs
 
-in-turn : (sheet : List ℕ) → firstOf (fieldCases sheet declarationAt declarationFormat ++ wantedCases sheet) refusedRead (accepted sheet) ≡ readSheet sheet
-unfolding readSheet
-in-turn sheet = refl
-
-field-at-requires : tie.Need-field-at-requires
-field-at-requires c κs = search needs
-
-enum-known-why : tie.Need-enum-known-why
+enum-known-why : tie.Need-enum-known-why Inv-loop μ-loop
 enum-known-why c = search needs
 
-refused-requires : tie.Need-refused-requires
-refused-requires c κs = search needs
+refused-requires : tie.Need-refused-requires Inv-loop μ-loop
+refused-requires c κs = (omega arith, rw (c .before .before .before .before .no-place .ensures))
 
-returns : tie.Need-returns
-returns c =
-    let sheet = now (c .before .before .before .before .before .before .args .sheet) in
-    c .refused .ensures
-    ∙ sym (field-refused refusedRead (accepted sheet) sheet declarationAt declarationFormat (wantedCases sheet) (c .before .before .before .before .field-at .ensures) (c .before .before .why .given .1))
-    ∙ in-turn sheet
+returns : tie.Need-returns Inv-loop μ-loop
+returns c = c .refused .ensures ∙ sym (head-answer (now (c .before .before .before .before .before .before .before .args .sheet)) (c .before .before .before .before .read-head .ensures) (c .before .before .why .given .1))
 
-enum-told : tie.Need-enum-told
-enum-told c = search needs
+enum-known-head : tie.Need-enum-known-head Inv-loop μ-loop
+enum-known-head c = search needs
 
-add-start : tie.Need-add-start
-add-start c = search needs
+loop-holds : tie.Need-loop-holds Inv-loop μ-loop
+loop-holds c = rw (c .before .before .before .before .no-place .ensures) (reading-first (now (c .before .before .before .before .before .before .args .sheet)) _ _)
 
-add-end : tie.Need-add-end
-add-end c = search needs
+-- the first two fields pass, and the operators decide
+decided : (c : tie.At-loop Inv-loop μ-loop)
+    → let sheet = now (c .before .before .before .before .before .before .before .args .sheet) in readSheet sheet ≡ dueAt sheet (c .before .before .head .given .0 .0 .declaration) (c .before .before .head .given .0 .0 .wanted) 15 placesAt
+decided c = head-answer (now (c .before .before .before .before .before .before .before .args .sheet)) (c .before .before .before .before .read-head .ensures) (c .before .before .head .given .1)
 
-sub-read-declaration : tie.Need-sub-read-declaration
-sub-read-declaration c = search needs
+field-at-requires : tie.Need-field-at-requires Inv-loop μ-loop
+field-at-requires c κs = omega (arith, c .loop .inv .few, c .loop .inv .begins)
 
-part-read-declaration-start : tie.Need-part-read-declaration-start
-part-read-declaration-start c = search needs
-
-part-read-declaration-end : tie.Need-part-read-declaration-end
-part-read-declaration-end c = field-inside (now (c .before .before .before .before .args .sheet)) 0 1 7 (c .before .before .field-at .ensures) (c .enum-told .given .1)
-
-read-declaration-requires : tie.Need-read-declaration-requires
-read-declaration-requires c κs = search needs
-
-enum-known-declaration : tie.Need-enum-known-declaration
-enum-known-declaration c = search needs
-
-enum-told-2 : tie.Need-enum-told-2
-enum-told-2 c = search needs
-
-refused-requires-2 : tie.Need-refused-requires-2
-refused-requires-2 c κs = search needs
-
-returns-2 : tie.Need-returns-2
-unfolding bodyAt part
-returns-2 c =
-    let sheet = now (c .before .before .before .before .before .before .before .before .before .args .sheet) in
-    let body = bodyAt sheet declarationAt 7 in
-    let outside : declarationFits body ≡ false = tells declarationFound _ (ReadDeclaration.Fits (declarationIn body)) ReadDeclaration.OutOfRange refl refl (c .before .before .before .read-declaration .ensures) (c .before .enum-told2 .given .1) in
-    c .refused2 .ensures
-    ∙ sym (field-outside refusedRead (accepted sheet) sheet declarationAt declarationFormat (wantedCases sheet) (c .before .before .before .before .before .before .before .field-at .ensures) (c .before .before .before .before .before .enum-told .given .1) outside)
-    ∙ in-turn sheet
-
--- behind a declaration that fits
-declaration-fits : (c : tie.After-known-told2) → declarationFits (bodyAt (now (c .before .before .before .before .before .before .before .before .before .args .sheet)) declarationAt 7) ≡ true
-unfolding bodyAt part
-declaration-fits c =
-    let body = bodyAt (now (c .before .before .before .before .before .before .before .before .before .args .sheet)) declarationAt 7 in
-    tells declarationFound _ (ReadDeclaration.Fits (declarationIn body)) ReadDeclaration.OutOfRange refl refl (c .before .before .before .read-declaration .ensures) (c .before .declaration .given .1)
-
-declaration-is : (c : tie.After-known-told2) → c .before .declaration .given .0 .0 ≡ declarationIn (bodyAt (now (c .before .before .before .before .before .before .before .before .before .args .sheet)) declarationAt 7)
-unfolding bodyAt part
-declaration-is c =
-    let body = bodyAt (now (c .before .before .before .before .before .before .before .before .before .args .sheet)) declarationAt 7 in
-    let made : ReadDeclaration.Fits (c .before .declaration .given .0 .0) ≡ ReadDeclaration.Fits (declarationIn body) = sym (c .before .declaration .given .1) ∙ c .before .before .before .read-declaration .ensures ∙ pick-true _ _ _ (declaration-fits c) in
-    cc made
-
-declared : (c : tie.After-known-told2) → let sheet = now (c .before .before .before .before .before .before .before .before .before .args .sheet) in firstOf (wantedCases sheet) refusedRead (accepted sheet) ≡ readSheet sheet
-declared c =
-    let sheet = now (c .before .before .before .before .before .before .before .before .before .args .sheet) in
-    sym (field-passed refusedRead (accepted sheet) sheet declarationAt declarationFormat (wantedCases sheet) (c .before .before .before .before .before .before .before .field-at .ensures) (c .before .before .before .before .before .enum-told .given .1) (declaration-fits c))
-    ∙ in-turn sheet
-
-field-at-requires-2 : tie.Need-field-at-requires-2
-field-at-requires-2 c κs = search needs
-
-enum-known-why-2 : tie.Need-enum-known-why-2
+enum-known-why-2 : tie.Need-enum-known-why-2 Inv-loop μ-loop
 enum-known-why-2 c = search needs
 
-refused-requires-3 : tie.Need-refused-requires-3
-refused-requires-3 c κs = search needs
+refused-requires-2 : tie.Need-refused-requires-2 Inv-loop μ-loop
+refused-requires-2 c κs = reached-rest (c .before .before .before .before .loop .inv .reached)
 
-returns-3 : tie.Need-returns-3
+returns-2 : tie.Need-returns-2 Inv-loop μ-loop
+returns-2 c =
+    let at-loop = c .before .before .before .before .before in
+    c .refused2 .ensures
+    ∙ sym (decided at-loop ∙ header-refuses (now (at-loop .before .before .before .before .before .before .before .args .sheet)) _ _ _ _ _ (at-loop .loop .inv) (c .before .before .before .before .field-at .ensures) (c .before .before .why2 .given .1))
+
+enum-told : tie.Need-enum-told Inv-loop μ-loop
+enum-told c = search needs
+
+-- the field that is judged whole lies in the sheet
+inside : (c : tie.After-enum-told Inv-loop μ-loop) → c .before .before .before .loop .at + 3 + 6 ≤ length (now (c .before .before .before .before .before .before .before .before .before .before .args .sheet))
+inside c = field-inside _ _ 3 6 (c .before .before .field-at .ensures) (c .enum-told .given .1)
+
+add-start : tie.Need-add-start Inv-loop μ-loop
+add-start c = omega (arith, c .before .before .before .loop .inv .few, c .before .before .before .loop .inv .begins)
+
+add-end : tie.Need-add-end Inv-loop μ-loop
+add-end c = omega (arith, c .before .before .before .loop .inv .few, c .before .before .before .loop .inv .begins)
+
+sub-read-place : tie.Need-sub-read-place Inv-loop μ-loop
+sub-read-place c = omega arith
+
+part-read-place-start : tie.Need-part-read-place-start Inv-loop μ-loop
+part-read-place-start c = omega arith
+
+part-read-place-end : tie.Need-part-read-place-end Inv-loop μ-loop
+part-read-place-end c = omega (arith, inside c)
+
+read-place-requires : tie.Need-read-place-requires Inv-loop μ-loop
+read-place-requires c κs = handed-length _ _ 6 (inside (c .before))
+
+-- what the reader answers of the body
+answered : (c : tie.After-read-place Inv-loop μ-loop)
+    → let body = bodyAt (now (c .before .before .before .before .before .before .before .before .before .before .before .before .args .sheet)) (c .before .before .before .before .before .loop .at) 6 in c .read-place .result ≡ pick (placeFits body) (ReadPlace.Fits (placeIn body)) ReadPlace.OutOfRange
+answered c = rw (handed-body (now (c .before .before .before .before .before .before .before .before .before .before .before .before .args .sheet)) (c .before .before .before .before .before .loop .at) 6) at (c .read-place .ensures)
+
+enum-known-place : tie.Need-enum-known-place Inv-loop μ-loop
+enum-known-place c = search needs
+
+enum-told-2 : tie.Need-enum-told-2 Inv-loop μ-loop
+enum-told-2 c = search needs
+
+refused-requires-3 : tie.Need-refused-requires-3 Inv-loop μ-loop
+refused-requires-3 c κs = reached-rest (c .before .before .before .before .before .before .before .loop .inv .reached)
+
+returns-3 : tie.Need-returns-3 Inv-loop μ-loop
 returns-3 c =
-    let sheet = now (c .before .before .before .before .before .before .before .before .before .before .before .before .before .before .args .sheet) in
+    let at-loop = c .before .before .before .before .before .before .before .before in
+    let sheet = now (at-loop .before .before .before .before .before .before .before .args .sheet) in
+    let body = bodyAt sheet (at-loop .loop .at) 6 in
+    let outside : placeFits body ≡ false = tells found _ (ReadPlace.Fits (placeIn body)) ReadPlace.OutOfRange refl refl (answered (c .before .before .before)) (c .before .enum-told2 .given .1) in
     c .refused3 .ensures
-    ∙ sym (field-refused refusedRead (accepted sheet) sheet wantedAt wantedFormat (placeCases sheet) (c .before .before .before .before .field-at2 .ensures) (c .before .before .why2 .given .1))
-    ∙ declared (c .before .before .before .before .before)
+    ∙ sym (decided at-loop ∙ body-refuses sheet _ _ _ _ _ (at-loop .loop .inv) (c .before .before .before .before .before .before .before .field-at .ensures) (c .before .before .before .before .before .enum-told .given .1) outside)
 
-enum-told-3 : tie.Need-enum-told-3
+-- the place that was read is the body's
+fits : (c : tie.After-known-told4 Inv-loop μ-loop) → placeFits (bodyAt (now (c .before .before .before .before .before .before .before .before .before .before .before .before .before .before .before .args .sheet)) (c .before .before .before .before .before .before .before .before .loop .at) 6) ≡ true
+fits c =
+    let body = bodyAt (now (c .before .before .before .before .before .before .before .before .before .before .before .before .before .before .before .args .sheet)) (c .before .before .before .before .before .before .before .before .loop .at) 6 in
+    tells found _ (ReadPlace.Fits (placeIn body)) ReadPlace.OutOfRange refl refl (answered (c .before .before .before)) (c .before .place .given .1)
+
+same : (c : tie.After-known-told4 Inv-loop μ-loop) → c .before .place .given .0 .0 ≡ placeIn (bodyAt (now (c .before .before .before .before .before .before .before .before .before .before .before .before .before .before .before .args .sheet)) (c .before .before .before .before .before .before .before .before .loop .at) 6)
+same c =
+    let body = bodyAt (now (c .before .before .before .before .before .before .before .before .before .before .before .before .before .before .before .args .sheet)) (c .before .before .before .before .before .before .before .before .loop .at) 6 in
+    let made : ReadPlace.Fits (c .before .place .given .0 .0) ≡ ReadPlace.Fits (placeIn body) = sym (c .before .place .given .1) ∙ answered (c .before .before .before) ∙ pick-true _ _ _ (fits c) in
+    cc made
+
+-- and stored
+stored : (c : tie.After-known-told4 Inv-loop μ-loop)
+    → let at-loop = c .before .before .before .before .before .before .before .before in Passed (now (c .before .before .before .before .before .before .before .before .before .before .before .before .before .before .before .args .sheet)) (at-loop .before .before .head .given .0 .0 .declaration) (at-loop .before .before .head .given .0 .0 .wanted) (set (at-loop .loop .places) (at-loop .loop .count) (c .before .place .given .0 .0)) (at-loop .loop .count + 1) (at-loop .loop .at + 3 + 6)
+stored c =
+    let at-loop = c .before .before .before .before .before .before .before .before in
+    operator-passes (now (c .before .before .before .before .before .before .before .before .before .before .before .before .before .before .before .args .sheet)) _ _ _ _ _ (at-loop .loop .inv) (c .before .before .before .before .before .before .before .field-at .ensures) (c .before .before .before .before .before .enum-told .given .1) (fits c) _ (same c) _ (omega arith)
+
+mul-places : tie.Need-mul-places Inv-loop μ-loop
+mul-places c = omega (arith, c .before .before .before .before .before .before .before .before .loop .inv .few)
+
+array-set-from-places : tie.Need-array-set-from-places Inv-loop μ-loop
+array-set-from-places c = omega (arith, c .before .before .before .before .before .before .before .before .loop .inv .few)
+
+add-count : tie.Need-add-count Inv-loop μ-loop
+add-count c = omega (arith, c .before .before .before .before .before .before .before .before .loop .inv .few)
+
+loop-less : tie.Need-loop-less Inv-loop μ-loop
+loop-less c = omega (arith, c .before .before .before .before .before .before .before .before .before .before .loop .inv .few)
+
+loop-again : tie.Need-loop-again Inv-loop μ-loop
+loop-again c = reading-next _ _ _ _ _ _ (stored (c .before .before)) (c .before .if1 .left) (eqb-false _ _ (c .if2 .left))
+
+ended-requires : tie.Need-ended-requires Inv-loop μ-loop
+ended-requires c κs = inside (c .before .before .before .before .before .before)
+
+-- the operator that was read is the sixteenth, or the sheet ends behind it
+last : (c : tie.Joined1 Inv-loop μ-loop) → (c .before .before .before .before .before .before .before .before .before .loop .count + 1 ≡ 16) ⊎ (c .before .before .before .before .before .before .before .before .before .loop .at + 3 + 6 ≡ length (now (c .before .before .before .before .before .before .before .before .before .before .before .before .before .before .before .before .args .sheet)))
+last c = ⊎-elim (λ w. inl (w .taken)) (λ w. inr (eqb-true _ _ (w .1 .taken))) (c .if1 .came)
+
+enum-known-why-3 : tie.Need-enum-known-why-3 Inv-loop μ-loop
+enum-known-why-3 c = search needs
+
+refused-requires-4 : tie.Need-refused-requires-4 Inv-loop μ-loop
+refused-requires-4 c κs = reached-rest (stored (c .before .before .before .before .before) .reached)
+
+returns-4 : tie.Need-returns-4 Inv-loop μ-loop
+returns-4 c =
+    c .refused4 .ensures
+    ∙ sym (decided (c .before .before .before .before .before .before .before .before .before .before .before .before .before .before) ∙ end-refuses _ _ _ _ _ _ (stored (c .before .before .before .before .before .before)) (last (c .before .before .before .before .before)) (c .before .before .before .before .ended .ensures) (c .before .before .why3 .given .1))
+
+enum-told-3 : tie.Need-enum-told-3 Inv-loop μ-loop
 enum-told-3 c = search needs
 
-add-start-2 : tie.Need-add-start-2
-add-start-2 c = search needs
-
-add-end-2 : tie.Need-add-end-2
-add-end-2 c = search needs
-
-sub-read-wanted : tie.Need-sub-read-wanted
-sub-read-wanted c = search needs
-
-part-read-wanted-start : tie.Need-part-read-wanted-start
-part-read-wanted-start c = search needs
-
-part-read-wanted-end : tie.Need-part-read-wanted-end
-part-read-wanted-end c = field-inside (now (c .before .before .before .before .before .before .before .before .before .before .before .before .args .sheet)) 10 2 4 (c .before .before .field-at2 .ensures) (c .enum-told3 .given .1)
-
-read-wanted-requires : tie.Need-read-wanted-requires
-read-wanted-requires c κs = search needs
-
-enum-known-wanted : tie.Need-enum-known-wanted
-enum-known-wanted c = search needs
-
-enum-told-4 : tie.Need-enum-told-4
-enum-told-4 c = search needs
-
-refused-requires-4 : tie.Need-refused-requires-4
-refused-requires-4 c κs = search needs
-
-returns-4 : tie.Need-returns-4
-unfolding bodyAt part
-returns-4 c =
-    let sheet = now (c .before .before .before .before .before .before .before .before .before .before .before .before .before .before .before .before .before .args .sheet) in
-    let body = bodyAt sheet wantedAt 4 in
-    let outside : wantedFits body ≡ false = tells wantedFound _ (ReadWanted.Fits (record { 0 = wantedIn body })) ReadWanted.OutOfRange refl refl (c .before .before .before .read-wanted .ensures) (c .before .enum-told4 .given .1) in
-    c .refused4 .ensures
-    ∙ sym (field-outside refusedRead (accepted sheet) sheet wantedAt wantedFormat (placeCases sheet) (c .before .before .before .before .before .before .before .field-at2 .ensures) (c .before .before .before .before .before .enum-told3 .given .1) outside)
-    ∙ declared (c .before .before .before .before .before .before .before .before)
-
-read-places-requires : tie.Need-read-places-requires
-read-places-requires c κs = search needs
-
-returns-5 : tie.Need-returns-5
-unfolding bodyAt part lineIn
-returns-5 c =
-    let sheet = now (c .before .before .before .before .before .before .before .before .before .before .before .before .before .before .before .before .before .before .args .sheet) in
-    let body = bodyAt sheet wantedAt 4 in
-    let wanted = c .before .before .wanted .given in
-    let read-wanted = c .before .before .before .before .read-wanted .ensures in
-    let fits : wantedFits body ≡ true = tells wantedFound _ (ReadWanted.Fits (record { 0 = wantedIn body })) ReadWanted.OutOfRange refl refl read-wanted (wanted .1) in
-    let made : ReadWanted.Fits (wanted .0 .0) ≡ ReadWanted.Fits (record { 0 = wantedIn body }) = sym (wanted .1) ∙ read-wanted ∙ pick-true _ _ _ fits in
-    let wanted-is : wanted .0 .0 ≡ record { 0 = wantedIn body } = cc made in
-    let whole : c .read-places .result ≡ firstOf (placeCases sheet) refusedRead (accepted sheet) = rw (declaration-is (c .before .before .before .before .before .before .before .before .before), wanted-is) at (c .read-places .ensures) in
-    whole
-    ∙ sym (field-passed refusedRead (accepted sheet) sheet wantedAt wantedFormat (placeCases sheet) (c .before .before .before .before .before .before .before .before .field-at2 .ensures) (c .before .before .before .before .before .before .enum-told3 .given .1) fits)
-    ∙ declared (c .before .before .before .before .before .before .before .before .before)
+returns-5 : tie.Need-returns-5 Inv-loop μ-loop
+returns-5 c = sym (decided (c .before .before .before .before .before .before .before .before .before .before .before .before .before .before) ∙ end-accepts _ _ _ _ _ _ (stored (c .before .before .before .before .before .before)) (last (c .before .before .before .before .before)) (c .before .before .before .before .ended .ensures) (c .before .before .enum-told3 .given .1))
 
 pub read-spec : {M : Type 1} → statement M
 read-spec =
     tie.close
     (tie.spec
-    field-at-requires
+    Inv-loop
+    μ-loop
+    no-place-requires
+    read-head-requires
     enum-known-why
     refused-requires
     returns
+    enum-known-head
+    loop-holds
+    field-at-requires
+    enum-known-why-2
+    refused-requires-2
+    returns-2
     enum-told
     add-start
     add-end
-    sub-read-declaration
-    part-read-declaration-start
-    part-read-declaration-end
-    read-declaration-requires
-    enum-known-declaration
+    sub-read-place
+    part-read-place-start
+    part-read-place-end
+    read-place-requires
+    enum-known-place
     enum-told-2
-    refused-requires-2
-    returns-2
-    field-at-requires-2
-    enum-known-why-2
     refused-requires-3
     returns-3
-    enum-told-3
-    add-start-2
-    add-end-2
-    sub-read-wanted
-    part-read-wanted-start
-    part-read-wanted-end
-    read-wanted-requires
-    enum-known-wanted
-    enum-told-4
+    mul-places
+    array-set-from-places
+    add-count
+    loop-less
+    loop-again
+    ended-requires
+    enum-known-why-3
     refused-requires-4
     returns-4
-    read-places-requires
+    enum-told-3
     returns-5)

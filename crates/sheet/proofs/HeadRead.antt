@@ -1,0 +1,32 @@
+-- What is answered of a sheet once its first two fields are read: a refusal of theirs, or what the operators decide.
+use Prim.Native.Nat.{ℕ, _+_}
+use mathlib.Core.Path.{_≡_, sym, ap, _∙_}
+use mathlib.Core.List.{List, _++_}
+use Rattle.quantity.specs.Refusals.{Case, firstOf}
+use Rattle.quantity.proofs.Refusals.{firstOf-append, firstOf-map}
+use Rattle.sheet.specs.Paths.{valueOf}
+use Rattle.sheet.specs.Fields.{declarationFormat, wantedFormat, placeFormat, fieldCases}
+use Rattle.sheet.specs.Sheets.{declarationAt, wantedAt, placesAt, placeLength, furtherCases, lineIn, refusedRead, readSheet}
+use Rattle.sheet.specs.declared.read.Verdict.{Verdict}
+use Rattle.sheet.specs.declared.read.ReadSheet.{ReadSheet}
+use Rattle.sheet.specs.declared.read.ReadHead.{ReadHead}
+use Rattle.sheet.proofs.PlacesRead.{dueAt}
+
+module _ (sheet : List ℕ) where
+  -- the conditions of the first two fields, and what they say where none stands
+  abbrev pub headCases : List Case
+  headCases = fieldCases sheet declarationAt declarationFormat ++ fieldCases sheet wantedAt wantedFormat
+
+  abbrev pub headIn : ReadHead
+  headIn = ReadHead.Fits (record { declaration = lineIn sheet .declaration; wanted = record { 0 = lineIn sheet .wanted } })
+
+  abbrev pub afterHead : ReadHead → ReadSheet
+  afterHead (ReadHead.Refused why) = refusedRead why
+  afterHead (ReadHead.Fits head) = dueAt sheet (head .declaration) (head .wanted) 15 placesAt
+
+  pub head-answer : {head found : ReadHead} → head ≡ firstOf headCases ReadHead.Refused headIn → head ≡ found → readSheet sheet ≡ afterHead found
+  unfolding readSheet lineIn
+  head-answer read e =
+      firstOf-append refusedRead (record { verdict = Verdict.Accepted; path = valueOf (lineIn sheet) }) headCases (fieldCases sheet placesAt placeFormat ++ furtherCases 15 (placesAt + placeLength) sheet)
+      ∙ sym (firstOf-map afterHead ReadHead.Refused headIn headCases)
+      ∙ ap afterHead (sym read ∙ e)
