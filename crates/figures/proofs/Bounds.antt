@@ -109,11 +109,6 @@ filter-delay-of c e R unfiltered rate positive = omega arith
 filter-delay-of c e R (filtered P) rate positive =
     omega (arith, round-up-falls (burst c) (min P R) P (le-min (rate .0) positive) (min-le-left P R))
 
-delayer-delay-of : (c : Class) (e d : ℕ) (P : Slowest) → partDelay c e P ≤ partDelay c (e + d) P
-unfolding partDelay
-delayer-delay-of c e d unfiltered = omega arith
-delayer-delay-of c e d (filtered P) = omega arith
-
 delayer-adds-of : (c : Class) (e d : ℕ) (P : Slowest) → partDelay c (e + d) P - partDelay c e P ≡ d
 unfolding partDelay
 delayer-adds-of c e d unfiltered = omega arith
@@ -124,22 +119,17 @@ pub delayer-delay : (p : Progress) (d : Delay) → delayOfPart (behind p (Delaye
 unfolding behind
 delayer-delay p d = delayer-adds-of (p .class) (p .e) (d .0) (p .slowest)
 
--- no filter or delayer takes from the delay of its part
+-- no filter takes from the delay of its part
 filter-delays : (longest : ℕ) (p : Progress) (R : Rate) → Within longest p → numberInRange (Filter R) ≡ true → delayOfPart p ≤ delayOfPart (behind p (Filter R))
 unfolding numberInRange behind
 filter-delays longest p R within inside = filter-delay-of (p .class) (p .e) (R .0) (p .slowest) (within .slowest) (in-range rateRange (R .0) inside .0)
 
-delayer-delays : (p : Progress) (d : Delay) → delayOfPart p ≤ delayOfPart (behind p (Delayer d))
-unfolding behind
-delayer-delays p d = delayer-delay-of (p .class) (p .e) (d .0) (p .slowest)
-
 -- what is known of a progress and of what it becomes behind a filter
-module _ {p after : Progress} {op : Operator} where
-  pub filter-adds : {R : Rate} → op ≡ Filter R → after ≡ behind p (Filter R) → Within mostBefore p → numberInRange op ≡ true → Within mostWith p × (Within mostWith after × (delayOfPart p ≤ delayOfPart after))
-  unfolding changedQuota
-  filter-adds e f within inside =
-      subst (λ (q : Progress). Within mostWith p × (Within mostWith q × (delayOfPart p ≤ delayOfPart q))) (sym f)
-      (within-le {shorter = mostBefore} (omega arith) within, (with-within _ _ within (inside-of e inside) (omega arith), filter-delays mostBefore p _ within (inside-of e inside)))
+pub filter-adds : (p : Progress) {after : Progress} (R : Rate) → after ≡ behind p (Filter R) → Within mostBefore p → numberInRange (Filter R) ≡ true → Within mostWith p × (Within mostWith after × (delayOfPart p ≤ delayOfPart after))
+unfolding changedQuota
+filter-adds p R e within inside =
+    subst (λ (q : Progress). Within mostWith p × (Within mostWith q × (delayOfPart p ≤ delayOfPart q))) (sym e)
+    (within-le {shorter = mostBefore} (omega arith) within, (with-within _ _ within inside (omega arith), filter-delays mostBefore p _ within inside))
 
 paired-delay : (paired : Bool) (n : ℕ) → n ≤ 1024 → pick paired 0 n ≤ 1024
 paired-delay true n small = omega arith

@@ -4,5 +4,6 @@ mod Steps
 mod Reached
 pub mod Promise
 mod Bounds
+mod Tests
 mod EachOperator
 mod SheetAnswer

@@ -12,17 +12,20 @@ use crate::class::changed_quota;
 use crate::class::round_up;
 use crate::class::wide;
 use operator::Operator;
+use quantity::Delay;
+use quantity::Interval;
 use quantity::Rate;
 use quantity::Slots;
 use quantity::Units;
 use quantity::refusal::Refusal;
 ghost use mathlib.Core.Path.{_≡_};
-ghost use mathlib.Core.Bool.{true};
+ghost use mathlib.Core.Bool.{true, false};
 ghost use Prim.Native.Nat.{_-_, _*_, _≤_};
 ghost use lib.Dec.{ltb};
+ghost use Rattle.quantity.specs.Choice.{pick};
 ghost use Rattle.operator.specs.Operators.{numberInRange};
-ghost use Rattle.figures.specs.Progress.{Progress};
-ghost use Rattle.figures.specs.Figures.{capacity, delayOfPart, ownDelay, pairs, isFramed, framedAfterFilter, changedQuota, figureTooLarge, rateTooLow};
+ghost use Rattle.operator.specs.declared.Operator.the-variants.{Limiter, Expander, Filter, Delayer};
+ghost use Rattle.figures.specs.Figures.{delayOfPart, pairs};
 ghost use Rattle.figures.specs.Carried.{progressIn, Within, mostBefore, mostWith, plannedOf};
 
 // Section 7, 7: the largest changed quota.
@@ -34,18 +37,91 @@ pub enum Planned {
     Refused(Refusal),
 }
 
-fn capacity(carried: Carried, operator: Operator) -> Units
-    requires { ⌜ Within mostBefore (progressIn carried) × (numberInRange operator ≡ true) ⌝ }
-    ensures { λ r. ⌜ r .0 ≡ capacity (progressIn carried) operator ⌝ }
+// Whether an operator is a compactor n.
+fn is_compactor(operator: Operator, n: Interval) -> bool
+    ensures { λ r. ⌜ r ≡ pairs (Expander n) operator ⌝ }
 {
-    let class = carried.class;
     match operator {
-        Operator::Limiter(_) => burst(class),
-        Operator::Compactor(n) => changed_quota(class, n),
-        Operator::Expander(n) => changed_quota(class, n),
-        Operator::Filter(rate) => part_capacity(behind_filter(carried, rate)),
-        Operator::Delayer(delay) => part_capacity(behind_delayer(carried, delay)),
+        Operator::Compactor(m) => m.0 == n.0,
+        Operator::Limiter(_) => false,
+        Operator::Expander(_) => false,
+        Operator::Filter(_) => false,
+        Operator::Delayer(_) => false,
     }
+}
+
+// Whether an operator is an expander n and the next one, if one follows, a compactor n.
+pub(crate) fn paired(operator: Operator, follower: Operator, follows: bool) -> bool
+    ensures { λ r. ⌜ r ≡ pick follows (pairs operator follower) false ⌝ }
+{
+    match operator {
+        Operator::Expander(n) => {
+            if follows {
+                is_compactor(follower, n)
+            } else {
+                false
+            }
+        }
+        Operator::Limiter(_) => false,
+        Operator::Compactor(_) => false,
+        Operator::Filter(_) => false,
+        Operator::Delayer(_) => false,
+    }
+}
+
+fn quota_above(class: FlowClass, rate: Rate) -> bool
+    ensures { λ r. ⌜ r ≡ ltb (class .interval .0 * rate .0) (class .quota .0) ⌝ }
+{
+    rate.over(Slots(class.interval.0)).0 < class.quota.0
+}
+
+fn plan_limiter(carried: Carried, rate: Rate, k: usize) -> Planned
+    requires { ⌜ Within mostBefore (progressIn carried) × (numberInRange (Limiter rate) ≡ true) ⌝ }
+    ensures { λ r. ⌜ r ≡ plannedOf (progressIn carried) (Limiter rate) false k ⌝ }
+{
+    if carried.filtering {
+        return Planned::Refused(Refusal::FramedAfterFilter(k));
+    }
+    let class = carried.class;
+    let most = burst(class);
+    if Units::LARGEST < most.0 {
+        return Planned::Refused(Refusal::FigureTooLarge(k));
+    }
+    if quota_above(class, rate) {
+        return Planned::Refused(Refusal::RateTooLow(k));
+    }
+    let own = Slots(round_up(most.0, wide(rate.0)) as u32);
+    Planned::Fits(Figure {
+        capacity: most,
+        delay: own,
+    })
+}
+
+// An expander's own delay, which is left out before a compactor of its interval.
+fn expander_delay(n: Interval, paired: bool) -> Slots
+    ensures { λ r. ⌜ r .0 ≡ pick paired 0 (n .0) ⌝ }
+{
+    if paired { Slots(0) } else { Slots(n.0) }
+}
+
+// An expander, or a compactor, whose figure is that of an expander that has no pair. A quota that is not too large is no capacity too large.
+fn plan_frame(carried: Carried, n: Interval, paired: bool, k: usize) -> Planned
+    requires { ⌜ Within mostBefore (progressIn carried) × (numberInRange (Expander n) ≡ true) ⌝ }
+    ensures { λ r. ⌜ r ≡ plannedOf (progressIn carried) (Expander n) paired k ⌝ }
+{
+    if carried.filtering {
+        return Planned::Refused(Refusal::FramedAfterFilter(k));
+    }
+    let class = carried.class;
+    let most = changed_quota(class, n);
+    if LARGEST_CHANGED_QUOTA < most.0 {
+        return Planned::Refused(Refusal::FigureTooLarge(k));
+    }
+    let own = expander_delay(n, paired);
+    Planned::Fits(Figure {
+        capacity: most,
+        delay: own,
+    })
 }
 
 // What an operator adds to the delay of its part.
@@ -59,105 +135,38 @@ fn added(before: Carried, after: Carried) -> Slots
     Slots(more)
 }
 
-fn own_delay(carried: Carried, operator: Operator, paired: bool) -> Slots
-    requires { ⌜ Within mostBefore (progressIn carried) × (numberInRange operator ≡ true) ⌝ }
-    ensures { λ r. ⌜ r .0 ≡ ownDelay (progressIn carried) operator paired ⌝ }
+fn plan_filter(carried: Carried, rate: Rate, k: usize) -> Planned
+    requires { ⌜ Within mostBefore (progressIn carried) × (numberInRange (Filter rate) ≡ true) ⌝ }
+    ensures { λ r. ⌜ r ≡ plannedOf (progressIn carried) (Filter rate) false k ⌝ }
 {
+    let after = behind_filter(carried, rate);
+    let most = part_capacity(after);
+    if Units::LARGEST < most.0 {
+        return Planned::Refused(Refusal::FigureTooLarge(k));
+    }
     let class = carried.class;
-    match operator {
-        Operator::Limiter(rate) => Slots(round_up(burst(class).0, wide(rate.0)) as u32),
-        Operator::Compactor(n) => Slots(n.0),
-        Operator::Expander(n) => { if paired { Slots(0) } else { Slots(n.0) } }
-        Operator::Filter(rate) => added(carried, behind_filter(carried, rate)),
-        Operator::Delayer(delay) => Slots(delay.0),
+    if quota_above(class, rate) {
+        return Planned::Refused(Refusal::RateTooLow(k));
     }
+    let own = added(carried, after);
+    Planned::Fits(Figure {
+        capacity: most,
+        delay: own,
+    })
 }
 
-// Whether an operator is an expander n and the next a compactor n.
-pub(crate) fn pairs(operator: Operator, next: Operator) -> bool
-    ensures { λ r. ⌜ r ≡ pairs operator next ⌝ }
+fn plan_delayer(carried: Carried, delay: Delay, k: usize) -> Planned
+    requires { ⌜ Within mostBefore (progressIn carried) × (numberInRange (Delayer delay) ≡ true) ⌝ }
+    ensures { λ r. ⌜ r ≡ plannedOf (progressIn carried) (Delayer delay) false k ⌝ }
 {
-    match operator {
-        Operator::Expander(n) => match next {
-            Operator::Compactor(m) => m.0 == n.0,
-            Operator::Limiter(_) => false,
-            Operator::Expander(_) => false,
-            Operator::Filter(_) => false,
-            Operator::Delayer(_) => false,
-        },
-        Operator::Limiter(_) => false,
-        Operator::Compactor(_) => false,
-        Operator::Filter(_) => false,
-        Operator::Delayer(_) => false,
+    let most = part_capacity(behind_delayer(carried, delay));
+    if Units::LARGEST < most.0 {
+        return Planned::Refused(Refusal::FigureTooLarge(k));
     }
-}
-
-// A limiter, compactor or expander.
-fn is_framed(operator: Operator) -> bool
-    ensures { λ r. ⌜ r ≡ isFramed operator ⌝ }
-{
-    match operator {
-        Operator::Limiter(_) => true,
-        Operator::Compactor(_) => true,
-        Operator::Expander(_) => true,
-        Operator::Filter(_) => false,
-        Operator::Delayer(_) => false,
-    }
-}
-
-// 6
-fn framed_after_filter(carried: Carried, operator: Operator) -> bool
-    ensures { λ r. ⌜ r ≡ framedAfterFilter (progressIn carried) operator ⌝ }
-{
-    if carried.filtering {
-        is_framed(operator)
-    } else {
-        false
-    }
-}
-
-// The quota of a change of interval, where the operator changes it: that is its capacity then.
-fn operators_quota(most: Units, operator: Operator) -> Units
-    ensures { λ r. ⌜ ((p : Progress) → most .0 ≡ capacity p operator → r .0 ≡ changedQuota p operator) ⌝ }
-{
-    match operator {
-        Operator::Limiter(_) => Units(0),
-        Operator::Compactor(_) => most,
-        Operator::Expander(_) => most,
-        Operator::Filter(_) => Units(0),
-        Operator::Delayer(_) => Units(0),
-    }
-}
-
-// 7, of an operator's capacity
-fn figure_too_large(most: Units, operator: Operator) -> bool
-    ensures { λ r. ⌜ ((p : Progress) → most .0 ≡ capacity p operator → r ≡ figureTooLarge p operator) ⌝ }
-{
-    if LARGEST_CHANGED_QUOTA < operators_quota(most, operator).0 {
-        true
-    } else {
-        Units::LARGEST < most.0
-    }
-}
-
-fn quota_above(class: FlowClass, rate: Rate) -> bool
-    ensures { λ r. ⌜ r ≡ ltb (class .interval .0 * rate .0) (class .quota .0) ⌝ }
-{
-    rate.over(Slots(class.interval.0)).0 < class.quota.0
-}
-
-// 8
-fn rate_too_low(carried: Carried, operator: Operator) -> bool
-    ensures { λ r. ⌜ r ≡ rateTooLow (progressIn carried) operator ⌝ }
-{
-    let class = carried.class;
-    match operator {
-        Operator::Limiter(rate) => quota_above(class, rate),
-        Operator::Compactor(_) => false,
-        Operator::Expander(_) => false,
-        Operator::Filter(rate) => quota_above(class, rate),
-        Operator::Delayer(_) => false,
-    }
+    Planned::Fits(Figure {
+        capacity: most,
+        delay: Slots(delay.0),
+    })
 }
 
 // The figure of operator k; `paired` is whether the next operator is a compactor of its interval.
@@ -165,19 +174,11 @@ pub(crate) fn plan(carried: Carried, operator: Operator, paired: bool, k: usize)
     requires { ⌜ Within mostBefore (progressIn carried) × (numberInRange operator ≡ true) ⌝ }
     ensures { λ r. ⌜ r ≡ plannedOf (progressIn carried) operator paired k ⌝ }
 {
-    if framed_after_filter(carried, operator) {
-        return Planned::Refused(Refusal::FramedAfterFilter(k));
+    match operator {
+        Operator::Limiter(rate) => plan_limiter(carried, rate, k),
+        Operator::Compactor(n) => plan_frame(carried, n, false, k),
+        Operator::Expander(n) => plan_frame(carried, n, paired, k),
+        Operator::Filter(rate) => plan_filter(carried, rate, k),
+        Operator::Delayer(delay) => plan_delayer(carried, delay, k),
     }
-    let most = capacity(carried, operator);
-    if figure_too_large(most, operator) {
-        return Planned::Refused(Refusal::FigureTooLarge(k));
-    }
-    if rate_too_low(carried, operator) {
-        return Planned::Refused(Refusal::RateTooLow(k));
-    }
-    let own = own_delay(carried, operator, paired);
-    Planned::Fits(Figure {
-        capacity: most,
-        delay: own,
-    })
 }

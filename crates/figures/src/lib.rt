@@ -3,9 +3,8 @@
 use crate::carried::behind;
 use crate::carried::start;
 use crate::each::Planned;
-use crate::each::pairs;
+use crate::each::paired;
 use crate::each::plan;
-use operator::Operator;
 use quantity::Slots;
 use quantity::Units;
 use quantity::refusal::Refusal;
@@ -14,10 +13,7 @@ use sheet::no_path;
 use sheet::read::Verdict;
 use sheet::read::read;
 ghost use mathlib.Core.Path.{_≡_};
-ghost use mathlib.Core.Bool.{false};
 ghost use Prim.Native.Nat.{_+_, _<_};
-ghost use Rattle.quantity.specs.Choice.{pick};
-ghost use Rattle.figures.specs.Figures.{pairs};
 ghost use Rattle.figures.specs.Answers.{noFigure, refusedFigures, figuresOf};
 ghost use Rattle.figures.specs.Carried.{PathWithin, figuresOfPath};
 
@@ -84,24 +80,12 @@ fn next_place(k: usize) -> usize
     if k < 15 { k + 1 } else { k }
 }
 
-// Whether an operator is an expander and the next one, if one follows, a compactor of its interval.
-fn paired(operator: Operator, follower: Operator, follows: bool) -> bool
-    ensures { λ r. ⌜ r ≡ pick follows (pairs operator follower) false ⌝ }
-{
-    if follows {
-        pairs(operator, follower)
-    } else {
-        false
-    }
-}
-
 // The figures of a path, operator by operator from the left; then refusal 9.
 fn figures_of_path(path: Path) -> PathFigures
     requires { ⌜ PathWithin path ⌝ }
     ensures { λ r. ⌜ r ≡ figuresOfPath path ⌝ }
 {
     let declaration = path.declaration;
-    let places = path.places;
     let count = path.count;
     let mut carried = start(declaration);
     let none = no_figure();
@@ -109,9 +93,9 @@ fn figures_of_path(path: Path) -> PathFigures
     let mut delay = Slots(0);
     let mut k = 0;
     while k < count {
-        let place = places[k];
+        let place = path.places[k];
         let operator = place.operator;
-        let following = places[next_place(k)];
+        let following = path.places[next_place(k)];
         let follower = following.operator;
         let next = k + 1;
         match plan(

@@ -1,51 +1,78 @@
--- The first of the three tests that holds gives the refusal, and else the figures are those of the definitions.
+-- Each operator has its case of the definition; a compactor's is that of an expander that has no pair, and only an expander's delay asks for one.
 use borrow.Author.Needs.{needs}
-use mathlib.Core.Path.{sym, _∙_}
+use Rattle.operator.specs.Operators.{numberInRange}
+use Rattle.figures.specs.Figures.{capacity, ownDelay, isFramed, framedAfterFilter, changedQuota, figureTooLarge, rateTooLow}
 use Rattle.figures.specs.Carried.{plannedOf}
+use Rattle.figures.proofs.Bounds.{inside-of}
 use Rattle.figures.proofs.each.plan.Statement.{statement}
 use Rattle.figures.proofs.each.plan.Tie as tie
 
-framed-after-filter-requires : tie.Need-framed-after-filter-requires
-framed-after-filter-requires c κs = search needs
+enum-known-operator : tie.Need-enum-known-operator
+enum-known-operator c = search needs
+
+plan-limiter-requires : tie.Need-plan-limiter-requires
+plan-limiter-requires c κs = let s = c .before .before .before in (s .pre .0, inside-of (c .before .operator .given .1) (s .pre .1))
+
+enum-known-operator-2 : tie.Need-enum-known-operator-2
+enum-known-operator-2 c = search needs
+
+plan-frame-requires : tie.Need-plan-frame-requires
+unfolding numberInRange
+plan-frame-requires c κs = let s = c .before .before .before in (s .pre .0, inside-of (c .before .operator2 .given .1) (s .pre .1))
+
+enum-known-operator-3 : tie.Need-enum-known-operator-3
+enum-known-operator-3 c = search needs
+
+plan-frame-requires-2 : tie.Need-plan-frame-requires-2
+plan-frame-requires-2 c κs = let s = c .before .before .before in (s .pre .0, inside-of (c .before .operator3 .given .1) (s .pre .1))
+
+enum-known-operator-4 : tie.Need-enum-known-operator-4
+enum-known-operator-4 c = search needs
+
+plan-filter-requires : tie.Need-plan-filter-requires
+plan-filter-requires c κs = let s = c .before .before .before in (s .pre .0, inside-of (c .before .operator4 .given .1) (s .pre .1))
+
+enum-known-operator-5 : tie.Need-enum-known-operator-5
+enum-known-operator-5 c = search needs
+
+plan-delayer-requires : tie.Need-plan-delayer-requires
+plan-delayer-requires c κs = let s = c .before .before .before in (s .pre .0, inside-of (c .before .operator5 .given .1) (s .pre .1))
 
 returns : tie.Need-returns
-unfolding plannedOf
-returns c = rw (sym (c .before .framed-after-filter .ensures) ∙ c .if1 .taken)
-
-capacity-requires : tie.Need-capacity-requires
-capacity-requires c κs = search needs
-
-figure-too-large-requires : tie.Need-figure-too-large-requires
-figure-too-large-requires c κs = search needs
+unfolding plannedOf ownDelay
+returns c = rw (c .before .before .operator .given .1) (c .plan-limiter .ensures)
 
 returns-2 : tie.Need-returns-2
-unfolding plannedOf
-returns-2 c = rw (sym (c .before .before .before .before .framed-after-filter .ensures) ∙ c .before .before .before .if1 .left, sym (c .before .figure-too-large .ensures _ (c .before .before .capacity .ensures)) ∙ c .if2 .taken)
-
-rate-too-low-requires : tie.Need-rate-too-low-requires
-rate-too-low-requires c κs = search needs
+unfolding plannedOf framedAfterFilter isFramed figureTooLarge changedQuota capacity rateTooLow ownDelay
+returns-2 c = rw (c .before .before .operator2 .given .1) (c .plan-frame .ensures)
 
 returns-3 : tie.Need-returns-3
-unfolding plannedOf
-returns-3 c = rw (sym (c .before .before .before .before .before .before .framed-after-filter .ensures) ∙ c .before .before .before .before .before .if1 .left, sym (c .before .before .before .figure-too-large .ensures _ (c .before .before .before .before .capacity .ensures)) ∙ c .before .before .if2 .left, sym (c .before .rate-too-low .ensures) ∙ c .if3 .taken)
-
-own-delay-requires : tie.Need-own-delay-requires
-own-delay-requires c κs = search needs
+returns-3 c = rw (c .before .before .operator3 .given .1) (c .plan-frame2 .ensures)
 
 returns-4 : tie.Need-returns-4
-unfolding plannedOf
-returns-4 c = rw (sym (c .before .before .before .before .before .before .before .framed-after-filter .ensures) ∙ c .before .before .before .before .before .before .if1 .left, sym (c .before .before .before .before .figure-too-large .ensures _ (c .before .before .before .before .before .capacity .ensures)) ∙ c .before .before .before .if2 .left, sym (c .before .before .rate-too-low .ensures) ∙ c .before .if3 .left, c .own-delay .ensures, c .before .before .before .before .before .capacity .ensures)
+unfolding plannedOf ownDelay
+returns-4 c = rw (c .before .before .operator4 .given .1) (c .plan-filter .ensures)
+
+returns-5 : tie.Need-returns-5
+unfolding plannedOf ownDelay
+returns-5 c = rw (c .before .before .operator5 .given .1) (c .plan-delayer .ensures)
 
 pub plan-spec : {M : Type 1} → statement M
 plan-spec =
     tie.close
     (tie.spec
-    framed-after-filter-requires
+    enum-known-operator
+    plan-limiter-requires
+    enum-known-operator-2
+    plan-frame-requires
+    enum-known-operator-3
+    plan-frame-requires-2
+    enum-known-operator-4
+    plan-filter-requires
+    enum-known-operator-5
+    plan-delayer-requires
     returns
-    capacity-requires
-    figure-too-large-requires
     returns-2
-    rate-too-low-requires
     returns-3
-    own-delay-requires
-    returns-4)
+    returns-4
+    returns-5)

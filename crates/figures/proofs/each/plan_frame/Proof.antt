@@ -1,0 +1,44 @@
+-- The first test that holds gives the refusal, and else the figure is the definition's: a quota that 7 lets pass is below the largest amount, and 8 asks nothing.
+use borrow.Author.Needs.{needs}
+use borrow.Author.Tests.{lt-ltb, le-ltb}
+use native.Mathlib.Omega.{arith}
+use Prim.Native.Nat.{_≤_}
+use Rattle.quantity.specs.Limits.{largestAmount}
+use Rattle.quantity.specs.Ranges.{intervalRange}
+use Rattle.operator.specs.Operators.{numberInRange}
+use Rattle.figures.specs.Figures.{capacity, ownDelay, isFramed, framedAfterFilter, changedQuota, figureTooLarge, rateTooLow}
+use Rattle.figures.specs.Carried.{plannedOf}
+use Rattle.figures.proofs.Bounds.{in-range}
+use Rattle.figures.proofs.each.plan_frame.Statement.{statement}
+use Rattle.figures.proofs.each.plan_frame.Tie as tie
+
+returns : tie.Need-returns
+unfolding plannedOf framedAfterFilter isFramed
+returns c = rw (c .if1 .taken)
+
+changed-quota-requires : tie.Need-changed-quota-requires
+unfolding numberInRange
+changed-quota-requires c κs = let s = c .before .before in (s .pre .0 .class, in-range intervalRange (s .args .n .0) (s .pre .1) .1)
+
+returns-2 : tie.Need-returns-2
+unfolding plannedOf framedAfterFilter isFramed figureTooLarge changedQuota capacity
+returns-2 c = rw (c .before .before .before .before .if1 .left, ← c .before .before .changed-quota .ensures, lt-ltb _ _ (c .if2 .taken))
+
+expander-delay-requires : tie.Need-expander-delay-requires
+expander-delay-requires c κs = search needs
+
+returns-3 : tie.Need-returns-3
+unfolding plannedOf framedAfterFilter isFramed figureTooLarge changedQuota capacity rateTooLow ownDelay
+returns-3 c =
+    let small : c .before .before .before .changed-quota .result .0 ≤ largestAmount = omega arith in
+    rw (
+      c .before .before .before .before .before .if1 .left,
+      ← c .before .before .before .changed-quota .ensures,
+      le-ltb _ _ (c .before .if2 .left),
+      le-ltb _ _ small,
+      ← c .expander-delay .ensures,
+    )
+
+pub plan-frame-spec : {M : Type 1} → statement M
+plan-frame-spec =
+    tie.close (tie.spec returns changed-quota-requires returns-2 expander-delay-requires returns-3)
