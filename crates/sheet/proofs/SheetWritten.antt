@@ -1,5 +1,5 @@
 -- What writing answers and leaves, by the writer's tests: the first that fails refuses, and behind all of them stands the sheet.
-use mathlib.Core.Path.{_≡_, _∙_}
+use mathlib.Core.Path.{_≡_, sym, _∙_}
 use mathlib.Core.Bool.{true, false}
 use mathlib.Core.List.{List}
 use mathlib.Core.Logic.{_⊎_, inl, inr}
@@ -7,20 +7,23 @@ use Prim.Native.Nat.{ℕ, _+_, _≤_, _<_}
 use native.Mathlib.Nat.{zero-add}
 use native.Mathlib.Omega.{arith}
 use borrow.Author.Tests.{eq-eqb, ne-eqb, lt-ltb, le-ltb}
-use lib.ListN.{length}
+use lib.ListN.{length, take}
 use lib.Seq.{sets, sets-eq}
 use lib.Dec.{eqb, ltb}
-use Rattle.quantity.specs.Choice.{either}
+use Rattle.quantity.specs.Choice.{both, either}
+use Rattle.quantity.specs.Ranges.{inRange, wantedDelayRange}
 use Rattle.quantity.specs.Refusals.{firstOf}
 use Rattle.quantity.specs.declared.refusal.Refusal.{Refusal}
 use Rattle.quantity.specs.declared.refusal.Refusal.the-variants.{Unusable, FieldUnexpected, OutOfRange}
+use Rattle.quantity.proofs.Sums.{both-assoc}
+use Rattle.operator.specs.Declarations.{declarationInRange}
 use Rattle.sheet.specs.declared.Path.{Path}
 use Rattle.sheet.specs.declared.write.Written.{Written}
 use Rattle.sheet.specs.Numbers.{bytesOf}
 use Rattle.sheet.specs.Paths.{Line, standsFor}
 use Rattle.sheet.specs.Bodies.{declarationBody, wantedBody}
 use Rattle.sheet.specs.Fields.{fieldOf}
-use Rattle.sheet.specs.Sheets.{placeFields, sheetOf, lineInRange, writeCases, writeAnswer, bytesAfter, behindSheet}
+use Rattle.sheet.specs.Sheets.{placeFields, placesInRange, sheetOf, lineInRange, writeCases, writeAnswer, bytesAfter, behindSheet}
 
 wrong-either : (count : ℕ) → (count ≡ 0) ⊎ (16 < count) → either (eqb count 0) (ltb 16 count) ≡ true
 wrong-either count (inl none) = rw (eq-eqb count 0 none)
@@ -77,6 +80,12 @@ module _ (path : Path) (lent : List ℕ) where
         none-stands Written.Refused (Written.Length (length sheet)) path lent full some few h,
         stored ∙ stored-sheet sheet lent (rw full room) ∙ none-stands kept (behindSheet sheet lent) path lent full some few h,
       )
+
+-- a path is in range where its first two fields are and its places are
+pub line-in-range : (path : Path)
+    → lineInRange (standsFor path) ≡ both (both (declarationInRange (path .declaration)) (inRange wantedDelayRange (path .wanted .0))) (placesInRange (take (path .count) (path .places)))
+unfolding standsFor lineInRange
+line-in-range path = sym (both-assoc (declarationInRange (path .declaration)) (inRange wantedDelayRange (path .wanted .0)) (placesInRange (take (path .count) (path .places))))
 
 -- the first two fields have 17 bytes
 pub length-sheet : (line : Line) → length (sheetOf line) ≡ 17 + length (placeFields (line .places))

@@ -60,6 +60,14 @@ none-left places count inside = rw (drop-of-length-le (take count places) {i = c
 pub run-behind : (l : List ℕ) (i j : ℕ) (vs ws : List ℕ) {before after : List ℕ} → before ≡ sets l i vs → after ≡ sets before j ws → j ≡ i + length vs → after ≡ sets l i (vs ++ ws)
 run-behind l i j vs ws p q e = rw (q, p, e) (sets-append l i vs ws)
 
+-- a run of bytes before another that is written, and what is written before one is with it one run
+sets-before : (l : List ℕ) (i : ℕ) (vs ws : List ℕ) → sets (sets l (i + length vs) ws) i vs ≡ sets l i (vs ++ ws)
+sets-before l i [] ws = rw add-zero
+sets-before l i (a ∷ vs) ws = rw (set-before l i (i + suc (length vs)) ws a (omega arith), add-suc, ← suc-add) (sets-before (set l i a) (suc i) vs ws)
+
+pub run-before : (l : List ℕ) (i j : ℕ) (vs ws : List ℕ) {before after : List ℕ} → before ≡ sets l j ws → after ≡ sets before i vs → j ≡ i + length vs → after ≡ sets l i (vs ++ ws)
+run-before l i j vs ws p q e = rw (q, p, e) (sets-before l i vs ws)
+
 -- section 1: a link in its range is one byte
 pub link-small : (place : Place) → placeInRange place ≡ true → place .link .0 ≤ 15
 unfolding placeInRange inRange

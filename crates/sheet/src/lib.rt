@@ -9,6 +9,7 @@ use quantity::Quota;
 use quantity::Rate;
 use quantity::WantedDelay;
 ghost use mathlib.Core.Path.{_≡_};
+ghost use Rattle.operator.specs.Operators.{numberInRange};
 ghost use Rattle.sheet.specs.Bodies.{placeInRange};
 ghost use Rattle.sheet.specs.Paths.{noPlace, noPath};
 
@@ -79,11 +80,24 @@ pub fn no_path() -> Path
     }
 }
 
+// Whether the operator's number is in its range. The match stands here: an operator that is passed on alone is read as one word, and then split.
+fn number_in_range(place: Place) -> bool
+    ensures { λ r. ⌜ r ≡ numberInRange (place .operator) ⌝ }
+{
+    let operator = place.operator;
+    match operator {
+        Operator::Limiter(rate) => rate.in_range(),
+        Operator::Compactor(interval) => interval.in_range(),
+        Operator::Expander(interval) => interval.in_range(),
+        Operator::Filter(rate) => rate.in_range(),
+        Operator::Delayer(delay) => delay.in_range(),
+    }
+}
+
 // Whether the operator's number and the link are in their ranges.
 fn place_in_range(place: Place) -> bool
     ensures { λ r. ⌜ r ≡ placeInRange place ⌝ }
 {
-    let operator = place.operator;
     let link = place.link;
-    operator.number_in_range() && link.in_range()
+    number_in_range(place) && link.in_range()
 }

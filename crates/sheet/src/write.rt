@@ -23,11 +23,13 @@ ghost use mathlib.Core.List.{_∷_};
 ghost use Prim.Native.Nat.{_+_, _≤_};
 ghost use lib.ListN.{length, take};
 ghost use lib.Seq.{sets};
+ghost use Rattle.quantity.specs.Choice.{pick, both};
+ghost use Rattle.quantity.specs.Ranges.{inRange, wantedDelayRange};
+ghost use Rattle.operator.specs.Declarations.{declarationInRange};
 ghost use Rattle.sheet.specs.Numbers.{bytesOf};
-ghost use Rattle.sheet.specs.Paths.{standsFor};
-ghost use Rattle.sheet.specs.Bodies.{kindByte, declarationBody, wantedBody, operatorByte, operatorNumber, placeBody, placeInRange};
+ghost use Rattle.sheet.specs.Bodies.{kindByte, declarationBody, wantedBody, placeBody, placeInRange};
 ghost use Rattle.sheet.specs.Fields.{fieldOf};
-ghost use Rattle.sheet.specs.Sheets.{declarationAt, wantedAt, placesAt, placeFields, placesInRange, lineInRange, writeAnswer, bytesAfter};
+ghost use Rattle.sheet.specs.Sheets.{declarationAt, wantedAt, placesAt, placeFields, placesInRange, writeAnswer, bytesAfter};
 
 // What writing a sheet answers: the sheet's length.
 pub enum Written {
@@ -35,29 +37,16 @@ pub enum Written {
     Refused(Refusal),
 }
 
-fn places_in_range(places: [Place; 16], count: usize) -> bool
-    requires { ⌜ count ≤ 16 ⌝ }
-    ensures { λ r. ⌜ r ≡ placesInRange (take count places) ⌝ }
-{
-    let mut k = 0;
-    while k < count {
-        let place = places[k];
-        if !crate::place_in_range(place) {
-            return false;
-        }
-        k += 1;
-    }
-    true
+// What writing the operators answers: where the last one ends.
+enum WrittenPlaces {
+    End(usize),
+    OutOfRange,
 }
 
-fn path_in_range(path: Path) -> bool
-    requires { ⌜ path .count ≤ 16 ⌝ }
-    ensures { λ r. ⌜ r ≡ lineInRange (standsFor path) ⌝ }
+fn head_in_range(declaration: Declaration, wanted: WantedDelay) -> bool
+    ensures { λ r. ⌜ r ≡ both (declarationInRange declaration) (inRange wantedDelayRange (wanted .0)) ⌝ }
 {
-    let declaration = path.declaration;
-    let wanted = path.wanted;
-    let places = path.places;
-    declaration.in_range() && wanted.in_range() && places_in_range(places, path.count)
+    declaration.in_range() && wanted.in_range()
 }
 
 // A number in `width` bytes from `at` on, the high byte first: written from the low byte, which is what is left of it modulo 256.
@@ -117,56 +106,69 @@ fn write_wanted(sheet: &mut [u8], wanted: WantedDelay)
     write_number(sheet, WANTED_AT + HEADER, WANTED_WIDTH, wanted.0);
 }
 
-fn operator_byte(operator: Operator) -> u8
-    ensures { λ r. ⌜ r ≡ operatorByte operator ⌝ }
+// The number is written first, so that its bytes become one store.
+fn write_operator(sheet: &mut [u8], at: usize, kind: u8, link: u8, number: u32)
+    requires { ⌜ at + 9 ≤ length (now sheet) ⌝ }
+    ensures { λ r. ⌜ now (sheet .exit) ≡ sets (now (sheet .entry)) at (fieldOf 0x03 (kind ∷ link ∷ bytesOf 4 number)) ⌝ }
 {
-    match operator {
-        Operator::Limiter(_) => 0,
-        Operator::Compactor(_) => 1,
-        Operator::Expander(_) => 2,
-        Operator::Filter(_) => 3,
-        Operator::Delayer(_) => 4,
-    }
-}
-
-fn operator_number(operator: Operator) -> u32
-    ensures { λ r. ⌜ r ≡ operatorNumber operator ⌝ }
-{
-    match operator {
-        Operator::Limiter(rate) => rate.0,
-        Operator::Compactor(interval) => interval.0,
-        Operator::Expander(interval) => interval.0,
-        Operator::Filter(rate) => rate.0,
-        Operator::Delayer(delay) => delay.0,
-    }
+    write_number(sheet, at + 5, 4, number);
+    write_header(sheet, at, PLACE_TAG, PLACE_WIDTH as u32);
+    sheet[at + 3] = kind;
+    sheet[at + 4] = link;
 }
 
 fn write_place(sheet: &mut [u8], at: usize, place: Place)
     requires { ⌜ (placeInRange place ≡ true) × (at + 9 ≤ length (now sheet)) ⌝ }
     ensures { λ r. ⌜ now (sheet .exit) ≡ sets (now (sheet .entry)) at (fieldOf 0x03 (placeBody place)) ⌝ }
 {
-    write_header(sheet, at, PLACE_TAG, PLACE_WIDTH as u32);
     let operator = place.operator;
-    let link = place.link;
-    sheet[at + 3] = operator_byte(operator);
-    sheet[at + 4] = link.0 as u8;
-    write_number(sheet, at + 5, 4, operator_number(operator));
+    let link = place.link.0 as u8;
+    match operator {
+        Operator::Limiter(rate) => write_operator(sheet, at, 0, link, rate.0),
+        Operator::Compactor(interval) => write_operator(sheet, at, 1, link, interval.0),
+        Operator::Expander(interval) => write_operator(sheet, at, 2, link, interval.0),
+        Operator::Filter(rate) => write_operator(sheet, at, 3, link, rate.0),
+        Operator::Delayer(delay) => write_operator(sheet, at, 4, link, delay.0),
+    }
 }
 
-// The operators one behind the other; answers where the last one ends.
-fn write_places(sheet: &mut [u8], places: [Place; 16], count: usize) -> usize
-    requires { ⌜ (count ≤ 16) × (placesInRange (take count places) ≡ true) × (length (now sheet) ≡ 256) ⌝ }
-    ensures { λ r. ⌜ (r ≡ placesAt + length (placeFields (take count places))) × (now (sheet .exit) ≡ sets (now (sheet .entry)) placesAt (placeFields (take count places))) ⌝ }
+// The same places, copied one by one. A copy of the whole array is made of wide stores, and reads right behind those are slow.
+fn copied(places: [Place; 16]) -> [Place; 16]
+    ensures { λ r. ⌜ r ≡ places ⌝ }
 {
+    let mut own = places;
+    let mut k = 0;
+    while k < 16 {
+        let place = places[k];
+        own[k] = place;
+        k += 1;
+    }
+    own
+}
+
+// The operators, one behind the other, where all are in range. Both loops are here, since each function has its own copy of the places.
+fn write_places(sheet: &mut [u8], places: [Place; 16], count: usize) -> WrittenPlaces
+    requires { ⌜ (count ≤ 16) × (length (now sheet) ≡ 256) ⌝ }
+    ensures { λ r. ⌜ (r ≡ pick (placesInRange (take count places)) (WrittenPlaces.End (placesAt + length (placeFields (take count places)))) WrittenPlaces.OutOfRange) × (now (sheet .exit) ≡ pick (placesInRange (take count places)) (sets (now (sheet .entry)) placesAt (placeFields (take count places))) (now (sheet .entry))) ⌝ }
+{
+    let own = copied(places);
+    let mut k = 0;
+    while k < count {
+        let place = own[k];
+        if !crate::place_in_range(place) {
+            return WrittenPlaces::OutOfRange;
+        }
+        k += 1;
+    }
     let mut at = PLACES_AT;
     let mut written = 0;
     while written < count {
-        let place = places[written];
+        let place = own[written];
         write_place(sheet, at, place);
         at += HEADER + PLACE_WIDTH;
         written += 1;
     }
-    at
+    WrittenPlaces::End(at)
 }
 
 pub fn write(path: Path, sheet: &mut [u8]) -> Written
@@ -179,12 +181,16 @@ pub fn write(path: Path, sheet: &mut [u8]) -> Written
     if count == 0 || 16 < count {
         return Written::Refused(Refusal::FieldUnexpected(0));
     }
-    if !path_in_range(path) {
+    let declaration = path.declaration;
+    let wanted = path.wanted;
+    let places = path.places;
+    if !head_in_range(declaration, wanted) {
         return Written::Refused(Refusal::OutOfRange(0));
     }
-    let declaration = path.declaration;
-    let places = path.places;
+    let WrittenPlaces::End(end) = write_places(sheet, places, count) else {
+        return Written::Refused(Refusal::OutOfRange(0));
+    };
     write_declaration(sheet, declaration);
-    write_wanted(sheet, path.wanted);
-    Written::Length(write_places(sheet, places, count))
+    write_wanted(sheet, wanted);
+    Written::Length(end)
 }

@@ -1,82 +1,101 @@
--- The header, the two bytes and the number, one behind the other.
+-- By the arm that the operator took.
 use borrow.Author.Needs.{needs}
-use Prim.Native.Nat.{ℕ, _+_}
-use mathlib.Core.Path.{refl, _∙_}
-use mathlib.Core.List.{List, [], _∷_, _++_}
 use native.Mathlib.Omega.{arith}
-use denote.Ref.{now}
-use lib.ListN.{length-set}
-use Rattle.sheet.specs.Numbers.{bytesOf}
 use Rattle.sheet.specs.Bodies.{operatorByte, operatorNumber, placeBody}
-use Rattle.sheet.specs.Fields.{fieldOf}
-use Rattle.sheet.proofs.WriteLaws.{run-behind, link-small}
+use Rattle.sheet.proofs.WriteLaws.{link-small}
 use Rattle.sheet.proofs.write.write_place.Statement.{statement}
 use Rattle.sheet.proofs.write.write_place.Tie as tie
 
-cast-write-header : tie.Need-cast-write-header
-cast-write-header c = search needs
+cast-link : tie.Need-cast-link
+cast-link c = omega (arith, link-small (c .before .before .args .place) (c .before .before .pre .0))
 
-write-header-requires : tie.Need-write-header-requires
-write-header-requires c κs = search needs
+enum-known-operator : tie.Need-enum-known-operator
+enum-known-operator c = search needs
 
-operator-byte-requires : tie.Need-operator-byte-requires
-operator-byte-requires c κs = search needs
+write-operator-requires : tie.Need-write-operator-requires
+write-operator-requires c κs = search needs
 
-add-sheet : tie.Need-add-sheet
-add-sheet c = search needs
+enum-known-operator-2 : tie.Need-enum-known-operator-2
+enum-known-operator-2 c = search needs
 
-slice-write-sheet : tie.Need-slice-write-sheet
-slice-write-sheet c = search needs
+write-operator-requires-2 : tie.Need-write-operator-requires-2
+write-operator-requires-2 c κs = search needs
 
-cast-sheet : tie.Need-cast-sheet
-cast-sheet c = omega (arith, link-small (c .before .before .before .before .before .before .before .before .args .place) (c .before .before .before .before .before .before .before .before .pre .0))
+enum-known-operator-3 : tie.Need-enum-known-operator-3
+enum-known-operator-3 c = search needs
 
-add-sheet-2 : tie.Need-add-sheet-2
-add-sheet-2 c = search needs
+write-operator-requires-3 : tie.Need-write-operator-requires-3
+write-operator-requires-3 c κs = search needs
 
-slice-write-sheet-2 : tie.Need-slice-write-sheet-2
-slice-write-sheet-2 c = simp length-set (omega (arith, c .before .before .before .before .before .write-header .kept .0, c .before .before .before .before .before .before .before .before .pre .1))
+enum-known-operator-4 : tie.Need-enum-known-operator-4
+enum-known-operator-4 c = search needs
 
-add-write-number : tie.Need-add-write-number
-add-write-number c = search needs
+write-operator-requires-4 : tie.Need-write-operator-requires-4
+write-operator-requires-4 c κs = search needs
 
-operator-number-requires : tie.Need-operator-number-requires
-operator-number-requires c κs = search needs
+enum-known-operator-5 : tie.Need-enum-known-operator-5
+enum-known-operator-5 c = search needs
 
-write-number-requires : tie.Need-write-number-requires
-write-number-requires c κs = simp length-set (omega (arith, c .before .before .before .before .before .before .before .write-header .kept .0, c .before .before .before .before .before .before .before .before .before .before .pre .1))
+write-operator-requires-5 : tie.Need-write-operator-requires-5
+write-operator-requires-5 c κs = search needs
 
 same-length : tie.Need-same-length
-same-length c = c .before .before .write-number .kept .0 ∙ simp length-set (c .before .before .before .before .before .before .before .before .before .before .write-header .kept .0)
+same-length c = search needs
 
 returns : tie.Need-returns
-unfolding bytesOf placeBody fieldOf
-returns c =
-    let a = c .before .before .before .before .before .before .before .before .before .before .before .before .before .args in
-    let sheet = now (a .sheet) in
-    let header : List ℕ = 0x03 ∷ bytesOf 2 6 in
-    let kind = header ++ (operatorByte (a .place .operator) ∷ []) in
-    let link = kind ++ (a .place .link .0 ∷ []) in
-    let to-kind = run-behind sheet (a .at) (a .at + 3) header (operatorByte (a .place .operator) ∷ []) (c .before .before .before .before .before .before .before .before .before .before .write-header .ensures) refl refl in
-    let to-link = run-behind sheet (a .at) (a .at + 4) kind (a .place .link .0 ∷ []) to-kind refl refl in
-    run-behind sheet (a .at) (a .at + 5) link (bytesOf 4 (operatorNumber (a .place .operator))) to-link
-    (rw (c .before .before .before .before .before .before .operator-byte .ensures, c .before .before .before .operator-number .ensures) at (c .before .before .write-number .ensures))
-    refl
+unfolding placeBody operatorByte operatorNumber
+returns c = rw (c .before .before .before .before .before .operator .given .1) (c .before .before .write-operator .ensures)
+
+same-length-2 : tie.Need-same-length-2
+same-length-2 c = search needs
+
+returns-2 : tie.Need-returns-2
+unfolding placeBody operatorByte operatorNumber
+returns-2 c = rw (c .before .before .before .before .before .operator2 .given .1) (c .before .before .write-operator2 .ensures)
+
+same-length-3 : tie.Need-same-length-3
+same-length-3 c = search needs
+
+returns-3 : tie.Need-returns-3
+unfolding placeBody operatorByte operatorNumber
+returns-3 c = rw (c .before .before .before .before .before .operator3 .given .1) (c .before .before .write-operator3 .ensures)
+
+same-length-4 : tie.Need-same-length-4
+same-length-4 c = search needs
+
+returns-4 : tie.Need-returns-4
+unfolding placeBody operatorByte operatorNumber
+returns-4 c = rw (c .before .before .before .before .before .operator4 .given .1) (c .before .before .write-operator4 .ensures)
+
+same-length-5 : tie.Need-same-length-5
+same-length-5 c = search needs
+
+returns-5 : tie.Need-returns-5
+unfolding placeBody operatorByte operatorNumber
+returns-5 c = rw (c .before .before .before .before .before .operator5 .given .1) (c .before .before .write-operator5 .ensures)
 
 pub write-place-spec : {M : Type 1} → statement M
 write-place-spec =
     tie.close
     (tie.spec
-    cast-write-header
-    write-header-requires
-    operator-byte-requires
-    add-sheet
-    slice-write-sheet
-    cast-sheet
-    add-sheet-2
-    slice-write-sheet-2
-    add-write-number
-    operator-number-requires
-    write-number-requires
+    cast-link
+    enum-known-operator
+    write-operator-requires
+    enum-known-operator-2
+    write-operator-requires-2
+    enum-known-operator-3
+    write-operator-requires-3
+    enum-known-operator-4
+    write-operator-requires-4
+    enum-known-operator-5
+    write-operator-requires-5
     same-length
-    returns)
+    returns
+    same-length-2
+    returns-2
+    same-length-3
+    returns-3
+    same-length-4
+    returns-4
+    same-length-5
+    returns-5)
