@@ -39,7 +39,7 @@ use Rattle.figures.specs.declared.each.Planned.{Planned}
 use Rattle.figures.specs.Progress.{Progress, start, behind, progressAt}
 use Rattle.figures.specs.Figures.{capacity, pairs, changedQuota, figureTooLarge, largestChangedQuota}
 use Rattle.figures.specs.Answers.{operatorAt, before, pairedAt, capacityAt, delayAt, operatorCases, operatorsCases, lineCases, figureAt, noFigure, figureIn, pathDelay, refusedFigures}
-use Rattle.figures.specs.Carried.{progressIn, Within, mostBefore, plannedOf, PathWithin, figuresOfPath}
+use Rattle.figures.specs.Carried.{progressIn, Within, mostBefore, plannedOf}
 use Rattle.figures.proofs.Bounds.{in-range, within-le, behind-within, own-delay-bound}
 
 -- the figure at each place, once the first k operators are done
@@ -240,13 +240,23 @@ module _ {line : Line} {carried : Carried} {figures : List Figure} {delay : Slot
         let stands = rw walked-delay at (le-ltb (line .wanted) (delay .0) soon) in
         sym (firstOf-none refused result (lineCases line) (none-of-both (operatorsCases line (length (line .places))) _ (walked .passed) (stands, tt)))
 
-abbrev pub acceptedPath : Path → List Figure → ℕ → PathFigures
+abbrev acceptedPath : Path → List Figure → ℕ → PathFigures
 acceptedPath path figures delay = record { verdict = Verdict.Accepted; path = path; figures = figures; delay = record { 0 = delay } }
 
--- the same of a path value
-module _ (path : Path) (within : PathWithin path) (full : length (path .places) ≡ 16) where
+-- the figures of a path value: 6 to 9 of the path that it stands for
+unfoldable pub figuresOfPath : Path → PathFigures
+figuresOfPath path = firstOf (lineCases (standsFor path)) refusedFigures (acceptedPath path (listOf (figureIn (standsFor path)) 16) (pathDelay (standsFor path)))
+
+-- a path value of at most sixteen operators, its numbers in their ranges
+pub record PathWithin (path : Path) : Type 0 where
+  pub few : path .count ≤ 16
+  pub full : length (path .places) ≡ 16
+  pub inside : lineInRange (standsFor path) ≡ true
+
+-- the same of such a path value
+module _ {path : Path} (within : PathWithin path) where
   path-size : length (standsFor path .places) ≡ path .count
-  path-size = path-length path (rw full (within .few))
+  path-size = path-length path (rw (within .full) (within .few))
 
   path-few : length (standsFor path .places) ≤ 16
   path-few = rw path-size (within .few)

@@ -1,44 +1,56 @@
 -- The figures of a sheet from what reading it answered: a refusal of the reader is theirs, and an accepted sheet's path has its numbers in their ranges.
 use Prim.Native.Nat.{ℕ}
 use mathlib.Core.Path.{_≡_, sym, ap, subst, subst⁻¹, _∙_}
-use mathlib.Core.List.{List}
+use mathlib.Core.List.{List, _++_}
+use native.Mathlib.Omega.{arith}
+use lib.ListN.{length, replicate, length-append, length-replicate}
+use lib.Seq.{length-take-le}
 use Rattle.quantity.specs.Sums.{listOf}
 use Rattle.quantity.specs.Refusals.{firstOf}
 use Rattle.quantity.specs.declared.refusal.Refusal.{Refusal}
 use Rattle.quantity.proofs.Refusals.{NoneStands, firstOf-none, firstOf-append, firstOf-map, none-where-result}
-use Rattle.sheet.specs.Paths.{Line, standsFor, valueOf, noPath}
+use Rattle.sheet.specs.Paths.{Line, standsFor, valueOf, noPlace, noPath}
 use Rattle.sheet.specs.Sheets.{sheetCases, lineIn, readSheet}
 use Rattle.sheet.specs.declared.read.Verdict.{Verdict}
 use Rattle.sheet.specs.declared.read.ReadSheet.{ReadSheet}
 use Rattle.sheet.proofs.Accepted.{sheet-line}
 use Rattle.sheet.proofs.RoundTrip.{value-stands}
 use Rattle.figures.specs.declared.PathFigures.{PathFigures}
-use Rattle.figures.specs.Answers.{lineCases, figureIn, pathDelay, refusedFigures, acceptedFigures, figuresOf}
-use Rattle.figures.specs.Carried.{PathWithin, figuresOfPath}
+use Rattle.figures.specs.Answers.{lineCases, figureIn, noFigure, pathDelay, refusedFigures, acceptedFigures, figuresOf}
+use Rattle.figures.proofs.EachOperator.{PathWithin, figuresOfPath}
 
 -- the figures of a path: 6 to 9
 figuresOfLine : Line → PathFigures
 figuresOfLine line = firstOf (lineCases line) refusedFigures (acceptedFigures line)
 
-abbrev answerTo : PathFigures → Verdict → PathFigures
-answerTo figures Verdict.Accepted = figures
-answerTo figures (Verdict.Refused why) = refusedFigures why
+-- what the answer starts as: the verdict and the path that were read, and no figure
+abbrev pub unplanned : ReadSheet → PathFigures
+unplanned read = record { verdict = read .verdict; path = read .path; figures = replicate 16 noFigure; delay = record { 0 = 0 } }
+
+abbrev answerTo : PathFigures → PathFigures → Verdict → PathFigures
+answerTo accepted refused Verdict.Accepted = accepted
+answerTo accepted refused (Verdict.Refused why) = refused
 
 abbrev IsAccepted : Verdict → Type 0
 IsAccepted Verdict.Accepted = Unit {0}
 IsAccepted (Verdict.Refused why) = ⊥
 
+-- the value of a path has sixteen places
+value-full : (line : Line) → length (valueOf line .places) ≡ 16
+unfolding valueOf
+value-full line = length-take-le 16 (line .places ++ replicate 16 noPlace) (simp (length-append, length-replicate) (omega arith))
+
 module _ {read : ReadSheet} (sheet : List ℕ) (answered : read ≡ readSheet sheet) where
-  answer-figures : answerTo (figuresOfLine (lineIn sheet)) (read .verdict) ≡ figuresOf sheet
+  answer-figures : answerTo (figuresOfLine (lineIn sheet)) (unplanned read) (read .verdict) ≡ figuresOf sheet
   unfolding figuresOfLine readSheet figuresOf
   answer-figures =
-      let answer : ReadSheet → PathFigures = λ r. answerTo (figuresOfLine (lineIn sheet)) (r .verdict) in
+      let answer : ReadSheet → PathFigures = λ r. answerTo (figuresOfLine (lineIn sheet)) (unplanned r) (r .verdict) in
       ap answer answered
       ∙ firstOf-map answer (λ why. record { verdict = Verdict.Refused why; path = noPath }) (record { verdict = Verdict.Accepted; path = valueOf (lineIn sheet) }) (sheetCases sheet)
       ∙ sym (firstOf-append refusedFigures (acceptedFigures (lineIn sheet)) (sheetCases sheet) (lineCases (lineIn sheet)))
 
-  pub refused-figures : {why : Refusal} → read .verdict ≡ Verdict.Refused why → refusedFigures why ≡ figuresOf sheet
-  refused-figures verdict = sym (ap (answerTo (figuresOfLine (lineIn sheet))) verdict) ∙ answer-figures
+  pub refused-figures : {why : Refusal} → read .verdict ≡ Verdict.Refused why → unplanned read ≡ figuresOf sheet
+  refused-figures verdict = sym (ap (answerTo (figuresOfLine (lineIn sheet)) (unplanned read)) verdict) ∙ answer-figures
 
   module _ (accepted : read .verdict ≡ Verdict.Accepted) where
     sheet-stands : NoneStands (sheetCases sheet)
@@ -59,7 +71,7 @@ module _ {read : ReadSheet} (sheet : List ℕ) (answered : read ≡ readSheet sh
 
     value-within : PathWithin (valueOf (lineIn sheet))
     unfolding valueOf
-    value-within = record { few = sheet-line sheet sheet-stands .few; inside = rw line-read (sheet-line sheet sheet-stands .inside) }
+    value-within = record { few = sheet-line sheet sheet-stands .few; full = value-full (lineIn sheet); inside = rw line-read (sheet-line sheet sheet-stands .inside) }
 
     pub path-within : PathWithin (read .path)
     path-within = rw path-read value-within
@@ -73,5 +85,5 @@ module _ {read : ReadSheet} (sheet : List ℕ) (answered : read ≡ readSheet sh
         firstOf (lineCases line) refusedFigures
         (record { verdict = Verdict.Accepted; path = valueOf (lineIn sheet); figures = listOf (figureIn line) 16; delay = record { 0 = pathDelay line } }))
         line-read
-        ∙ sym (ap (answerTo (figuresOfLine (lineIn sheet))) accepted)
+        ∙ sym (ap (answerTo (figuresOfLine (lineIn sheet)) (unplanned read)) accepted)
         ∙ answer-figures

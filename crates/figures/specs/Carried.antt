@@ -1,20 +1,13 @@
 -- What the code carries along a path stands for a progress of section 4; and the bounds within which its numbers fit their words.
 use Prim.Native.Nat.{ℕ, _≤_}
-use mathlib.Core.Path.{_≡_}
-use mathlib.Core.Bool.{Bool, true}
+use mathlib.Core.Bool.{Bool}
 use mathlib.Core.List.{List, [], _∷_}
-use Rattle.quantity.specs.Sums.{listOf}
 use Rattle.quantity.specs.Refusals.{Case, _⇒_, firstOf}
 use Rattle.quantity.specs.declared.refusal.Refusal.the-variants.{FramedAfterFilter, FigureTooLarge, RateTooLow}
 use Rattle.operator.specs.Classes.{Class}
 use Rattle.operator.specs.FilterPart.{Slowest, unfiltered, filtered}
 use Rattle.operator.specs.declared.Operator.{Operator}
-use Rattle.sheet.specs.Paths.{standsFor}
-use Rattle.sheet.specs.Sheets.{lineInRange}
-use Rattle.sheet.specs.declared.Path.{Path}
-use Rattle.sheet.specs.declared.read.Verdict.{Verdict}
 use Rattle.figures.specs.declared.Figure.{Figure}
-use Rattle.figures.specs.declared.PathFigures.{PathFigures}
 use Rattle.figures.specs.declared.class.FlowClass.{FlowClass}
 use Rattle.figures.specs.declared.carried.LeastRate.{LeastRate}
 use Rattle.figures.specs.declared.carried.LeastRate.the-variants.{NoFilter, Least}
@@ -22,7 +15,6 @@ use Rattle.figures.specs.declared.carried.Carried.{Carried}
 use Rattle.figures.specs.declared.each.Planned.{Planned}
 use Rattle.figures.specs.Progress.{Progress}
 use Rattle.figures.specs.Figures.{capacity, ownDelay, framedAfterFilter, figureTooLarge, rateTooLow}
-use Rattle.figures.specs.Answers.{lineCases, figureIn, refusedFigures, pathDelay}
 
 abbrev pub classIn : FlowClass → Class
 classIn c = record { kind = c .kind; interval = c .interval .0; quota = c .quota .0 }
@@ -68,14 +60,3 @@ figureOf p op paired = record { capacity = record { 0 = capacity p op }; delay =
 -- the figure, or the first of 6 to 8 that stands
 unfoldable pub plannedOf : Progress → Operator → Bool → ℕ → Planned
 plannedOf p op paired k = firstOf (casesOf p op k) Planned.Refused (Planned.Fits (figureOf p op paired))
-
--- a path value of at most 16 operators, its numbers in their ranges
-pub record PathWithin (path : Path) : Type 0 where
-  pub few : path .count ≤ 16
-  pub inside : lineInRange (standsFor path) ≡ true
-
--- the figures of a path value: 6 to 9 of the path that it stands for
-unfoldable pub figuresOfPath : Path → PathFigures
-figuresOfPath path =
-    firstOf (lineCases (standsFor path)) refusedFigures
-    (record { verdict = Verdict.Accepted; path = path; figures = listOf (figureIn (standsFor path)) 16; delay = record { 0 = pathDelay (standsFor path) } })

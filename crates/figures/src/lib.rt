@@ -15,7 +15,6 @@ use sheet::read::read;
 ghost use mathlib.Core.Path.{_≡_};
 ghost use Prim.Native.Nat.{_+_, _<_};
 ghost use Rattle.figures.specs.Answers.{noFigure, refusedFigures, figuresOf};
-ghost use Rattle.figures.specs.Carried.{PathWithin, figuresOfPath};
 
 mod carried;
 mod class;
@@ -33,21 +32,6 @@ pub struct PathFigures {
     pub path: Path,
     pub figures: [Figure; 16],
     pub delay: Slots,
-}
-
-// The figures of a sheet's path, or the first refusal of 2 to 9.
-pub fn figures(sheet: &[u8]) -> PathFigures
-    ensures { λ r. ⌜ r ≡ figuresOf (now (sheet .entry)) ⌝ }
-{
-    let answer = read(sheet);
-    let verdict = answer.verdict;
-    match verdict {
-        Verdict::Refused(why) => refused(why),
-        Verdict::Accepted => {
-            let path = answer.path;
-            figures_of_path(path)
-        }
-    }
 }
 
 fn no_figure() -> Figure
@@ -80,16 +64,27 @@ fn next_place(k: usize) -> usize
     if k < 15 { k + 1 } else { k }
 }
 
-// The figures of a path, operator by operator from the left; then refusal 9.
-fn figures_of_path(path: Path) -> PathFigures
-    requires { ⌜ PathWithin path ⌝ }
-    ensures { λ r. ⌜ r ≡ figuresOfPath path ⌝ }
+// The figures of a sheet's path, operator by operator from the left, or the first refusal of 2 to 9. The answer stands in one place from the start, since copies of it take time.
+pub fn figures(sheet: &[u8]) -> PathFigures
+    ensures { λ r. ⌜ r ≡ figuresOf (now (sheet .entry)) ⌝ }
 {
+    let answer = read(sheet);
+    let verdict = answer.verdict;
+    let path = answer.path;
+    let none = no_figure();
+    let figures = [none; 16];
+    let mut planned = PathFigures {
+        verdict,
+        path,
+        figures,
+        delay: Slots(0),
+    };
+    if let Verdict::Refused(_) = verdict {
+        return planned;
+    }
     let declaration = path.declaration;
     let count = path.count;
     let mut carried = start(declaration);
-    let none = no_figure();
-    let mut figures = [none; 16];
     let mut delay = Slots(0);
     let mut k = 0;
     while k < count {
@@ -104,22 +99,22 @@ fn figures_of_path(path: Path) -> PathFigures
             paired(operator, follower, next < count),
             k,
         ) {
-            Planned::Refused(why) => return refused(why),
+            Planned::Refused(why) => {
+                planned = refused(why);
+                return planned;
+            }
             Planned::Fits(figure) => {
-                figures[k] = figure;
+                planned.figures[k] = figure;
                 delay = delay.plus(figure.delay);
                 carried = behind(carried, operator, figure.capacity);
             }
         }
         k += 1;
     }
+    planned.delay = delay;
     if path.wanted.0 < delay.0 {
-        return refused(Refusal::DelayAboveWanted);
+        planned = refused(Refusal::DelayAboveWanted);
+        return planned;
     }
-    PathFigures {
-        verdict: Verdict::Accepted,
-        path,
-        figures,
-        delay,
-    }
+    planned
 }
