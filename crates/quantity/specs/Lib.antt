@@ -3,5 +3,6 @@ pub mod Ranges
 pub mod Refusals
 pub mod Sums
 pub mod Rounding
+pub mod Divisors
 pub mod Limits
 pub mod Quantities

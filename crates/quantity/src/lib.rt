@@ -4,6 +4,7 @@ ghost use mathlib.Core.Path.{_≡_};
 ghost use Rattle.quantity.specs.Quantities.{slotsSum, unitsSum, ratesSum, unitsOver};
 ghost use Rattle.quantity.specs.Ranges.{inRange, checkedInterval, checkedQuota, checkedRate, checkedDelay, checkedWantedDelay, checkedLink, checkedPathNumber, checkedLinkCapacity, intervalRange, quotaRange, rateRange, delayRange, wantedDelayRange, linkRange, pathNumberRange, linkCapacityRange};
 
+pub mod divisor;
 pub mod refusal;
 
 // A number of slots, or a slot's number.
