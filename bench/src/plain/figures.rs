@@ -18,6 +18,13 @@ pub struct PathFigures {
     pub delay: u64,
 }
 
+fn gcd(mut a: u64, mut b: u64) -> u64 {
+    while b != 0 {
+        (a, b) = (b, a % b);
+    }
+    a
+}
+
 /// The class between two operators. A change of interval may bring its quota above 32 bits.
 #[derive(Clone, Copy)]
 struct Class {
@@ -53,10 +60,12 @@ impl Class {
 
     /// The quota after a change of interval to n (refusal 7).
     fn changed_quota(&self, n: u64, k: usize) -> Result<u64, Refusal> {
-        let quota = if self.kind == Kind::Smooth && n % self.interval == 0 {
-            n / self.interval * self.quota
-        } else {
-            self.most_in(n)
+        let quota = match self.kind {
+            Kind::Smooth => {
+                let late = self.interval - gcd(self.interval, n);
+                ((late + n - 1) / self.interval + 1) * self.quota
+            }
+            Kind::Uniform => self.most_in(n),
         };
         if quota > LARGEST_CHANGED_QUOTA {
             return Err(Refusal::FigureTooLarge(k));

@@ -5,6 +5,7 @@ use Prim.Native.Nat.{ℕ}
 use lib.ListN.{length, replicate}
 use Rattle.quantity.specs.Ranges.{inRange}
 use Rattle.quantity.specs.Rounding.{roundUp}
+use Rattle.quantity.specs.Divisors.{euclid, gcd}
 use Rattle.quantity.specs.Sums.{total, every, listOf}
 use Rattle.quantity.specs.Refusals.{numberOf, placeOf, firstOf}
 use Rattle.operator.specs.Held.{keeps}
@@ -13,7 +14,7 @@ use Rattle.operator.specs.Filter.{besideAfter, filterLeast, filterGreatest, fil
 use Rattle.operator.specs.Delayer.{ofAge, olderThan, staysOf, delayerLeast, delayerAfter}
 use Rattle.operator.specs.Operators.{leastOutput, greatestOutput, heldAfter, numberInRange, limiter, compactor, expander, filter, delayer}
 use Rattle.operator.specs.Flows.{flowOf, outputOn, heldOn, none}
-use Rattle.operator.specs.Classes.{burst, mostIn, changedTo}
+use Rattle.operator.specs.Classes.{burst, mostIn, blocksMet, changedTo}
 use Rattle.operator.specs.FilterPart.{slower}
 use Rattle.operator.specs.Stored.{storedFits, wordFits}
 use Rattle.operator.specs.Single
@@ -66,6 +67,7 @@ computed =
     ∷ outcome (path 10 30 30 (limiter 2 ∷ []))
     ∷ outcome (path 10 30 30 (limiter 4 ∷ []))
     ∷ outcome (path 4 8 30 (compactor 6 ∷ []))
+    ∷ outcome (path 4 8 30 (expander 2 ∷ []))
     ∷ output (listOf (outputOn (compactor 3) (flowOf (1 ∷ 2 ∷ 0 ∷ 3 ∷ 0 ∷ 0 ∷ [])) none) 6)
     ∷ filtered 3
     ∷ filtered 4
@@ -80,7 +82,8 @@ expected =
     ∷ figures (60 ∷ 75 ∷ 75 ∷ 87 ∷ []) (20 ∷ 5 ∷ 0 ∷ 4 ∷ []) 29
     ∷ refused 8 0
     ∷ figures (60 ∷ []) (15 ∷ []) 15
-    ∷ figures (24 ∷ []) (6 ∷ []) 6
+    ∷ figures (16 ∷ []) (6 ∷ []) 6
+    ∷ figures (8 ∷ []) (2 ∷ []) 2
     ∷ output (0 ∷ 0 ∷ 0 ∷ 3 ∷ 0 ∷ 0 ∷ [])
     ∷ output (5 ∷ [])
     ∷ refused 14 0
@@ -88,5 +91,5 @@ expected =
     ∷ []
 
 pub reference-paths : computed ≡ expected
-unfolding computed expected frames roundUp total every listOf inRange keeps compactorLeast compactorAfter besideAfter filterLeast filterGreatest filterAfter ofAge olderThan staysOf delayerLeast delayerAfter leastOutput greatestOutput heldAfter numberInRange outputOn heldOn burst mostIn changedTo slower Single.stepOf Single.sent Single.heldNext Single.choiceAbove Single.leavesTooMuch Single.stateNext Single.heldIn Single.usesHeld Single.usesBeside Single.wordsUsed storedFits wordFits Single.storedUnusable Single.unusable behind progressAt partCapacity partDelay capacity ownDelay pairs isFramed framedAfterFilter changedQuota figureTooLarge rateTooLow operatorAt before pairedAt capacityAt delayAt pathDelay operatorsCases
+unfolding computed expected frames roundUp total every listOf inRange keeps compactorLeast compactorAfter besideAfter filterLeast filterGreatest filterAfter ofAge olderThan staysOf delayerLeast delayerAfter leastOutput greatestOutput heldAfter numberInRange outputOn heldOn burst mostIn euclid gcd blocksMet changedTo slower Single.stepOf Single.sent Single.heldNext Single.choiceAbove Single.leavesTooMuch Single.stateNext Single.heldIn Single.usesHeld Single.usesBeside Single.wordsUsed storedFits wordFits Single.storedUnusable Single.unusable behind progressAt partCapacity partDelay capacity ownDelay pairs isFramed framedAfterFilter changedQuota figureTooLarge rateTooLow operatorAt before pairedAt capacityAt delayAt pathDelay operatorsCases
 reference-paths = refl

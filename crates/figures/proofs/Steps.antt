@@ -1,13 +1,12 @@
 -- What holds before an operator holds behind it, and it keeps its figures: one lemma for each kind of operator, from the operators' laws.
 use mathlib.Core.Path.{_≡_, refl, sym, ap, _∙_}
 use mathlib.Core.Bool.{Bool, true, false, true≢false}
-use Prim.Native.Nat.{ℕ, zero, suc, _+_, _*_, _/_, _%_, _≤_}
+use Prim.Native.Nat.{ℕ, zero, suc, _+_, _≤_}
 use native.Mathlib.Nat.{add-zero, le-refl, le-trans}
 use native.Mathlib.Omega.{arith}
-use lib.Dec.{leb, eqb}
+use lib.Dec.{leb}
 use borrow.Author.Tests.{leb-true, ltb-false, eqb-true}
 use Rattle.quantity.specs.Choice.{pick}
-use Rattle.quantity.specs.Rounding.{roundUp}
 use Rattle.quantity.specs.Ranges.{Range, inRange, intervalRange, rateRange}
 use Rattle.quantity.specs.declared.Interval.{Interval}
 use Rattle.quantity.specs.declared.Rate.{Rate}
@@ -92,11 +91,7 @@ timed-counted r p op g f D other (paired n s c makes flow fits late) = absurd (t
 -- a change of interval to n gives the interval n
 changed-interval : (n : ℕ) (kind : Kind) (m Q : ℕ) → changedTo n (record { kind = kind; interval = m; quota = Q }) .interval ≡ n
 unfolding changedTo
-changed-interval n Kind.Smooth m Q = by-test (eqb (n % m) 0)
-  where
-    by-test : (t : Bool) → pick t (smooth n (n / m * Q)) (uniform n ((roundUp n m + 1) * Q)) .interval ≡ n
-    by-test true = refl
-    by-test false = refl
+changed-interval n Kind.Smooth m Q = refl
 changed-interval n Kind.Uniform m Q = refl
 
 module _ (p : Progress) (g f c : Flow) (known : Known p g f) where

@@ -4,10 +4,11 @@ use operator::Kind;
 use quantity::Interval;
 use quantity::Slots;
 use quantity::Units;
+use quantity::divisor::gcd;
 ghost use mathlib.Core.Path.{_≡_};
 ghost use Prim.Native.Nat.{_+_, _≤_};
 ghost use Rattle.quantity.specs.Rounding.{roundUp};
-ghost use Rattle.operator.specs.Classes.{burst, mostIn, changedTo};
+ghost use Rattle.operator.specs.Classes.{burst, mostIn, blocksMet, changedTo};
 ghost use Rattle.figures.specs.Carried.{classIn, ClassWithin};
 
 // Smooth or uniform (m, Q). Behind a change of interval Q may be larger than a declared quota.
@@ -55,19 +56,25 @@ pub(crate) fn most_in(class: FlowClass, n: Slots) -> Units
     }
 }
 
-// The quota behind a change of interval: a smooth class whose interval divides n keeps its blocks.
+// How many blocks of m slots a block of n slots meets at the most.
+fn blocks_met(m: Interval, n: Interval) -> u64
+    requires { ⌜ (1 ≤ m .0) × (m .0 ≤ 1_024) × (1 ≤ n .0) × (n .0 ≤ 1_024) ⌝ }
+    ensures { λ r. ⌜ (r ≡ blocksMet (m .0) (n .0)) × (r ≤ 2_048) ⌝ }
+{
+    let g = gcd(m.0, n.0);
+    wide((m.0 - g + n.0 - 1) / m.0 + 1)
+}
+
+// The quota behind a change of interval.
 pub(crate) fn changed_quota(class: FlowClass, n: Interval) -> Units
-    requires { ⌜ ClassWithin (classIn class) × (n .0 ≤ 1_024) ⌝ }
+    requires { ⌜ ClassWithin (classIn class) × (1 ≤ n .0) × (n .0 ≤ 1_024) ⌝ }
     ensures { λ r. ⌜ r .0 ≡ changedTo (n .0) (classIn class) .quota ⌝ }
 {
     let kind = class.kind;
     match kind {
         Kind::Smooth => {
-            if n.0 % class.interval.0 == 0 {
-                Units(wide(n.0 / class.interval.0) * class.quota.0)
-            } else {
-                most_in(class, Slots(n.0))
-            }
+            let interval = class.interval;
+            Units(blocks_met(interval, n) * class.quota.0)
         }
         Kind::Uniform => most_in(class, Slots(n.0)),
     }

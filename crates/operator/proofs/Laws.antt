@@ -5,15 +5,17 @@ use mathlib.Core.List.{[], _∷_}
 use Prim.Native.Nat.{ℕ, suc, _+_, _*_, _/_, _≤_}
 use Rattle.quantity.specs.Sums.{total, listOf}
 use Rattle.quantity.specs.Rounding.{roundUp}
+use Rattle.quantity.specs.Divisors.{Divides}
 use Rattle.operator.specs.Held.{Held, nothing}
 use Rattle.operator.specs.Operators.{leastOutput, greatestOutput, heldAfter, limiter, compactor, expander, filter, delayer}
 use Rattle.operator.specs.Whole.{Whole}
 use Rattle.operator.specs.Flows.{Flow, flowOf, Smooth, Uniform, heldOn, outputOn, Fitting, none, InTime, Behind, Envelope}
-use Rattle.operator.specs.Classes.{Class, Keeps, burst, mostIn, changedTo}
+use Rattle.operator.specs.Classes.{Class, Keeps, burst, mostIn, blocksMet, changedTo}
 use Rattle.operator.specs.FilterPart.{Slowest, unfiltered, filtered, slower, Served}
 use Rattle.operator.specs.declared.Operator.{Operator}
 use Rattle.operator.proofs.Conservation as Conservation
 use Rattle.operator.proofs.Windows as Windows
+use Rattle.operator.proofs.Reached as Reached
 use Rattle.operator.proofs.Limiter as Limiter
 use Rattle.operator.proofs.Compactor as Compactor
 use Rattle.operator.proofs.Expander as Expander
@@ -68,6 +70,22 @@ window = Windows.window
 -- the flow keeps the changed class
 pub keeps-changed : (n : ℕ) (c : Class) (r : Flow) → 1 ≤ c .interval → Keeps c r → Keeps (changedTo n c) r
 keeps-changed = Windows.keeps-changed
+
+-- a smooth flow is smooth over blocks of n slots too, with Q for each block of m that such a block meets
+pub smooth-changed : (m n Q : ℕ) (r : Flow) → 1 ≤ m → Smooth m Q r → Smooth n (blocksMet m n * Q) r
+smooth-changed = Windows.smooth-changed
+
+-- some flow has so much in one of its blocks of n slots
+pub blocks-met-reached : (m n Q : ℕ) → 1 ≤ m → 1 ≤ n → (r : Flow) × (Smooth m Q r) × ((j : ℕ) × (total r (j * n + n) ≡ total r (j * n) + blocksMet m n * Q))
+blocks-met-reached = Reached.blocks-met-reached
+
+-- so no smaller quota holds of all smooth flows
+pub blocks-met-least : (m n Q q : ℕ) → 1 ≤ m → 1 ≤ n → ((r : Flow) → Smooth m Q r → Smooth n q r) → blocksMet m n * Q ≤ q
+blocks-met-least = Reached.blocks-met-least
+
+-- where m divides n the blocks met are the whole blocks
+pub blocks-met-whole : (m n : ℕ) → 1 ≤ m → 1 ≤ n → Divides m n → blocksMet m n ≡ n / m
+blocks-met-whole = Reached.blocks-met-whole
 
 pub envelope : (c : Class) (r : Flow) (R : ℕ) → 1 ≤ c .interval → c .quota ≤ c .interval * R → Keeps c r → Envelope (burst c) R r
 envelope = Windows.envelope

@@ -3,6 +3,7 @@ pub mod MeterLaws
 mod Steps
 mod Conservation
 mod Windows
+mod Reached
 mod Limiter
 mod Compactor
 mod Expander

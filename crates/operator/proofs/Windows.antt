@@ -1,18 +1,15 @@
 -- Windows, change of interval and envelope (source document 000, Theorem 1): whole intervals add up, and whole intervals cover a window.
-use mathlib.Core.Path.{_≡_, refl}
-use mathlib.Core.Bool.{Bool, true, false}
-use Prim.Native.Nat.{ℕ, zero, suc, _+_, _*_, _/_, _%_, _≤_}
-use native.Mathlib.Nat.{add-zero, add-assoc, add-mul, zero-mul, suc-mul, mul-assoc, le-refl, mul-le-mul-left, mul-le-mul-right, div-add-mod', div-mul-le-self, lt-div-mul-add}
+use Prim.Native.Nat.{ℕ, zero, suc, _+_, _-_, _*_, _/_, _%_, _≤_}
+use native.Mathlib.Nat.{add-zero, add-assoc, add-mul, zero-mul, suc-mul, mul-assoc, le-refl, mul-le-mul-left, mul-le-mul-right, mod-lt, div-add-mod', div-mul-le-self, lt-div-mul-add}
 use native.Mathlib.Omega.{arith}
-use lib.Dec.{eqb}
-use borrow.Author.Tests.{eqb-true}
-use Rattle.quantity.specs.Choice.{pick}
 use Rattle.quantity.specs.Sums.{total}
 use Rattle.quantity.specs.Rounding.{roundUp}
+use Rattle.quantity.specs.Divisors.{gcd}
 use Rattle.quantity.proofs.Sums.{total-le}
 use Rattle.quantity.proofs.Rounding.{round-up-enough, round-up-least}
+use Rattle.quantity.proofs.Divisors.{divides-multiple, divides-mod, multiples-apart, gcd-divides-left, gcd-divides-right}
 use Rattle.operator.specs.Flows.{Flow, Smooth, Uniform, Envelope}
-use Rattle.operator.specs.Classes.{Class, smooth, uniform, Keeps, KeepsKind, burst, mostIn, changedTo}
+use Rattle.operator.specs.Classes.{Class, Keeps, KeepsKind, burst, mostIn, blocksMet, changedTo}
 use Rattle.operator.specs.declared.Kind.{Kind}
 
 -- what rises by at most Q an interval rises by at most k·Q in k intervals
@@ -27,12 +24,6 @@ module _ (m Q : ℕ) (r : Flow) where
   smooth-blocks-le : Smooth m Q r → (j k : ℕ) → total r (j * m + k * m) ≤ total r (j * m) + k * Q
   smooth-blocks-le keeps j = intervals-le m Q r (j * m) (λ k. rw (← add-mul) (keeps (j + k) m (le-refl m)))
 
-  -- a block of d·m slots is d blocks of m
-  smooth-multiple : (n d : ℕ) → d * m ≡ n → Smooth m Q r → Smooth n (d * Q) r
-  smooth-multiple n d e keeps j k h =
-      let blocks : total r (j * n + n) ≤ total r (j * n) + d * Q = rw (mul-assoc j d m, e) at (smooth-blocks-le keeps (j * d) d) in
-      omega (arith, total-le r {n = j * n + k} {m = j * n + n} (omega arith))
-
   module _ (large : 1 ≤ m) where
     uniform-window-le : Uniform m Q r → (a n : ℕ) → total r (a + n) ≤ total r a + roundUp n m * Q
     uniform-window-le keeps a n =
@@ -45,6 +36,21 @@ module _ (m Q : ℕ) (r : Flow) where
         let blocks = smooth-blocks-le keeps (a / m) (roundUp n m + 1) in
         let ends : a + n ≤ a / m * m + (roundUp n m + 1) * m = omega (arith, lt-div-mul-add {a = a} large, round-up-enough n m large, add-mul (roundUp n m) 1 m) in
         omega (arith, total-le r (div-mul-le-self a m), total-le r ends)
+
+-- a block of n slots begins at least the greatest common divisor before the end of its block of m
+block-begins : (m n j : ℕ) → 1 ≤ m → j * n % m + gcd m n ≤ m
+block-begins m n j large =
+    let divisor = gcd-divides-left m n in
+    multiples-apart (gcd m n) (j * n % m) m (divides-mod (gcd m n) (j * n) m (divides-multiple (gcd m n) n j (gcd-divides-right m n)) divisor) divisor (mod-lt (j * n) large)
+
+-- and so ends within the blocks met
+pub smooth-changed : (m n Q : ℕ) (r : Flow) → 1 ≤ m → Smooth m Q r → Smooth n (blocksMet m n * Q) r
+unfolding blocksMet
+smooth-changed m n Q r large keeps j k h =
+    let a = j * n in
+    let blocks = smooth-blocks-le m Q r keeps (a / m) (blocksMet m n) in
+    let ends : a + k ≤ a / m * m + blocksMet m n * m = omega (arith, block-begins m n j large, div-add-mod' a m, lt-div-mul-add {a = m - gcd m n + n - 1} large) in
+    omega (arith, total-le r (div-mul-le-self a m), total-le r ends)
 
 pub uniform-is-smooth : (m Q : ℕ) (r : Flow) → Uniform m Q r → Smooth m Q r
 uniform-is-smooth m Q r keeps j = keeps (j * m)
@@ -72,11 +78,7 @@ uniform-of-window r n M most a k h = omega (arith, most a, total-le r {n = a + k
 
 kind-keeps-changed : (n : ℕ) (kind : Kind) (m Q : ℕ) (r : Flow) → 1 ≤ m → KeepsKind kind m Q r → Keeps (changedTo n (record { kind = kind; interval = m; quota = Q })) r
 unfolding changedTo
-kind-keeps-changed n Kind.Smooth m Q r large keeps = by-test (eqb (n % m) 0) refl
-  where
-    by-test : (t : Bool) → eqb (n % m) 0 ≡ t → Keeps (pick t (smooth n (n / m * Q)) (uniform n ((roundUp n m + 1) * Q))) r
-    by-test true e = smooth-multiple m Q r n (n / m) (omega (arith, eqb-true (n % m) 0 e, div-add-mod' n m)) keeps
-    by-test false e = uniform-of-window r n ((roundUp n m + 1) * Q) (λ a. smooth-window-le m Q r large keeps a n)
+kind-keeps-changed n Kind.Smooth m Q r large keeps = smooth-changed m n Q r large keeps
 kind-keeps-changed n Kind.Uniform m Q r large keeps = uniform-of-window r n (roundUp n m * Q) (λ a. uniform-window-le m Q r large keeps a n)
 
 pub keeps-changed : (n : ℕ) (c : Class) (r : Flow) → 1 ≤ c .interval → Keeps c r → Keeps (changedTo n c) r

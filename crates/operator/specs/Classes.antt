@@ -1,8 +1,7 @@
 -- Section 4's classes of flows: burst, change of interval and the most in a window, after source document 000, Theorem 1.
-use Prim.Native.Nat.{ℕ, _+_, _*_, _/_, _%_}
-use lib.Dec.{eqb}
-use Rattle.quantity.specs.Choice.{pick}
+use Prim.Native.Nat.{ℕ, _+_, _-_, _*_, _/_}
 use Rattle.quantity.specs.Rounding.{roundUp}
+use Rattle.quantity.specs.Divisors.{gcd}
 use Rattle.operator.specs.Flows.{Flow, Smooth, Uniform}
 use Rattle.operator.specs.declared.Kind.{Kind}
 
@@ -43,12 +42,15 @@ unfoldable pub mostIn : Class → ℕ → ℕ
 unfolding mostOf
 mostIn c n = mostOf (c .kind) (c .interval) (c .quota) n
 
+-- how many blocks of m slots a block of n slots meets at the most: it begins at a multiple of the greatest common divisor within its block of m, so at m less that at the most
+unfoldable pub blocksMet : ℕ → ℕ → ℕ
+blocksMet m n = (m - gcd m n + n - 1) / m + 1
+
 changedOf : Kind → ℕ → ℕ → ℕ → Class
-changedOf Kind.Smooth m Q n = pick (eqb (n % m) 0) (smooth n (n / m * Q)) (uniform n ((roundUp n m + 1) * Q))
+changedOf Kind.Smooth m Q n = smooth n (blocksMet m n * Q)
 changedOf Kind.Uniform m Q n = uniform n (roundUp n m * Q)
 
--- change of interval to n: uniform (m, Q) becomes uniform (n, ⌈n/m⌉·Q);
--- smooth becomes smooth (n, (n/m)·Q) if m divides n, else uniform (n, (⌈n/m⌉+1)·Q)
+-- change of interval to n: smooth (m, Q) becomes smooth (n, c·Q), c the blocks met; uniform (m, Q) becomes uniform (n, ⌈n/m⌉·Q)
 unfoldable pub changedTo : ℕ → Class → Class
 unfolding changedOf
 changedTo n c = changedOf (c .kind) (c .interval) (c .quota) n

@@ -18,7 +18,7 @@ returns c = rw (c .if1 .taken)
 
 changed-quota-requires : tie.Need-changed-quota-requires
 unfolding numberInRange
-changed-quota-requires c κs = let s = c .before .before in (s .pre .0 .class, in-range intervalRange (s .args .n .0) (s .pre .1) .1)
+changed-quota-requires c κs = let s = c .before .before in let (least, most) = in-range intervalRange (s .args .n .0) (s .pre .1) in (s .pre .0 .class, least, most)
 
 returns-2 : tie.Need-returns-2
 unfolding plannedOf framedAfterFilter isFramed figureTooLarge changedQuota capacity
