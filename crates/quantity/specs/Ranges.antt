@@ -11,6 +11,8 @@ use Rattle.quantity.specs.declared.CheckedWantedDelay.{CheckedWantedDela
 use Rattle.quantity.specs.declared.CheckedLink.{CheckedLink}
 use Rattle.quantity.specs.declared.CheckedPathNumber.{CheckedPathNumber}
 use Rattle.quantity.specs.declared.CheckedLinkCapacity.{CheckedLinkCapacity}
+use Rattle.quantity.specs.declared.CheckedHops.{CheckedHops}
+use Rattle.quantity.specs.declared.CheckedPacket.{CheckedPacket}
 
 pub record Range : Type 0 where
   pub least : ℕ
@@ -79,3 +81,17 @@ linkCapacityRange = record { least = 0; largest = 1_000_000 }
 
 abbrev pub checkedLinkCapacity : ℕ → CheckedLinkCapacity
 checkedLinkCapacity = checkedIn linkCapacityRange (λ value. CheckedLinkCapacity.InRange (record { 0 = value })) CheckedLinkCapacity.OutOfRange
+
+-- hops of a house profile: 1 to 5
+abbrev pub hopsRange : Range
+hopsRange = record { least = 1; largest = 5 }
+
+abbrev pub checkedHops : ℕ → CheckedHops
+checkedHops = checkedIn hopsRange (λ value. CheckedHops.InRange (record { 0 = value })) CheckedHops.OutOfRange
+
+-- longest packet: 1 to 65,535 units
+abbrev pub packetRange : Range
+packetRange = record { least = 1; largest = 65535 }
+
+abbrev pub checkedPacket : ℕ → CheckedPacket
+checkedPacket = checkedIn packetRange (λ value. CheckedPacket.InRange (record { 0 = value })) CheckedPacket.OutOfRange

@@ -2,7 +2,7 @@
 
 ghost use mathlib.Core.Path.{_≡_};
 ghost use Rattle.quantity.specs.Quantities.{slotsSum, unitsSum, ratesSum, unitsOver};
-ghost use Rattle.quantity.specs.Ranges.{inRange, checkedInterval, checkedQuota, checkedRate, checkedDelay, checkedWantedDelay, checkedLink, checkedPathNumber, checkedLinkCapacity, intervalRange, quotaRange, rateRange, delayRange, wantedDelayRange, linkRange, pathNumberRange, linkCapacityRange};
+ghost use Rattle.quantity.specs.Ranges.{inRange, checkedInterval, checkedQuota, checkedRate, checkedDelay, checkedWantedDelay, checkedLink, checkedPathNumber, checkedLinkCapacity, checkedHops, checkedPacket, intervalRange, quotaRange, rateRange, delayRange, wantedDelayRange, linkRange, pathNumberRange, linkCapacityRange, hopsRange, packetRange};
 
 pub mod divisor;
 pub mod refusal;
@@ -307,5 +307,65 @@ impl LinkCapacity {
         ensures { λ r. ⌜ r ≡ inRange linkCapacityRange (self .0) ⌝ }
     {
         within(self.0, LinkCapacity::LEAST, LinkCapacity::LARGEST)
+    }
+}
+
+// How many hops a house profile has.
+pub struct Hops(pub u32);
+
+pub enum CheckedHops {
+    InRange(Hops),
+    OutOfRange,
+}
+
+impl Hops {
+    pub const LEAST: u32 = 1;
+
+    pub const LARGEST: u32 = 5;
+
+    pub fn checked(value: u32) -> CheckedHops
+        ensures { λ r. ⌜ r ≡ checkedHops value ⌝ }
+    {
+        if within(value, Hops::LEAST, Hops::LARGEST) {
+            CheckedHops::InRange(Hops(value))
+        } else {
+            CheckedHops::OutOfRange
+        }
+    }
+
+    pub fn in_range(self) -> bool
+        ensures { λ r. ⌜ r ≡ inRange hopsRange (self .0) ⌝ }
+    {
+        within(self.0, Hops::LEAST, Hops::LARGEST)
+    }
+}
+
+// The length of a longest packet, in units.
+pub struct Packet(pub u32);
+
+pub enum CheckedPacket {
+    InRange(Packet),
+    OutOfRange,
+}
+
+impl Packet {
+    pub const LEAST: u32 = 1;
+
+    pub const LARGEST: u32 = 65535;
+
+    pub fn checked(value: u32) -> CheckedPacket
+        ensures { λ r. ⌜ r ≡ checkedPacket value ⌝ }
+    {
+        if within(value, Packet::LEAST, Packet::LARGEST) {
+            CheckedPacket::InRange(Packet(value))
+        } else {
+            CheckedPacket::OutOfRange
+        }
+    }
+
+    pub fn in_range(self) -> bool
+        ensures { λ r. ⌜ r ≡ inRange packetRange (self .0) ⌝ }
+    {
+        within(self.0, Packet::LEAST, Packet::LARGEST)
     }
 }
