@@ -26,7 +26,8 @@ use Rattle.operator.specs.Operators.{numberInRange}
 use Rattle.operator.specs.Declarations.{declarationInRange}
 use Rattle.operator.specs.Metering.{classOf}
 use Rattle.operator.specs.declared.Operator.{Operator}
-use Rattle.sheet.specs.Paths.{Line, standsFor, noPlace}
+use Rattle.sheet.specs.Paths.{Line, noPlace}
+use Rattle.sheet.specs.Forms.{inFull}
 use Rattle.sheet.specs.Bodies.{placeInRange}
 use Rattle.sheet.specs.Sheets.{lineInRange, placesInRange}
 use Rattle.sheet.specs.declared.Place.{Place}
@@ -54,13 +55,13 @@ pub record Walked (line : Line) (k : ℕ) (carried : Carried) (figures : List Fi
   pub written : (j : ℕ) → j < 16 → getD figures j noFigure ≡ figureUpTo line k j
   pub summed : delay .0 ≡ total (delayAt line) k
 
--- a path value and the path that it stands for
-pub path-length : (path : Path) → path .count ≤ length (path .places) → length (standsFor path .places) ≡ path .count
-unfolding standsFor
+-- a path value and the path that it has written out
+pub path-length : (path : Path) → path .count ≤ length (path .places) → length (inFull path .places) ≡ path .count
+unfolding inFull
 path-length path few = length-take-le (path .count) (path .places) few
 
-pub path-operator : (path : Path) (k : ℕ) → k < path .count → operatorAt (standsFor path) k ≡ getD (path .places) k noPlace .operator
-unfolding standsFor operatorAt
+pub path-operator : (path : Path) (k : ℕ) → k < path .count → operatorAt (inFull path) k ≡ getD (path .places) k noPlace .operator
+unfolding inFull operatorAt
 path-operator path k inside = ap (λ (place : Place). place .operator) (getD-take (path .count) (path .places) k noPlace inside)
 
 place-number : (places : List Place) (k : ℕ) → placesInRange places ≡ true → k < length places → numberInRange (getD places k noPlace .operator) ≡ true
@@ -245,40 +246,40 @@ acceptedPath path figures delay = record { verdict = Verdict.Accepted; path = pa
 
 -- the figures of a path value: 6 to 9 of the path that it stands for
 unfoldable pub figuresOfPath : Path → PathFigures
-figuresOfPath path = firstOf (lineCases (standsFor path)) refusedFigures (acceptedPath path (listOf (figureIn (standsFor path)) 16) (pathDelay (standsFor path)))
+figuresOfPath path = firstOf (lineCases (inFull path)) refusedFigures (acceptedPath path (listOf (figureIn (inFull path)) 16) (pathDelay (inFull path)))
 
 -- a path value of at most sixteen operators, its numbers in their ranges
 pub record PathWithin (path : Path) : Type 0 where
   pub few : path .count ≤ 16
   pub full : length (path .places) ≡ 16
-  pub inside : lineInRange (standsFor path) ≡ true
+  pub inside : lineInRange (inFull path) ≡ true
 
 -- the same of such a path value
 module _ {path : Path} (within : PathWithin path) where
-  path-size : length (standsFor path .places) ≡ path .count
+  path-size : length (inFull path .places) ≡ path .count
   path-size = path-length path (rw (within .full) (within .few))
 
-  path-few : length (standsFor path .places) ≤ 16
+  path-few : length (inFull path .places) ≤ 16
   path-few = rw path-size (within .few)
 
-  module _ {k : ℕ} {carried : Carried} {figures : List Figure} {delay : Slots} (walked : Walked (standsFor path) k carried figures delay) (here : k < path .count) where
-    before-end : k < length (standsFor path .places)
+  module _ {k : ℕ} {carried : Carried} {figures : List Figure} {delay : Slots} (walked : Walked (inFull path) k carried figures delay) (here : k < path .count) where
+    before-end : k < length (inFull path .places)
     before-end = rw path-size here
 
     pub operator-ready : Within mostBefore (progressIn carried) × (numberInRange (getD (path .places) k noPlace .operator) ≡ true)
     operator-ready = (
-      rw (walked .carries) (before-operator (standsFor path) path-few (within .inside) k before-end (walked .passed)),
-      rw (← path-operator path k here) (number-inside (standsFor path) path-few (within .inside) k before-end),
+      rw (walked .carries) (before-operator (inFull path) path-few (within .inside) k before-end (walked .passed)),
+      rw (← path-operator path k here) (number-inside (inFull path) path-few (within .inside) k before-end),
     )
 
     -- it is paired with the operator at the next place, if one follows
     pub paired-here : {next : ℕ} {paired : Bool} → (k + 1 < 16 → next ≡ k + 1)
-        → paired ≡ pick (ltb (k + 1) (path .count)) (pairs (getD (path .places) k noPlace .operator) (getD (path .places) next noPlace .operator)) false → paired ≡ pairedAt (standsFor path) k
+        → paired ≡ pick (ltb (k + 1) (path .count)) (pairs (getD (path .places) k noPlace .operator) (getD (path .places) next noPlace .operator)) false → paired ≡ pairedAt (inFull path) k
     unfolding pairedAt
-    paired-here {next} found tested = tested ∙ by-test (ltb (k + 1) (path .count)) refl ∙ ap (λ (n : ℕ). pick (ltb (k + 1) n) (pairs (operatorAt (standsFor path) k) (operatorAt (standsFor path) (k + 1))) false) (sym path-size)
+    paired-here {next} found tested = tested ∙ by-test (ltb (k + 1) (path .count)) refl ∙ ap (λ (n : ℕ). pick (ltb (k + 1) n) (pairs (operatorAt (inFull path) k) (operatorAt (inFull path) (k + 1))) false) (sym path-size)
       where
         by-test : (t : Bool) → ltb (k + 1) (path .count) ≡ t
-            → pick t (pairs (getD (path .places) k noPlace .operator) (getD (path .places) next noPlace .operator)) false ≡ pick t (pairs (operatorAt (standsFor path) k) (operatorAt (standsFor path) (k + 1))) false
+            → pick t (pairs (getD (path .places) k noPlace .operator) (getD (path .places) next noPlace .operator)) false ≡ pick t (pairs (operatorAt (inFull path) k) (operatorAt (inFull path) (k + 1))) false
         by-test true e =
             let follows = ltb-true (k + 1) (path .count) e in
             let few = within .few in
@@ -287,33 +288,33 @@ module _ {path : Path} (within : PathWithin path) where
         by-test false e = refl
 
     -- the sum of the delays does not stop at its largest number
-    pub delay-counted : {figure : Figure} {later : Slots} → Planned.Fits figure ≡ plannedAt (standsFor path) k → later ≡ slotsSum delay (figure .delay) → later .0 ≡ delay .0 + figure .delay .0
+    pub delay-counted : {figure : Figure} {later : Slots} → Planned.Fits figure ≡ plannedAt (inFull path) k → later ≡ slotsSum delay (figure .delay) → later .0 ≡ delay .0 + figure .delay .0
     unfolding figureAt
     delay-counted {figure} planned sum =
-        let own = ap (λ (f : Figure). f .delay .0) (fits-figure (standsFor path) k planned) in
+        let own = ap (λ (f : Figure). f .delay .0) (fits-figure (inFull path) k planned) in
         let fits : delay .0 + figure .delay .0 ≤ mostSlots =
         omega (
           arith,
           walked .summed,
-          delays-bound (standsFor path) path-few (within .inside) k (le-of-lt before-end) (walked .passed),
-          delay-bound (standsFor path) path-few (within .inside) k before-end (walked .passed),
+          delays-bound (inFull path) path-few (within .inside) k (le-of-lt before-end) (walked .passed),
+          delay-bound (inFull path) path-few (within .inside) k before-end (walked .passed),
         ) in
         ap (λ (s : Slots). s .0) sum ∙ slots-sum delay (figure .delay) fits
 
-    pub refused-path : {why : Refusal} → Planned.Refused why ≡ plannedAt (standsFor path) k → refusedFigures why ≡ figuresOfPath path
+    pub refused-path : {why : Refusal} → Planned.Refused why ≡ plannedAt (inFull path) k → refusedFigures why ≡ figuresOfPath path
     unfolding figuresOfPath
-    refused-path planned = refused-answer (standsFor path) k refusedFigures _ (length (standsFor path .places)) _ before-end (walked .passed) planned
+    refused-path planned = refused-answer (inFull path) k refusedFigures _ (length (inFull path .places)) _ before-end (walked .passed) planned
 
-  module _ {carried : Carried} {figures : List Figure} {delay : Slots} (walked : Walked (standsFor path) (path .count) carried figures delay) where
-    walked-end : Walked (standsFor path) (length (standsFor path .places)) carried figures delay
+  module _ {carried : Carried} {figures : List Figure} {delay : Slots} (walked : Walked (inFull path) (path .count) carried figures delay) where
+    walked-end : Walked (inFull path) (length (inFull path .places)) carried figures delay
     walked-end = rw path-size walked
 
     pub late-path : path .wanted .0 < delay .0 → refusedFigures DelayAboveWanted ≡ figuresOfPath path
-    unfolding figuresOfPath standsFor
+    unfolding figuresOfPath inFull
     late-path late = late-answer walked-end refusedFigures _ late
 
     pub accepted-path : delay .0 ≤ path .wanted .0 → acceptedPath path figures (delay .0) ≡ figuresOfPath path
-    unfolding figuresOfPath standsFor
+    unfolding figuresOfPath inFull
     accepted-path soon =
-        let answer = accepted-answer walked-end refusedFigures (acceptedPath path (listOf (figureIn (standsFor path)) 16) (pathDelay (standsFor path))) soon in
+        let answer = accepted-answer walked-end refusedFigures (acceptedPath path (listOf (figureIn (inFull path)) 16) (pathDelay (inFull path))) soon in
         ap₂ (acceptedPath path) (walked-figures walked-end) (walked-delay walked-end) ∙ answer

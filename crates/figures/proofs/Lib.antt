@@ -7,3 +7,4 @@ mod Bounds
 mod Tests
 mod EachOperator
 mod SheetAnswer
+pub mod Profiles

@@ -17,8 +17,9 @@ use Rattle.operator.specs.Classes.{Keeps}
 use Rattle.operator.specs.Metering.{classOf}
 use Rattle.operator.specs.Operators.{numberInRange}
 use Rattle.sheet.specs.declared.read.Verdict.{Verdict}
-use Rattle.sheet.specs.Paths.{Line, valueOf, noPath}
-use Rattle.sheet.specs.Sheets.{sheetCases, lineIn, lineInRange}
+use Rattle.sheet.specs.Paths.{Line}
+use Rattle.sheet.specs.Forms.{noPath}
+use Rattle.sheet.specs.Sheets.{sheetCases, pathIn, lineIn, lineInRange}
 use Rattle.sheet.proofs.Accepted.{sheet-line, never-accepted}
 use Rattle.figures.specs.declared.PathFigures.{PathFigures}
 use Rattle.figures.specs.Answers.{operatorAt, before, capacityAt, pathDelay, operatorsCases, lineCases, figureIn, figuresOf}
@@ -41,7 +42,7 @@ promised line inside none r choices kept fits =
 module _ (sheet : List ℕ) where
   abbrev answered : PathFigures
   answered =
-      record { verdict = Verdict.Accepted; path = valueOf (lineIn sheet); figures = listOf (figureIn (lineIn sheet)) 16; delay = record { 0 = pathDelay (lineIn sheet) } }
+      record { verdict = Verdict.Accepted; path = pathIn sheet; figures = listOf (figureIn (lineIn sheet)) 16; delay = record { 0 = pathDelay (lineIn sheet) } }
 
   abbrev refused-for : Refusal → PathFigures
   refused-for why =
@@ -66,7 +67,7 @@ figures-promised sheet accepted =
 
 -- the path and the delay that the figures answer are those of the theorem
 pub accepted-figures : (sheet : List ℕ) → figuresOf sheet .verdict ≡ Verdict.Accepted
-    → (figuresOf sheet .path ≡ valueOf (lineIn sheet)) × (figuresOf sheet .delay .0 ≡ pathDelay (lineIn sheet)) × (figuresOf sheet .figures ≡ listOf (figureIn (lineIn sheet)) 16)
+    → (figuresOf sheet .path ≡ pathIn sheet) × (figuresOf sheet .delay .0 ≡ pathDelay (lineIn sheet)) × (figuresOf sheet .figures ≡ listOf (figureIn (lineIn sheet)) 16)
 accepted-figures sheet accepted = rw (accepted-answer sheet accepted) (refl, refl, refl)
 
 -- a declaration in range counts over at least one slot

@@ -11,8 +11,10 @@ use Rattle.quantity.specs.declared.refusal.Refusal.{Refusal}
 use Rattle.quantity.specs.declared.refusal.Refusal.the-variants.{FramedAfterFilter, FigureTooLarge, RateTooLow, DelayAboveWanted}
 use Rattle.operator.specs.Metering.{classOf}
 use Rattle.operator.specs.declared.Operator.{Operator}
-use Rattle.sheet.specs.Paths.{Line, valueOf, noPlace, noPath}
-use Rattle.sheet.specs.Sheets.{sheetCases, lineIn}
+use Rattle.sheet.specs.Paths.{Line, noPlace}
+use Rattle.sheet.specs.Forms.{noPath}
+use Rattle.sheet.specs.Sheets.{sheetCases, pathIn, lineIn}
+use Rattle.sheet.specs.declared.Path.{Path}
 use Rattle.sheet.specs.declared.read.Verdict.{Verdict}
 use Rattle.figures.specs.declared.Figure.{Figure}
 use Rattle.figures.specs.declared.PathFigures.{PathFigures}
@@ -75,11 +77,12 @@ unfoldable pub refusedFigures : Refusal → PathFigures
 unfolding noFigure
 refusedFigures why = record { verdict = Verdict.Refused why; path = noPath; figures = replicate 16 noFigure; delay = record { 0 = 0 } }
 
-unfoldable pub acceptedFigures : Line → PathFigures
-acceptedFigures line =
-    record { verdict = Verdict.Accepted; path = valueOf line; figures = listOf (figureIn line) 16; delay = record { 0 = pathDelay line } }
+-- the path that was read, and the figures of the path that it stands for
+unfoldable pub acceptedFigures : Path → Line → PathFigures
+acceptedFigures path line =
+    record { verdict = Verdict.Accepted; path = path; figures = listOf (figureIn line) 16; delay = record { 0 = pathDelay line } }
 
 -- what the figures of a sheet are: 2 to 5 of its fields, then 6 to 9 of its path
 unfoldable pub figuresOf : List ℕ → PathFigures
 unfolding refusedFigures acceptedFigures
-figuresOf sheet = firstOf (sheetCases sheet ++ lineCases (lineIn sheet)) refusedFigures (acceptedFigures (lineIn sheet))
+figuresOf sheet = firstOf (sheetCases sheet ++ lineCases (lineIn sheet)) refusedFigures (acceptedFigures (pathIn sheet) (lineIn sheet))

@@ -14,7 +14,7 @@ use Rattle.quantity.proofs.Laws.{le-largest}
 use Rattle.quantity.proofs.Sums.{every-at, every-holds, every-fails}
 use Rattle.quantity.proofs.Refusals.{NoneStands, none-of-both, none-of-each, none-where-result, firstOf-none}
 use Rattle.sheet.specs.Paths.{Line}
-use Rattle.sheet.specs.Sheets.{sheetCases, lineIn}
+use Rattle.sheet.specs.Sheets.{sheetCases, pathIn, lineIn}
 use Rattle.sheet.specs.declared.read.Verdict.{Verdict}
 use Rattle.sheet.proofs.Accepted.{sheet-line, never-accepted}
 use Rattle.figures.specs.Answers.{lineCases, figuresOf, refusedFigures, acceptedFigures}
@@ -81,7 +81,7 @@ module _ (ledger : Ledger) (records : List Record) (number : ℕ) (sheet : List 
       record {
         numbered = le-largest pathNumberRange number (not-false _ (none .0));
         usable = none .1 .0;
-        planned = ap (λ (f : PathFigures). f .verdict) (firstOf-none refusedFigures (acceptedFigures path) (sheetCases sheet ++ lineCases path) planned);
+        planned = ap (λ (f : PathFigures). f .verdict) (firstOf-none refusedFigures (acceptedFigures (pathIn sheet) path) (sheetCases sheet ++ lineCases path) planned);
         new = new-where (standing .0);
         room = let other = eqb-false (ledger .count) recordCount (standing .1 .0) in let few = usable-ledger ledger records (none .1 .0) .few in omega arith;
         carried = carried-where (none-of-each (sheetCases sheet) (lineCases path) planned .0) (standing .1 .1 .0);

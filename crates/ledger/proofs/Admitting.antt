@@ -25,13 +25,15 @@ use Rattle.quantity.proofs.Sums.{both-true, getD-listOf, total-same, every-same
 use Rattle.operator.specs.Declarations.{declarationInRange}
 use Rattle.operator.specs.Operators.{numberInRange}
 use Rattle.sheet.specs.Bodies.{placeInRange}
-use Rattle.sheet.specs.Paths.{Line, noPlace, standsFor, valueOf}
-use Rattle.sheet.specs.Sheets.{sheetCases, lineIn, placesInRange, lineInRange}
+use Rattle.sheet.specs.declared.Form.{Form}
+use Rattle.sheet.specs.Paths.{Line, noPlace}
+use Rattle.sheet.specs.Forms.{inFull, valueIn}
+use Rattle.sheet.specs.Sheets.{sheetCases, pathIn, lineIn, placesInRange, lineInRange}
 use Rattle.sheet.specs.declared.Place.{Place}
 use Rattle.sheet.specs.declared.Path.{Path}
 use Rattle.sheet.specs.declared.read.Verdict.{Verdict}
 use Rattle.sheet.proofs.Accepted.{sheet-line}
-use Rattle.sheet.proofs.RoundTrip.{value-stands}
+use Rattle.sheet.proofs.Forms.{value-full}
 use Rattle.figures.specs.Answers.{lineCases, pathDelay, refusedFigures, acceptedFigures, figuresOf}
 use Rattle.figures.specs.declared.PathFigures.{PathFigures}
 use Rattle.figures.proofs.Promise.{accepted-figures, accepted-none}
@@ -77,9 +79,9 @@ module _ (line : Line) (inside : lineInRange line ≡ true) where
       (both-true (declarationInRange (line .declaration)) (both (inRange wantedDelayRange (line .wanted)) (placesInRange (line .places))) inside .1) .1
 
   -- its value's links are below sixteen
-  value-links : (k : ℕ) → k < 16 → getD (valueOf line .places) k noPlace .link .0 < linkCount
-  unfolding valueOf
-  value-links k less = rw (getD-take 16 (line .places ++ replicate 16 noPlace) k noPlace less) (links-below (line .places) places-inside 16 k)
+  value-links : (form : Form) (k : ℕ) → k < 16 → getD (valueIn form line .places) k noPlace .link .0 < linkCount
+  unfolding valueIn
+  value-links form k less = rw (getD-take 16 (line .places ++ replicate 16 noPlace) k noPlace less) (links-below (line .places) places-inside 16 k)
 
   pub line-link : (k : ℕ) → linkAt line k < linkCount
   line-link k = subst (λ (places : List Place). getD places k noPlace .link .0 < linkCount) (append-nil (line .places)) (links-below (line .places) places-inside 0 k)
@@ -93,13 +95,13 @@ module _ (line : Line) (inside : lineInRange line ≡ true) where
 
 -- What the code finds of a path's value is what the definitions say of the path.
 
-module _ (line : Line) (path : Path) (same : path ≡ valueOf line) where
+module _ (line : Line) (path : Path) (same : path ≡ valueIn (path .form) line) where
   count-is : path .count ≡ length (line .places)
-  unfolding valueOf
+  unfolding valueIn
   count-is = ap (λ (p : Path). p .count) same
 
   declaration-is : path .declaration ≡ line .declaration
-  unfolding valueOf
+  unfolding valueIn
   declaration-is = ap (λ (p : Path). p .declaration) same
 
   pub reserved-rate : {rate : Rate} → rate .0 ≡ roundUp (path .declaration .quota .0) (path .declaration .interval .0) → rate ≡ record { 0 = rateOf line }
@@ -110,8 +112,8 @@ module _ (line : Line) (path : Path) (same : path ≡ valueOf line) where
     named-link : (link : ℕ) → link < linkCount → getD named link false ≡ namesLink line link
     unfolding namedBy
     named-link link less =
-        let stood : standsFor path ≡ line = ap standsFor same ∙ value-stands line (rw (← count-is) few) in
-        ap (λ (links : List Bool). getD links link false) noted ∙ getD-listOf false (namesLink (standsFor path)) linkCount link less ∙ ap (λ (l : Line). namesLink l link) stood
+        let stood : inFull path ≡ line = ap inFull same ∙ value-full (path .form) line (rw (← count-is) few) in
+        ap (λ (links : List Bool). getD links link false) noted ∙ getD-listOf false (namesLink (inFull path)) linkCount link less ∙ ap (λ (l : Line). namesLink l link) stood
 
     pub named-bits : bitsOf (λ link. getD named link false) linkCount ≡ linksOf line
     unfolding bitsOf linksOf
@@ -137,20 +139,20 @@ module _ (sheet : List ℕ) (accepted : figuresOf sheet .verdict ≡ Verdict.Acc
   pub accepted-inside : lineInRange (lineIn sheet) ≡ true
   accepted-inside = sheet-line sheet (accepted-none sheet accepted .0) .inside
 
-  pub accepted-path : answer .path ≡ valueOf (lineIn sheet)
-  accepted-path = ap (λ (figures : PathFigures). figures .path) answered ∙ accepted-figures sheet accepted .0
+  pub accepted-path : answer .path ≡ valueIn (answer .path .form) (lineIn sheet)
+  accepted-path = rw (ap (λ (figures : PathFigures). figures .path) answered ∙ accepted-figures sheet accepted .0) (sheet-line sheet (accepted-none sheet accepted .0) .value)
 
   pub accepted-delay : answer .delay ≡ record { 0 = pathDelay (lineIn sheet) }
   accepted-delay = ap (λ (figures : PathFigures). figures .delay) answered ∙ ap (λ (n : ℕ). record { 0 = n }) (accepted-figures sheet accepted .1)
 
   pub accepted-decidable : (ledger : Ledger) (records : List Record) → ledgerUnusable ledger records ≡ false → Decidable ledger (answer .path)
-  unfolding valueOf
+  unfolding valueIn
   accepted-decidable ledger records usable =
       rw accepted-path (
         count-few ledger records usable,
         declaration-inside (lineIn sheet) accepted-inside,
         sheet-line sheet (accepted-none sheet accepted .0) .few,
-        value-links (lineIn sheet) accepted-inside,
+        value-links (lineIn sheet) accepted-inside (answer .path .form),
       )
 
 -- 10 to 12.
@@ -201,7 +203,7 @@ module _ (ledger : Ledger) (records : List Record) (number : ℕ) (sheet : List 
       admitting-by : admittingBy (figuresOf sheet .verdict) ≡ admittingOf ledger records number sheet
       unfolding admittingOf figuresOf
       admitting-by =
-          firstOf-map (λ (figures : PathFigures). admittingBy (figures .verdict)) refusedFigures (acceptedFigures (lineIn sheet)) (sheetCases sheet ++ lineCases (lineIn sheet))
+          firstOf-map (λ (figures : PathFigures). admittingBy (figures .verdict)) refusedFigures (acceptedFigures (pathIn sheet) (lineIn sheet)) (sheetCases sheet ++ lineCases (lineIn sheet))
           ∙ sym
           (pick-false _ _ _ (ap not inside) ∙ pick-false _ _ _ usable
           ∙ firstOf-append (refusedAdmitting ledger) (acceptedAdmitting ledger number (lineIn sheet)) (sheetCases sheet ++ lineCases (lineIn sheet)) (standingCases ledger records number (lineIn sheet)))

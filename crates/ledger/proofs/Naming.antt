@@ -17,7 +17,8 @@ use Rattle.quantity.specs.declared.Rate.{Rate}
 use Rattle.quantity.specs.declared.LinkCapacity.{LinkCapacity}
 use Rattle.quantity.proofs.Laws.{pick-true, pick-false, either-second}
 use Rattle.quantity.proofs.Sums.{total-zero, total-next, every-next, listOf-ext, every-same, every-fails}
-use Rattle.sheet.specs.Paths.{noPlace, standsFor}
+use Rattle.sheet.specs.Paths.{noPlace}
+use Rattle.sheet.specs.Forms.{inFull}
 use Rattle.sheet.specs.declared.Place.{Place}
 use Rattle.sheet.specs.declared.Path.{Path}
 use Rattle.ledger.specs.Ledgers.{linkCount}
@@ -92,10 +93,10 @@ module _ (places : List Place) where
 
 -- a path's links, once all its places are noted
 pub noted-all : (path : Path) → path .count ≤ length (path .places) → {named : List Bool} → Noted (path .places) named (path .count) → named ≡ namedBy path
-unfolding namedBy namesLink standsFor
+unfolding namedBy namesLink inFull
 noted-all path whole {named} noted =
     let sized : length (take (path .count) (path .places)) ≡ path .count = length-take-le (path .count) (path .places) whole in
-    listOf-ext false (namesLink (standsFor path)) linkCount named (noted .sized)
+    listOf-ext false (namesLink (inFull path)) linkCount named (noted .sized)
     (λ link less.
     noted .each link less
     ∙ ap not

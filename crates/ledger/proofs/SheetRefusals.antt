@@ -10,9 +10,9 @@ use Rattle.quantity.specs.Choice.{pick}
 use Rattle.quantity.specs.Refusals.{Case, numberOf}
 use Rattle.quantity.specs.declared.refusal.Refusal.{Refusal}
 use Rattle.quantity.proofs.Refusals.{FirstIs}
-use Rattle.sheet.specs.Fields.{Format, declarationFormat, wantedFormat, placeFormat, fieldCases}
+use Rattle.sheet.specs.Fields.{Format, declarationFormat, wantedFormat, placeFormat, houseFormat, fieldCases}
 use Rattle.sheet.specs.Paths.{Line}
-use Rattle.sheet.specs.Sheets.{furtherCases, sheetCases, lineIn, placeLength}
+use Rattle.sheet.specs.Sheets.{furtherCases, fieldsCases, houseCases, inHouseForm, sheetCases, lineIn, placeLength}
 use Rattle.figures.specs.Answers.{operatorCases, operatorsCases, lineCases}
 
 abbrev pub TwoToNine : Refusal → Type 0
@@ -48,10 +48,20 @@ unfolding operatorsCases
 of-operators line zero = tt
 of-operators line (suc n) = each-of-both (operatorsCases line n) (operatorCases line n) (of-operators line n) ((lit≤ tt, lit≤ tt), ((lit≤ tt, lit≤ tt), ((lit≤ tt, lit≤ tt), tt)))
 
+-- a sheet in either form
+of-sheet : (sheet : List ℕ) → Each (sheetCases sheet)
+unfolding sheetCases
+of-sheet sheet = by-form (inHouseForm sheet)
+  where
+    by-form : (house : Bool) → Each (pick house (houseCases sheet) (fieldsCases sheet))
+    by-form true = each-of-both (fieldCases sheet 0 houseFormat) (furtherCases 0 25 sheet) (of-field sheet 0 houseFormat) (of-further 0 25 sheet)
+    by-form false =
+        each-of-both (fieldCases sheet 0 declarationFormat) (fieldCases sheet 10 wantedFormat ++ (fieldCases sheet 17 placeFormat ++ furtherCases 15 26 sheet)) (of-field sheet 0 declarationFormat)
+        (each-of-both (fieldCases sheet 10 wantedFormat) (fieldCases sheet 17 placeFormat ++ furtherCases 15 26 sheet) (of-field sheet 10 wantedFormat)
+        (each-of-both (fieldCases sheet 17 placeFormat) (furtherCases 15 26 sheet) (of-field sheet 17 placeFormat) (of-further 15 26 sheet)))
+
 pub sheet-refusal : (sheet : List ℕ) (why : Refusal) → FirstIs (sheetCases sheet ++ lineCases (lineIn sheet)) why → TwoToNine why
 sheet-refusal sheet why =
     first-of (sheetCases sheet ++ lineCases (lineIn sheet)) why
-    (each-of-both (sheetCases sheet) (lineCases (lineIn sheet))
-    (each-of-both (fieldCases sheet 0 declarationFormat) (fieldCases sheet 10 wantedFormat ++ (fieldCases sheet 17 placeFormat ++ furtherCases 15 26 sheet)) (of-field sheet 0 declarationFormat)
-    (each-of-both (fieldCases sheet 10 wantedFormat) (fieldCases sheet 17 placeFormat ++ furtherCases 15 26 sheet) (of-field sheet 10 wantedFormat) (each-of-both (fieldCases sheet 17 placeFormat) (furtherCases 15 26 sheet) (of-field sheet 17 placeFormat) (of-further 15 26 sheet))))
+    (each-of-both (sheetCases sheet) (lineCases (lineIn sheet)) (of-sheet sheet)
     (each-of-both (operatorsCases (lineIn sheet) (length (lineIn sheet .places))) _ (of-operators (lineIn sheet) (length (lineIn sheet .places))) ((lit≤ tt, lit≤ tt), tt)))

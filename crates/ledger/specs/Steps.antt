@@ -13,7 +13,8 @@ use Rattle.quantity.specs.declared.refusal.Refusal.{Refusal}
 use Rattle.quantity.specs.declared.Rate.{Rate}
 use Rattle.quantity.specs.declared.LinkCapacity.{LinkCapacity}
 use Rattle.operator.specs.Declarations.{declarationInRange}
-use Rattle.sheet.specs.Paths.{Line, standsFor, noPlace}
+use Rattle.sheet.specs.Paths.{Line, noPlace}
+use Rattle.sheet.specs.Forms.{inFull}
 use Rattle.sheet.specs.Sheets.{lineIn}
 use Rattle.sheet.specs.declared.Path.{Path}
 use Rattle.sheet.specs.declared.read.Verdict.{Verdict}
@@ -83,7 +84,7 @@ clearingOf capacities records =
 
 -- the links of a path's operators, and whether a named link is short
 unfoldable pub namedBy : Path → List Bool
-namedBy path = listOf (namesLink (standsFor path)) linkCount
+namedBy path = listOf (namesLink (inFull path)) linkCount
 
 unfoldable pub shortOf : List LinkCapacity → List Rate → (ℕ → Bool) → Rate → Bool
 shortOf capacities reserved named rate =

@@ -27,7 +27,8 @@ ghost use lib.ListN.{getD};
 ghost use Rattle.quantity.specs.Rounding.{roundUp};
 ghost use Rattle.quantity.specs.Refusals.{firstOf};
 ghost use Rattle.operator.specs.Declarations.{declarationInRange};
-ghost use Rattle.sheet.specs.Paths.{Line, noPlace, valueOf};
+ghost use Rattle.sheet.specs.Paths.{Line, noPlace};
+ghost use Rattle.sheet.specs.Forms.{valueIn};
 ghost use Rattle.sheet.specs.Sheets.{lineInRange};
 ghost use Rattle.figures.specs.Answers.{pathDelay};
 ghost use Rattle.ledger.specs.declared.Record.{Record};
@@ -95,7 +96,7 @@ fn decide_standing(
     delay: Slots,
 ) -> Admitting
     requires { ⌜ Decidable ledger path ⌝ }
-    ensures { λ r. ⌜ ((records : List Record) (line : Line) → ledgerUnusable ledger records ≡ false → tested ≡ testedOf ledger records → lineInRange line ≡ true → path ≡ valueOf line → delay ≡ record { 0 = pathDelay line } → r ≡ firstOf (standingCases ledger records (number .0) line) (refusedAdmitting ledger) (acceptedAdmitting ledger (number .0) line)) ⌝ }
+    ensures { λ r. ⌜ ((records : List Record) (line : Line) → ledgerUnusable ledger records ≡ false → tested ≡ testedOf ledger records → lineInRange line ≡ true → path ≡ valueIn (path .form) line → delay ≡ record { 0 = pathDelay line } → r ≡ firstOf (standingCases ledger records (number .0) line) (refusedAdmitting ledger) (acceptedAdmitting ledger (number .0) line)) ⌝ }
 {
     let count = ledger.count;
     let numbers = tested.numbers;

@@ -18,7 +18,7 @@ use Rattle.quantity.proofs.Sums.{both-true, getD-listOf}
 use Rattle.quantity.proofs.Refusals.{NoneStands, none-of-each, none-where-result, firstOf-none, FirstIs, none-or-first, first-answered, first-of-each}
 use Rattle.operator.specs.Declarations.{declarationInRange}
 use Rattle.sheet.specs.Paths.{Line}
-use Rattle.sheet.specs.Sheets.{sheetCases, lineIn, lineInRange, placesInRange}
+use Rattle.sheet.specs.Sheets.{sheetCases, pathIn, lineIn, lineInRange, placesInRange}
 use Rattle.sheet.specs.declared.read.Verdict.{Verdict}
 use Rattle.sheet.proofs.Accepted.{sheet-line, never-accepted}
 use Rattle.figures.specs.declared.Figure.{Figure}
@@ -102,7 +102,7 @@ module _ (sheet words : List ℕ) (accepted : openedOf sheet words .verdict ≡ 
 
   figures-accept : figuresOf sheet .verdict ≡ Verdict.Accepted
   unfolding figuresOf refusedFigures acceptedFigures
-  figures-accept = ap (λ (answer : PathFigures). answer .verdict) (firstOf-none refusedFigures (acceptedFigures path) (sheetCases sheet ++ lineCases path) (opening-stands .1))
+  figures-accept = ap (λ (answer : PathFigures). answer .verdict) (firstOf-none refusedFigures (acceptedFigures (pathIn sheet) path) (sheetCases sheet ++ lineCases path) (opening-stands .1))
 
   passes : Passes path
   unfolding lineInRange

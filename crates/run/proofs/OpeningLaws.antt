@@ -20,8 +20,10 @@ use Rattle.quantity.proofs.Refusals.{firstOf-map}
 use Rattle.sheet.specs.declared.Place.{Place}
 use Rattle.sheet.specs.declared.Path.{Path}
 use Rattle.sheet.specs.declared.read.Verdict.{Verdict}
-use Rattle.sheet.specs.Paths.{Line, valueOf, noPlace}
-use Rattle.sheet.specs.Sheets.{sheetCases, lineIn}
+use Rattle.sheet.specs.declared.Form.{Form}
+use Rattle.sheet.specs.Paths.{Line, noPlace}
+use Rattle.sheet.specs.Forms.{valueIn}
+use Rattle.sheet.specs.Sheets.{sheetCases, pathIn, lineIn}
 use Rattle.sheet.proofs.Accepted.{sheet-line}
 use Rattle.figures.specs.declared.PathFigures.{PathFigures}
 use Rattle.figures.specs.Answers.{operatorAt, lineCases, refusedFigures, acceptedFigures, figuresOf}
@@ -71,21 +73,21 @@ module _ (line : Line) where
         | no inside ↦ List·getD-append (line .places) (replicate mostOperators noPlace) noPlace k (lt-of-not-le inside)
       ]
 
-  value-place : (k : ℕ) → k < mostOperators → getD (valueOf line .places) k noPlace ≡ getD (line .places) k noPlace
-  unfolding valueOf
-  value-place k less = getD-take mostOperators (line .places ++ replicate mostOperators noPlace) k noPlace less ∙ filled k less
+  value-place : (form : Form) (k : ℕ) → k < mostOperators → getD (valueIn form line .places) k noPlace ≡ getD (line .places) k noPlace
+  unfolding valueIn
+  value-place form k less = getD-take mostOperators (line .places ++ replicate mostOperators noPlace) k noPlace less ∙ filled k less
 
-  module _ (path : Path) (same : path ≡ valueOf line) where
+  module _ (path : Path) (same : path ≡ valueIn (path .form) line) where
     declaration-same : path .declaration ≡ line .declaration
-    unfolding valueOf
+    unfolding valueIn
     declaration-same = ap (λ (p : Path). p .declaration) same
 
     count-same : path .count ≡ length (line .places)
-    unfolding valueOf
+    unfolding valueIn
     count-same = ap (λ (p : Path). p .count) same
 
     place-same : (k : ℕ) → k < mostOperators → getD (path .places) k noPlace ≡ getD (line .places) k noPlace
-    place-same k less = ap (λ (p : Path). getD (p .places) k noPlace) same ∙ value-place k less
+    place-same k less = ap (λ (p : Path). getD (p .places) k noPlace) same ∙ value-place (path .form) k less
 
     stages-same : {stages : List Stage} → Staged (path .places) stages mostOperators → stages ≡ listOf (newStage line) mostOperators
     unfolding newStage operatorAt
@@ -126,13 +128,13 @@ module _ (sheet : List ℕ) (words : List ℕ) where
     opened-by : openedBy (lineIn sheet) (figuresOf sheet .verdict) ≡ openedOf sheet words
     unfolding openedOf figuresOf refusedOpening
     opened-by =
-        firstOf-map (λ (figures : PathFigures). openedBy (lineIn sheet) (figures .verdict)) refusedFigures (acceptedFigures (lineIn sheet)) (sheetCases sheet ++ lineCases (lineIn sheet))
+        firstOf-map (λ (figures : PathFigures). openedBy (lineIn sheet) (figures .verdict)) refusedFigures (acceptedFigures (pathIn sheet) (lineIn sheet)) (sheetCases sheet ++ lineCases (lineIn sheet))
         ∙ sym (pick-false _ _ _ passed)
 
     words-by : wordsBy words (figuresOf sheet .verdict) ≡ wordsOpened sheet words
     unfolding wordsOpened figuresOf
     words-by =
-        firstOf-map (λ (figures : PathFigures). wordsBy words (figures .verdict)) refusedFigures (acceptedFigures (lineIn sheet)) (sheetCases sheet ++ lineCases (lineIn sheet))
+        firstOf-map (λ (figures : PathFigures). wordsBy words (figures .verdict)) refusedFigures (acceptedFigures (pathIn sheet) (lineIn sheet)) (sheetCases sheet ++ lineCases (lineIn sheet))
         ∙ sym (pick-false _ _ _ passed)
 
     pub opening-refused : {why : Refusal} → figuresOf sheet .verdict ≡ Verdict.Refused why → Opening (refusedOpening why) words
@@ -148,5 +150,5 @@ module _ (sheet : List ℕ) (words : List ℕ) where
 pub accepted-few : (sheet : List ℕ) → figuresOf sheet .verdict ≡ Verdict.Accepted → length (lineIn sheet .places) ≤ mostOperators
 accepted-few sheet accepted = sheet-line sheet (accepted-none sheet accepted .0) .few
 
-pub accepted-path : (sheet : List ℕ) → figuresOf sheet .verdict ≡ Verdict.Accepted → figuresOf sheet .path ≡ valueOf (lineIn sheet)
-accepted-path sheet accepted = accepted-figures sheet accepted .0
+pub accepted-path : (sheet : List ℕ) → figuresOf sheet .verdict ≡ Verdict.Accepted → {answer : PathFigures} → answer ≡ figuresOf sheet → answer .path ≡ valueIn (answer .path .form) (lineIn sheet)
+accepted-path sheet accepted answered = rw (ap (λ (figures : PathFigures). figures .path) answered ∙ accepted-figures sheet accepted .0) (sheet-line sheet (accepted-none sheet accepted .0) .value)

@@ -17,7 +17,8 @@ ghost use mathlib.Core.Path.{_≡_};
 ghost use Prim.Native.Nat.{_≤_};
 ghost use lib.ListN.{length};
 ghost use Rattle.quantity.specs.Sums.{listOf};
-ghost use Rattle.sheet.specs.Paths.{Line, valueOf};
+ghost use Rattle.sheet.specs.Paths.{Line};
+ghost use Rattle.sheet.specs.Forms.{valueIn};
 ghost use Rattle.run.specs.Runs.{mostOperators};
 ghost use Rattle.run.specs.Opening.{newRun, noRun, refusedOpening, openedOf, wordsOpened};
 
@@ -61,7 +62,7 @@ fn clear(words: &mut [u32])
 
 // The run of a path before its first slot. The places behind a path's operators are empty, and so are the stages.
 fn new_run(path: Path) -> Run
-    ensures { λ r. ⌜ ((line : Line) → length (line .places) ≤ mostOperators → path ≡ valueOf line → r ≡ newRun line) ⌝ }
+    ensures { λ r. ⌜ ((line : Line) → length (line .places) ≤ mostOperators → path ≡ valueIn (path .form) line → r ≡ newRun line) ⌝ }
 {
     let places = path.places;
     let none = no_stage();

@@ -4,9 +4,10 @@ use mathlib.Core.Path.{_≡_, sym, ap, _∙_}
 use mathlib.Core.List.{List, _++_}
 use Rattle.quantity.specs.Refusals.{Case, firstOf}
 use Rattle.quantity.proofs.Refusals.{firstOf-append, firstOf-map}
-use Rattle.sheet.specs.Paths.{valueOf}
+use Rattle.sheet.specs.Forms.{valueIn}
 use Rattle.sheet.specs.Fields.{declarationFormat, wantedFormat, placeFormat, fieldCases}
-use Rattle.sheet.specs.Sheets.{declarationAt, wantedAt, placesAt, placeLength, furtherCases, lineIn, refusedRead, readSheet}
+use Rattle.sheet.specs.Sheets.{declarationAt, wantedAt, placesAt, placeLength, furtherCases, fieldsLine, refusedRead, readFields}
+use Rattle.sheet.specs.declared.Form.{Form}
 use Rattle.sheet.specs.declared.read.Verdict.{Verdict}
 use Rattle.sheet.specs.declared.read.ReadSheet.{ReadSheet}
 use Rattle.sheet.specs.declared.read.ReadHead.{ReadHead}
@@ -18,15 +19,15 @@ module _ (sheet : List ℕ) where
   headCases = fieldCases sheet declarationAt declarationFormat ++ fieldCases sheet wantedAt wantedFormat
 
   abbrev pub headIn : ReadHead
-  headIn = ReadHead.Fits (record { declaration = lineIn sheet .declaration; wanted = record { 0 = lineIn sheet .wanted } })
+  headIn = ReadHead.Fits (record { declaration = fieldsLine sheet .declaration; wanted = record { 0 = fieldsLine sheet .wanted } })
 
   abbrev pub afterHead : ReadHead → ReadSheet
   afterHead (ReadHead.Refused why) = refusedRead why
   afterHead (ReadHead.Fits head) = dueAt sheet (head .declaration) (head .wanted) 15 placesAt
 
-  pub head-answer : {head found : ReadHead} → head ≡ firstOf headCases ReadHead.Refused headIn → head ≡ found → readSheet sheet ≡ afterHead found
-  unfolding readSheet lineIn
+  pub head-answer : {head found : ReadHead} → head ≡ firstOf headCases ReadHead.Refused headIn → head ≡ found → readFields sheet ≡ afterHead found
+  unfolding readFields fieldsLine
   head-answer read e =
-      firstOf-append refusedRead (record { verdict = Verdict.Accepted; path = valueOf (lineIn sheet) }) headCases (fieldCases sheet placesAt placeFormat ++ furtherCases 15 (placesAt + placeLength) sheet)
+      firstOf-append refusedRead (record { verdict = Verdict.Accepted; path = valueIn Form.Fields (fieldsLine sheet) }) headCases (fieldCases sheet placesAt placeFormat ++ furtherCases 15 (placesAt + placeLength) sheet)
       ∙ sym (firstOf-map afterHead ReadHead.Refused headIn headCases)
       ∙ ap afterHead (sym read ∙ e)

@@ -1,5 +1,9 @@
 mod Numbers
 mod Bodies
+pub mod Forms
+pub mod HouseLaws
+mod ProfileLaws
+mod Filling
 mod Fields
 mod Places
 pub mod Accepted
@@ -7,6 +11,7 @@ mod Sheets
 pub mod RoundTrip
 mod PlacesRead
 mod HeadRead
+mod HouseRead
 mod AnswerLaws
 mod ReadLaws
 mod SheetWritten

@@ -6,7 +6,7 @@ use native.Mathlib.Nat.{pow-suc, one-le-pow, add-mul, mul-assoc, mul-comm, mul-l
 use native.Mathlib.Decide.{decLt}
 use native.Mathlib.Omega.{arith}
 use lib.ListN.{length, getD, take, drop, length-take, length-drop, take-append-drop, List·getD-eq-default}
-use lib.Seq.{getD-take, getD-drop, take-all, drop-drop}
+use lib.Seq.{getD-take, getD-drop, take-all, take-add, drop-drop}
 use Rattle.sheet.specs.Numbers.{numberOf, bytesOf}
 use Rattle.sheet.specs.Bodies.{part}
 
@@ -42,6 +42,11 @@ drop-last at width bytes size = sym (take-all width (drop at bytes) (simp length
 pub drop-part : (at width : ℕ) (bytes : List ℕ) → drop at bytes ≡ part at width bytes ++ drop (at + width) bytes
 unfolding part
 drop-part at width bytes = sym (ap (λ (rest : List ℕ). part at width bytes ++ rest) (sym (drop-drop width at bytes)) ∙ take-append-drop width (drop at bytes))
+
+-- two parts one behind the other are one
+pub part-join : (at width more : ℕ) (bytes : List ℕ) → part at width bytes ++ part (at + width) more bytes ≡ part at (width + more) bytes
+unfolding part
+part-join at width more bytes = ap (λ (rest : List ℕ). take width (drop at bytes) ++ take more rest) (sym (drop-drop width at bytes)) ∙ sym (take-add width more (drop at bytes))
 
 -- a remainder by P * 256 is the next byte's worth of P and the remainder by P
 mod-split : (P n : ℕ) → 1 ≤ P → n / P % 256 * P + n % P ≡ n % (P * 256)

@@ -43,7 +43,7 @@ module _ (sheet : List ℕ) where
   unfolding placesFrom
   places-begun more at h = rw (lt-leb (length sheet) at h)
 
-  further-ended : (more at : ℕ) → at ≡ length sheet → furtherCases more at sheet ≡ []
+  pub further-ended : (more at : ℕ) → at ≡ length sheet → furtherCases more at sheet ≡ []
   unfolding furtherCases
   further-ended zero at e = rw (eq-eqb at (length sheet) e)
   further-ended (suc more) at e = rw (eq-eqb at (length sheet) e)

@@ -16,14 +16,17 @@ use Rattle.quantity.specs.declared.refusal.Refusal.the-variants.{OutOfRange}
 use Rattle.operator.specs.declared.Declaration.{Declaration}
 use Rattle.quantity.specs.declared.WantedDelay.{WantedDelay}
 use Rattle.sheet.specs.declared.Place.{Place}
+use Rattle.sheet.specs.declared.Form.{Form}
 use Rattle.sheet.specs.declared.Path.{Path}
 use Rattle.sheet.specs.declared.read.Verdict.{Verdict}
 use Rattle.sheet.specs.declared.read.ReadSheet.{ReadSheet}
 use Rattle.sheet.specs.declared.read.Due.{Due}
-use Rattle.sheet.specs.Paths.{valueOf, noPlace}
+use Rattle.sheet.specs.Paths.{noPlace}
+use Rattle.sheet.specs.Forms.{valueIn}
 use Rattle.sheet.specs.Bodies.{placeIn, placeFits}
 use Rattle.sheet.specs.Fields.{placeFormat, bodyAt, fieldCases}
 use Rattle.sheet.specs.Sheets.{placesAt, placesFrom, furtherCases, refusedRead}
+use Rattle.sheet.proofs.Filling.{filled}
 use Rattle.sheet.proofs.ReadLaws.{any, after, judged-answer, field-refused, field-outside, field-passed, field-inside}
 
 -- `count` operators are read and stored, and `more` places are left
@@ -65,16 +68,6 @@ placesFrom-end sheet zero at h = refl
 placesFrom-end sheet (suc more) at (inl none) = absurd (omega arith)
 placesFrom-end sheet (suc more) at (inr end) = rw (le-leb (length sheet) at (omega arith))
 
--- the first sixteen of some operators and of empty places behind them
-filled : (done : List Place) (more : ℕ) → length done + more ≡ 16 → take 16 (done ++ replicate 16 noPlace) ≡ done ++ replicate more noPlace
-filled done more room =
-    ap (λ (n : ℕ). take n (done ++ replicate 16 noPlace)) (sym room)
-    ∙ take-append-add done (replicate 16 noPlace) more
-    ∙ ap (λ (rest : List Place). done ++ rest) (
-    ap (λ (n : ℕ). take more (replicate n noPlace)) (sym room ∙ add-comm (length done) more)
-    ∙ ap (take more) (sym (replicate-append-replicate more (length done) noPlace))
-    ∙ take-at (replicate more noPlace) (replicate (length done) noPlace) more (length-replicate more noPlace))
-
 -- the first places are emptied in turn, and then all are empty
 module _ (places : List Place) where
   pub emptied-next : (k : ℕ) → k < length places → set (replicate k noPlace ++ drop k places) k noPlace ≡ replicate (k + 1) noPlace ++ drop (k + 1) places
@@ -92,18 +85,18 @@ module _ (places : List Place) where
 
 -- no operator is left: the path's value is made of what is stored
 reached-end : (sheet : List ℕ) (places : List Place) (count more at : ℕ) (declaration : Declaration) (wanted : WantedDelay) → (more ≡ 0) ⊎ (at ≡ length sheet) → Reached sheet places count more at
-    → _≡_ {A = Path} (record { declaration = declaration; wanted = wanted; count = count; places = places }) (valueOf (record { declaration = declaration; wanted = wanted .0; places = placesFrom 16 placesAt sheet }))
-unfolding valueOf
+    → _≡_ {A = Path} (record { form = Form.Fields; declaration = declaration; wanted = wanted; count = count; places = places }) (valueIn Form.Fields (record { declaration = declaration; wanted = wanted .0; places = placesFrom 16 placesAt sheet }))
+unfolding valueIn
 reached-end sheet places count more at declaration wanted end r =
     let whole : placesFrom 16 placesAt sheet ≡ r .done = r .all ∙ rw (placesFrom-end sheet more at end) (append-nil (r .done)) in
     let number : length (placesFrom 16 placesAt sheet) ≡ count = ap length whole ∙ r .counted in
-    let kept : take 16 (placesFrom 16 placesAt sheet ++ replicate 16 noPlace) ≡ places = rw whole (filled (r .done) more (omega arith) ∙ sym (r .stored)) in
+    let kept : take 16 (placesFrom 16 placesAt sheet ++ replicate 16 noPlace) ≡ places = rw whole (filled noPlace 16 (r .done) more (omega arith) ∙ sym (r .stored)) in
     rw (number, kept)
 
 module _ (sheet : List ℕ) (declaration : Declaration) (wanted : WantedDelay) where
   -- what is answered of a sheet that is not refused
   abbrev pub accepted : ReadSheet
-  accepted = record { verdict = Verdict.Accepted; path = valueOf (record { declaration = declaration; wanted = wanted .0; places = placesFrom 16 placesAt sheet }) }
+  accepted = record { verdict = Verdict.Accepted; path = valueIn Form.Fields (record { declaration = declaration; wanted = wanted .0; places = placesFrom 16 placesAt sheet }) }
 
   -- what is answered where an operator is due and `more` may follow it
   abbrev pub dueAt : ℕ → ℕ → ReadSheet
@@ -169,7 +162,7 @@ module _ (sheet : List ℕ) (declaration : Declaration) (wanted : WantedDelay) w
     -- none is due any more: what lies behind the last decides
     module _ (last : (count ≡ 16) ⊎ (at ≡ length sheet)) {behind : Due} (ended : behind ≡ firstOf (furtherCases 0 at sheet) Due.Refused Due.Whole) where
       abbrev stored : ReadSheet
-      stored = record { verdict = Verdict.Accepted; path = record { declaration = declaration; wanted = wanted; count = count; places = places } }
+      stored = record { verdict = Verdict.Accepted; path = record { form = Form.Fields; declaration = declaration; wanted = wanted; count = count; places = places } }
 
       reading-end : {found : Due} → behind ≡ found → dueAt 15 placesAt ≡ after refusedRead stored found
       reading-end e =

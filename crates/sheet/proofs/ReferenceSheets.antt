@@ -1,31 +1,60 @@
--- Path values that no sheet has, and lent bytes of a wrong length, as one table that is computed from the definitions: what writing answers, and the bytes around a sheet's end.
+-- Path values that no sheet has, lent bytes of a wrong length and house profiles, as tables that are computed from the definitions: what writing answers, and the bytes around a sheet's end; a house profile written and read.
 use mathlib.Core.Path.{_≡_, refl}
-use mathlib.Core.List.{List, [], _∷_}
+use mathlib.Core.List.{List, [], _∷_, _++_, map}
 use Prim.Native.Nat.{ℕ}
-use lib.ListN.{getD, replicate}
+use lib.ListN.{getD, take, replicate}
 use Rattle.quantity.specs.Ranges.{inRange}
 use Rattle.quantity.specs.Refusals.{numberOf, placeOf}
-use Rattle.operator.specs.Operators.{numberInRange, compactor, delayer}
+use Rattle.quantity.specs.Rounding.{roundUp}
+use Rattle.quantity.specs.Sums.{listOf}
+use Rattle.operator.specs.Operators.{numberInRange, compactor, filter, delayer}
 use Rattle.operator.specs.Declarations.{declarationInRange}
 use Rattle.operator.specs.declared.Kind.{Kind}
 use Rattle.operator.specs.declared.Operator.{Operator}
+use Rattle.sheet.specs.declared.Place.{Place}
+use Rattle.sheet.specs.declared.House.{House}
+use Rattle.sheet.specs.declared.Form.{Form}
 use Rattle.sheet.specs.declared.Path.{Path}
+use Rattle.sheet.specs.declared.read.Verdict.{Verdict}
 use Rattle.sheet.specs.declared.write.Written.{Written}
+use Rattle.sheet.specs.Numbers as number
 use Rattle.sheet.specs.Numbers.{bytesOf}
-use Rattle.sheet.specs.Paths.{standsFor, noPlace}
-use Rattle.sheet.specs.Bodies.{kindByte, declarationBody, wantedBody, operatorByte, operatorNumber, placeBody, placeInRange}
-use Rattle.sheet.specs.Fields.{fieldOf}
-use Rattle.sheet.specs.Sheets.{placeFields, sheetOf, placesInRange, lineInRange, writeAnswer, behindSheet, bytesAfter}
+use Rattle.sheet.specs.Paths.{noPlace}
+use Rattle.sheet.specs.Bodies.{part, kindByte, declarationBody, wantedBody, operatorByte, operatorNumber, placeBody, placeInRange}
+use Rattle.sheet.specs.House.{houseIn, houseBody, delayerSlots, houseInRange, houseFits, houseLine}
+use Rattle.sheet.specs.Forms.{inFull, standsFor, houseValue, noPath}
+use Rattle.sheet.specs.Fields.{fieldOf, bodyAt, fieldMissing, headerCutOff, fieldUnexpected, bodyCutOff, bodyOutOfRange}
+use Rattle.sheet.specs.Sheets.{furtherCases, inHouseForm, sheetCases, pathIn, lineIn, readSheet, placeFields, sheetOf, placesInRange, lineInRange, sheetOfPath, writeCases, writeAnswer, behindSheet, bytesAfter}
 
 -- a path of smooth (m, 30), its delay wanted, its count and an operator on link 0
 abbrev pub path : ℕ → ℕ → ℕ → Operator → Path
 path m wanted count operator =
     record {
+      form = Form.Fields;
       declaration = record { kind = Kind.Smooth; interval = record { 0 = m }; quota = record { 0 = 30 } };
       wanted = record { 0 = wanted };
       count = count;
       places = record { operator = operator; link = record { 0 = 0 } } ∷ replicate 15 noPlace;
     }
+
+-- document 02, item 2: a profile of so many hops, smooth (10, 30), delay wanted 60, R 3, L 1, X 2 and C 100
+abbrev pub profile : ℕ → ℕ → House
+profile which hops =
+    record {
+      profile = which;
+      hops = record { 0 = hops };
+      wanted = record { 0 = 60 };
+      interval = record { 0 = 10 };
+      quota = record { 0 = 30 };
+      rate = record { 0 = 3 };
+      own = record { 0 = 1 };
+      longest = record { 0 = 2 };
+      carrying = record { 0 = 100 };
+    }
+
+-- the profile's value with an empty path beside it, which does not count
+abbrev pub inHouse : House → Path
+inHouse h = record { form = Form.House h; declaration = noPath .declaration; wanted = noPath .wanted; count = noPath .count; places = noPath .places }
 
 -- what writing into so many bytes of 7 answers, and bytes 25 and 26 then
 pub data Outcome : Type 0 where
@@ -55,6 +84,13 @@ computed =
     ∷ into 256 (path 10 30 1 (delayer 65))
     -- 3 before 5
     ∷ into 256 (path 0 30 17 (compactor 10))
+    -- a house profile of 25 bytes, and 255 lent
+    ∷ into 256 (inHouse (profile 2 3))
+    ∷ into 255 (inHouse (profile 2 3))
+    -- six hops, an unknown profile, and numbers that a profile does not use
+    ∷ into 256 (inHouse (profile 2 6))
+    ∷ into 256 (inHouse (profile 3 3))
+    ∷ into 256 (inHouse (profile 1 3))
     ∷ []
 
 pub expected : List Outcome
@@ -68,8 +104,51 @@ expected =
     ∷ refused 5 0 (7 ∷ 7 ∷ [])
     ∷ refused 5 0 (7 ∷ 7 ∷ [])
     ∷ refused 3 0 (7 ∷ 7 ∷ [])
+    ∷ written 25 (7 ∷ 7 ∷ [])
+    ∷ refused 1 0 (7 ∷ 7 ∷ [])
+    ∷ refused 5 0 (7 ∷ 7 ∷ [])
+    ∷ refused 5 0 (7 ∷ 7 ∷ [])
+    ∷ refused 5 0 (7 ∷ 7 ∷ [])
     ∷ []
 
 pub reference-sheets : computed ≡ expected
-unfolding computed expected inRange numberInRange declarationInRange bytesOf standsFor kindByte declarationBody wantedBody operatorByte operatorNumber placeBody placeInRange fieldOf placeFields sheetOf placesInRange lineInRange writeAnswer behindSheet bytesAfter
+unfolding computed expected inRange roundUp numberInRange declarationInRange bytesOf inFull standsFor kindByte declarationBody wantedBody operatorByte operatorNumber placeBody placeInRange houseBody delayerSlots houseInRange fieldOf placeFields sheetOf placesInRange lineInRange sheetOfPath writeCases writeAnswer behindSheet bytesAfter
 reference-sheets = refl
+
+-- profile 2 of three hops, written and read
+abbrev pub house : House
+house = profile 2 3
+
+abbrev pub houseSheet : List ℕ
+houseSheet = 4 ∷ 0 ∷ 22 ∷ 2 ∷ 3 ∷ 0 ∷ 0 ∷ 0 ∷ 60 ∷ 0 ∷ 10 ∷ 0 ∷ 0 ∷ 0 ∷ 30 ∷ 0 ∷ 0 ∷ 0 ∷ 3 ∷ 0 ∷ 1 ∷ 0 ∷ 2 ∷ 0 ∷ 100 ∷ []
+
+pub house-sheet : take 27 (bytesAfter (houseValue house) (replicate 256 7)) ≡ houseSheet ++ (7 ∷ 7 ∷ [])
+unfolding inRange roundUp bytesOf houseBody delayerSlots houseInRange houseValue fieldOf sheetOfPath writeCases bytesAfter
+house-sheet = refl
+
+pub house-read : readSheet houseSheet ≡ record { verdict = Verdict.Accepted; path = houseValue house }
+unfolding inRange roundUp number.numberOf part houseIn delayerSlots houseInRange houseFits bodyAt fieldMissing headerCutOff fieldUnexpected bodyCutOff bodyOutOfRange furtherCases inHouseForm sheetCases pathIn readSheet
+house-read = refl
+
+-- a filter and a delayer of ⌈106/300⌉ slots at each hop
+abbrev pub placed : Operator → ℕ → Place
+placed operator link = record { operator = operator; link = record { 0 = link } }
+
+pub house-path : lineIn houseSheet ≡ record {
+  declaration = record { kind = Kind.Smooth; interval = record { 0 = 10 }; quota = record { 0 = 30 } };
+  wanted = 60;
+  places = placed (filter 3) 0 ∷ placed (delayer 1) 0 ∷ placed (filter 3) 1 ∷ placed (delayer 1) 1 ∷ placed (filter 3) 2 ∷ placed (delayer 1) 2 ∷ [];
+}
+unfolding roundUp listOf number.numberOf part houseIn delayerSlots houseLine bodyAt inHouseForm pathIn standsFor houseValue lineIn
+house-path = refl
+
+-- the number and place of what stands against a sheet
+abbrev pub against : Verdict → List ℕ
+against Verdict.Accepted = []
+against (Verdict.Refused why) = numberOf why ∷ placeOf why ∷ []
+
+-- behind the field a byte, and a field; its body and its first bytes cut off; a length of 7
+pub house-refusals : map (λ sheet. against (readSheet sheet .verdict)) ((houseSheet ++ (3 ∷ [])) ∷ (houseSheet ++ (3 ∷ 0 ∷ 6 ∷ [])) ∷ take 24 houseSheet ∷ take 2 houseSheet ∷ (4 ∷ 0 ∷ 7 ∷ []) ∷ [])
+    ≡ (2 ∷ 25 ∷ []) ∷ (3 ∷ 25 ∷ []) ∷ (4 ∷ 0 ∷ []) ∷ (2 ∷ 0 ∷ []) ∷ (3 ∷ 0 ∷ []) ∷ []
+unfolding inRange roundUp number.numberOf part houseIn delayerSlots houseInRange houseFits bodyAt fieldMissing headerCutOff fieldUnexpected bodyCutOff bodyOutOfRange furtherCases inHouseForm sheetCases readSheet
+house-refusals = refl

@@ -1,40 +1,52 @@
--- A whole sheet: what is written of a line in range is accepted and read as that line; an accepted sheet is what is written of the line in it; and what the writer answers where it does not refuse.
+-- A whole sheet, in either form: what is written of a path in range is accepted and read as that path; an accepted sheet is what is written of the path in it; and what the writer answers where it does not refuse.
 use Prim.Native.Nat.{ℕ, _≤_, _<_}
 use mathlib.Core.Path.{_≡_, refl, sym, ap, subst, _∙_}
-use mathlib.Core.Bool.{Bool, true, false, true≢false}
-use mathlib.Core.List.{List, _++_, append-assoc}
+use mathlib.Core.Bool.{Bool, true, false}
+use mathlib.Core.List.{List, [], _++_, append-assoc, append-nil}
+use mathlib.Core.Logic.{_≢_, ⊎-elim}
 use native.Mathlib.Omega.{arith}
 use lib.ListN.{length, take, drop}
-use lib.Seq.{take-append-seam}
-use Rattle.quantity.specs.Choice.{both, either}
+use lib.Seq.{length-take-le, take-append-seam}
+use lib.Dec.{ltb, eqb}
+use borrow.Author.Tests.{eqb-false, ltb-false, not-false, eq-eqb, ne-eqb, le-ltb}
+use Rattle.quantity.specs.Choice.{both}
 use Rattle.quantity.specs.Ranges.{inRange, wantedDelayRange}
 use Rattle.quantity.specs.declared.refusal.Refusal.{Refusal}
+use Rattle.quantity.proofs.Laws.{either-false}
 use Rattle.quantity.proofs.Sums.{both-true}
+use Rattle.quantity.proofs.Refusals.{NoneStands, none-of-both, none-of-each, firstOf-none, none-where-result}
 use Rattle.operator.specs.Declarations.{declarationInRange}
+use Rattle.sheet.specs.declared.House.{House}
+use Rattle.sheet.specs.declared.Form.{Form}
 use Rattle.sheet.specs.declared.Path.{Path}
 use Rattle.sheet.specs.declared.read.Verdict.{Verdict}
 use Rattle.sheet.specs.declared.read.ReadSheet.{ReadSheet}
 use Rattle.sheet.specs.declared.write.Written.{Written}
-use Rattle.sheet.specs.Paths.{Line, standsFor, valueOf, noPath}
+use Rattle.sheet.specs.Paths.{Line}
 use Rattle.sheet.specs.Bodies.{declarationIn, wantedIn, declarationBody, wantedBody}
-use Rattle.sheet.specs.Fields.{declarationFormat, wantedFormat, placeFormat, fieldOf, bodyAt, fieldCases}
-use Rattle.sheet.specs.Sheets.{sheetCases, furtherCases, lineIn, readSheet, placeFields, placesInRange, sheetOf, lineInRange, writeCases, writeAnswer, bytesAfter}
+use Rattle.sheet.specs.House.{houseIn, houseBody, houseInRange}
+use Rattle.sheet.specs.Forms.{inFull, standsFor, valueIn, houseValue, noPath}
+use Rattle.sheet.specs.Fields.{declarationFormat, wantedFormat, placeFormat, houseFormat, fieldOf, bodyAt, fieldCases}
+use Rattle.sheet.specs.Sheets.{fieldsCases, houseCases, inHouseForm, sheetCases, furtherCases, placesFrom, fieldsLine, pathIn, readSheet, placeFields, placesInRange, sheetOf, lineInRange, sheetOfPath, writeCases, writeAnswer, bytesAfter}
 use Rattle.sheet.proofs.Numbers.{AreBytes}
-use Rattle.quantity.proofs.Refusals.{NoneStands, none-of-both, none-of-each, firstOf-none, none-where-result}
 use Rattle.sheet.proofs.Bodies.{length-declarationBody, declaration-read, declaration-fits, declaration-written, length-wantedBody, wanted-read, wanted-fits, wanted-written}
+use Rattle.sheet.proofs.Forms.{value-full, either-form, stands-in-fields, sheet-in-fields, refusals-in-fields, stands-in-house, sheet-in-house, refusals-in-house, cases-in-house, path-in-house, cases-in-fields, path-in-fields}
+use Rattle.sheet.proofs.HouseLaws.{length-houseBody, house-read, house-fits, house-written, house-stands}
 use Rattle.sheet.proofs.Fields.{field-read, field-accepted, field-written}
-use Rattle.sheet.proofs.Places.{length-placeFields, further-begun, places-read, places-written}
-use Rattle.sheet.proofs.Accepted.{sheet-line, never-accepted}
+use Rattle.sheet.proofs.Places.{length-placeFields, further-begun, further-ended, places-read, places-written}
+use Rattle.sheet.proofs.Accepted.{fields-line, profile-inside, never-accepted}
 
--- a sheet's cases where its first operator has begun
-sheet-cases : (sheet : List ℕ) → 17 < length sheet → fieldCases sheet 0 declarationFormat ++ (fieldCases sheet 10 wantedFormat ++ furtherCases 16 17 sheet) ≡ sheetCases sheet
-sheet-cases sheet begun = rw (further-begun sheet 15 17 begun)
+-- fields 01, 02 and 03
+
+-- their cases where the first operator has begun
+begun-cases : (sheet : List ℕ) → 17 < length sheet → fieldCases sheet 0 declarationFormat ++ (fieldCases sheet 10 wantedFormat ++ furtherCases 16 17 sheet) ≡ fieldsCases sheet
+begun-cases sheet begun = rw (further-begun sheet 15 17 begun)
 
 -- a line as it is written is accepted, and read as it is
-pub line-read : (line : Line) → 1 ≤ length (line .places) → length (line .places) ≤ 16 → lineInRange line ≡ true
-    → NoneStands (sheetCases (sheetOf line)) × (lineIn (sheetOf line) ≡ line)
-unfolding lineInRange sheetOf lineIn
-line-read line some few inside =
+fields-read : (line : Line) → 1 ≤ length (line .places) → length (line .places) ≤ 16 → lineInRange line ≡ true
+    → NoneStands (fieldsCases (sheetOf line)) × (fieldsLine (sheetOf line) ≡ line)
+unfolding lineInRange sheetOf fieldsLine
+fields-read line some few inside =
     let sheet = sheetOf line in
     let declared = line .declaration in
     let wanted = line .wanted in
@@ -50,25 +62,18 @@ line-read line some few inside =
     let third = places-read sheet 16 17 places few (omega arith) (sym (second .behind), places-inside) in
     let declared-read = ap declarationIn (first .read) ∙ declaration-read declared declared-inside in
     let wanted-read = ap wantedIn (second .read) ∙ wanted-read wanted wanted-in in (
-      subst NoneStands (sheet-cases sheet (omega (arith, length-placeFields places)))
+      subst NoneStands (begun-cases sheet (omega (arith, length-placeFields places)))
           (none-of-both (fieldCases sheet 0 declarationFormat) (fieldCases sheet 10 wantedFormat ++ furtherCases 16 17 sheet) (first .stands)
           (none-of-both (fieldCases sheet 10 wantedFormat) (furtherCases 16 17 sheet) (second .stands) (third .0))),
       λ i. record { declaration = declared-read i; wanted = wanted-read i; places = third .1 i },
     )
 
--- an accepted sheet is what is written of the line that it is read as
-pub record SheetWritten (sheet : List ℕ) : Type 0 where
-  pub some : 1 ≤ length (lineIn sheet .places)
-  pub few : length (lineIn sheet .places) ≤ 16
-  pub inside : lineInRange (lineIn sheet) ≡ true
-  pub written : sheetOf (lineIn sheet) ≡ sheet
-
-pub sheet-written : (sheet : List ℕ) → AreBytes sheet → NoneStands (sheetCases sheet) → SheetWritten sheet
-unfolding sheetOf lineIn
-sheet-written sheet each stands =
+-- and accepted fields are what is written of the line that they are read as
+fields-written : (sheet : List ℕ) → AreBytes sheet → NoneStands (fieldsCases sheet) → sheetOf (fieldsLine sheet) ≡ sheet
+unfolding sheetOf fieldsLine
+fields-written sheet each stands =
     let (first-stands, others) = none-of-each (fieldCases sheet 0 declarationFormat) (fieldCases sheet 10 wantedFormat ++ (fieldCases sheet 17 placeFormat ++ furtherCases 15 26 sheet)) stands in
     let (second-stands, third-stands) = none-of-each (fieldCases sheet 10 wantedFormat) (fieldCases sheet 17 placeFormat ++ furtherCases 15 26 sheet) others in
-    let line = sheet-line sheet stands in
     let first = field-accepted sheet 0 declarationFormat first-stands in
     let first-bytes = field-written sheet 0 declarationFormat each first-stands in
     let second = field-accepted sheet 10 wantedFormat second-stands in
@@ -78,16 +83,131 @@ sheet-written sheet each stands =
     let written = places-written sheet 16 17 each (omega arith) (rw (further-begun sheet 15 17 begun) third-stands) in
     let declared = declaration-written (bodyAt sheet 0 7) (first .fits) (first-bytes .bytes) (first .size) in
     let wanted = wanted-written (bodyAt sheet 10 4) (second-bytes .bytes) (second .size) in
-    record {
-      some = line .some;
-      few = line .few;
-      inside = line .inside;
-      written = rw (declared, wanted, written, append-assoc, second-bytes .written) (first-bytes .written);
-    }
+    rw (declared, wanted, written, append-assoc, second-bytes .written) (first-bytes .written)
+
+-- a field 04
+
+profile-read : (h : House) → houseInRange h ≡ true → let sheet = fieldOf 0x04 (houseBody h) in NoneStands (houseCases sheet) × (houseIn (bodyAt sheet 0 22) ≡ h)
+profile-read h inside =
+    let sheet = fieldOf 0x04 (houseBody h) in
+    let field = field-read sheet 0 houseFormat (houseBody h) [] (omega arith) (length-houseBody h) (sym (append-nil sheet)) (house-fits h inside) in
+    let long = field .long in (
+      none-of-both (fieldCases sheet 0 houseFormat) (furtherCases 0 25 sheet) (field .stands) (rw (further-ended sheet 0 25 (omega arith)) tt),
+      ap houseIn (field .read) ∙ house-read h inside,
+    )
+
+profile-written : (sheet : List ℕ) → AreBytes sheet → NoneStands (houseCases sheet) → fieldOf 0x04 (houseBody (houseIn (bodyAt sheet 0 22))) ≡ sheet
+unfolding placeFields placesFrom
+profile-written sheet each stands =
+    let (here, behind) = none-of-each (fieldCases sheet 0 houseFormat) (furtherCases 0 25 sheet) stands in
+    let field = field-accepted sheet 0 houseFormat here in
+    let bytes = field-written sheet 0 houseFormat each here in
+    let ended : [] ≡ drop 25 sheet = places-written sheet 0 25 each (field .ends) behind in
+    rw (house-written (bodyAt sheet 0 22) (bytes .bytes) (field .size)) (sym (append-nil (fieldOf 0x04 (bodyAt sheet 0 22))) ∙ rw ended (bytes .written))
+
+-- either form
+
+-- a line's sheet does not begin with the tag 04, that of a profile does
+line-form : (line : Line) → inHouseForm (sheetOf line) ≡ false
+unfolding inHouseForm sheetOf fieldOf
+line-form line = refl
+
+profile-form : (h : House) → inHouseForm (fieldOf 0x04 (houseBody h)) ≡ true
+unfolding inHouseForm fieldOf
+profile-form h = refl
+
+-- the sheet of a value is accepted, and read as a value of its form that stands for its path
+pub record PathRead (path : Path) (sheet : List ℕ) : Type 0 where
+  pub stands : NoneStands (sheetCases sheet)
+  pub form : pathIn sheet .form ≡ path .form
+  pub line : standsFor (pathIn sheet) ≡ standsFor path
+
+module _ (path : Path) (lent : List ℕ) (stands : NoneStands (writeCases path lent)) where
+  read-in-fields : length (path .places) ≡ 16 → path .form ≡ Form.Fields → PathRead path (sheetOfPath path)
+  unfolding inFull valueIn
+  read-in-fields whole fields =
+      let line = inFull path in
+      let sheet = sheetOf line in
+      let stood = stands-in-fields path fields in
+      let tests = rw (refusals-in-fields path fields lent) at stands in
+      let (full, fits) = either-false (eqb (path .count) 0) (ltb 16 (path .count)) (tests .1 .0) in
+      let few : path .count ≤ 16 = ltb-false 16 (path .count) fits in
+      let some : path .count ≢ 0 = eqb-false (path .count) 0 full in
+      let size = length-take-le (path .count) (path .places) (omega arith) in
+      let (accepted, same) = fields-read line (omega arith) (omega arith) (rw stood at (not-false (lineInRange (standsFor path)) (tests .1 .1 .0))) in
+      let read : pathIn sheet ≡ valueIn Form.Fields line = path-in-fields sheet (line-form line) ∙ ap (valueIn Form.Fields) same in
+      rw (sheet-in-fields path fields, stood)
+      (record {
+        stands = rw (cases-in-fields sheet (line-form line)) accepted;
+        form = ap (λ (back : Path). back .form) read ∙ sym fields;
+        line = ap standsFor read ∙ stands-in-fields (valueIn Form.Fields line) refl ∙ value-full Form.Fields line (omega arith) ∙ sym stood;
+      })
+
+  read-in-house : (h : House) → path .form ≡ Form.House h → PathRead path (sheetOfPath path)
+  unfolding houseValue
+  read-in-house h house =
+      let sheet = fieldOf 0x04 (houseBody h) in
+      let tests = rw (refusals-in-house path h house lent) at stands in
+      let (accepted, same) = profile-read h (not-false (houseInRange h) (tests .1 .0)) in
+      let read : pathIn sheet ≡ houseValue h = path-in-house sheet (profile-form h) ∙ ap houseValue same in
+      rw (sheet-in-house path h house)
+      (record {
+        stands = rw (cases-in-house sheet (profile-form h)) accepted;
+        form = ap (λ (back : Path). back .form) read ∙ sym house;
+        line = ap standsFor read ∙ house-stands h ∙ sym (stands-in-house path h house);
+      })
+
+  pub path-read : length (path .places) ≡ 16 → PathRead path (sheetOfPath path)
+  path-read whole = ⊎-elim (read-in-fields whole) (λ (h, house). read-in-house h house) (either-form (path .form))
+
+-- an accepted sheet is what is written of the value that it is read as, which the writer does not refuse
+pub record SheetWritten (sheet : List ℕ) (path : Path) : Type 0 where
+  pub stands : (lent : List ℕ) → length lent ≡ 256 → NoneStands (writeCases path lent)
+  pub written : AreBytes sheet → sheetOfPath path ≡ sheet
+
+module _ (sheet : List ℕ) (stands : NoneStands (sheetCases sheet)) where
+  written-in-fields : inHouseForm sheet ≡ false → SheetWritten sheet (pathIn sheet)
+  unfolding valueIn
+  written-in-fields fields =
+      let line = fieldsLine sheet in
+      let value = valueIn Form.Fields line in
+      let accepted = rw (cases-in-fields sheet fields) at stands in
+      let record { some = some; few = few; inside = inside } = fields-line sheet accepted in
+      let stood : standsFor value ≡ line = stands-in-fields value refl ∙ value-full Form.Fields line few in
+      let full : eqb (value .count) 0 ≡ false = ne-eqb (value .count) 0 (omega arith) in
+      let fits : ltb 16 (value .count) ≡ false = le-ltb 16 (value .count) few in
+      rw (path-in-fields sheet fields)
+      (record {
+        stands = λ lent size. rw (refusals-in-fields value refl lent) (rw (eq-eqb _ _ size), (rw (full, fits), (rw (stood, inside), tt)));
+        written = λ each. sheet-in-fields value refl ∙ ap sheetOf stood ∙ fields-written sheet each accepted;
+      })
+
+  written-in-house : inHouseForm sheet ≡ true → SheetWritten sheet (pathIn sheet)
+  unfolding houseValue
+  written-in-house house =
+      let h = houseIn (bodyAt sheet 0 22) in
+      let accepted = rw (cases-in-house sheet house) at stands in
+      rw (path-in-house sheet house)
+      (record {
+        stands = λ lent size. rw (refusals-in-house (houseValue h) h refl lent) (rw (eq-eqb _ _ size), (rw (profile-inside sheet accepted), tt));
+        written = λ each. sheet-in-house (houseValue h) h refl ∙ profile-written sheet each accepted;
+      })
+
+  pub sheet-written : SheetWritten sheet (pathIn sheet)
+  sheet-written = by-form (inHouseForm sheet) refl
+    where
+      by-form : (t : Bool) → inHouseForm sheet ≡ t → SheetWritten sheet (pathIn sheet)
+      by-form true house = written-in-house house
+      by-form false fields = written-in-fields fields
+
+-- the answers
+
+never-written : (n : ℕ) (why : Refusal) → Written.Refused why ≡ Written.Length n → ⊥
+never-written n why e = let never : _≡_ {A = ℕ} 0 1 = cc in omega arith
 
 module _ (sheet : List ℕ) where
   abbrev read-as : ReadSheet
-  read-as = record { verdict = Verdict.Accepted; path = valueOf (lineIn sheet) }
+  read-as = record { verdict = Verdict.Accepted; path = pathIn sheet }
 
   abbrev refused-for : Refusal → ReadSheet
   refused-for why = record { verdict = Verdict.Refused why; path = noPath }
@@ -97,30 +217,26 @@ module _ (sheet : List ℕ) where
   unfolding readSheet
   accepted-stands = none-where-result refused-for read-as (λ (answer : ReadSheet). answer .verdict ≡ Verdict.Accepted) never-accepted (sheetCases sheet)
 
-  -- and that is read as the line in it
-  pub standing-read : NoneStands (sheetCases sheet) → readSheet sheet ≡ record { verdict = Verdict.Accepted; path = valueOf (lineIn sheet) }
+  -- and that is read as the value of the path in it
+  pub standing-read : NoneStands (sheetCases sheet) → readSheet sheet ≡ record { verdict = Verdict.Accepted; path = pathIn sheet }
   unfolding readSheet
   standing-read = firstOf-none refused-for read-as (sheetCases sheet)
 
--- the writer's answer, and the lent bytes after it, where no refusal stands
-module _ (path : Path) (lent : List ℕ) (stands : NoneStands (writeCases path lent)) where
-  pub standing-answer : writeAnswer path lent ≡ Written.Length (length (sheetOf (standsFor path)))
+module _ (path : Path) (lent : List ℕ) where
+  -- a path of which a length is answered is one in which no refusal stands
+  pub written-stands : (n : ℕ) → writeAnswer path lent ≡ Written.Length n → NoneStands (writeCases path lent)
   unfolding writeAnswer
-  standing-answer = firstOf-none Written.Refused (Written.Length (length (sheetOf (standsFor path)))) (writeCases path lent) stands
+  written-stands n = none-where-result Written.Refused (Written.Length (length (sheetOfPath path))) (λ (written : Written). written ≡ Written.Length n) (never-written n) (writeCases path lent)
 
-  pub standing-bytes : take (length (sheetOf (standsFor path))) (bytesAfter path lent) ≡ sheetOf (standsFor path)
-  unfolding bytesAfter
-  standing-bytes =
-      let sheet = sheetOf (standsFor path) in
-      let after = sheet ++ drop (length sheet) lent in
-      ap (take (length sheet)) (firstOf-none (λ (why : Refusal). lent) after (writeCases path lent) stands) ∙ take-append-seam sheet (drop (length sheet) lent)
+  -- the writer's answer, and the lent bytes after it, where no refusal stands
+  module _ (stands : NoneStands (writeCases path lent)) where
+    pub standing-answer : writeAnswer path lent ≡ Written.Length (length (sheetOfPath path))
+    unfolding writeAnswer
+    standing-answer = firstOf-none Written.Refused (Written.Length (length (sheetOfPath path))) (writeCases path lent) stands
 
-pub never-written : (n : ℕ) (why : Refusal) → Written.Refused why ≡ Written.Length n → ⊥
-never-written n why e = let never : _≡_ {A = ℕ} 0 1 = cc in omega arith
-
-pub same-length : (m n : ℕ) → Written.Length m ≡ Written.Length n → m ≡ n
-same-length m n e = cc
-
-pub either-false : (a b : Bool) → either a b ≡ false → (a ≡ false) × (b ≡ false)
-either-false true b e = absurd (true≢false e)
-either-false false b e = (refl, e)
+    pub standing-bytes : take (length (sheetOfPath path)) (bytesAfter path lent) ≡ sheetOfPath path
+    unfolding bytesAfter
+    standing-bytes =
+        let sheet = sheetOfPath path in
+        let after = sheet ++ drop (length sheet) lent in
+        ap (take (length sheet)) (firstOf-none (λ (why : Refusal). lent) after (writeCases path lent) stands) ∙ take-append-seam sheet (drop (length sheet) lent)

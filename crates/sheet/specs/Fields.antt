@@ -9,6 +9,7 @@ use Rattle.quantity.specs.Refusals.{Case, _⇒_}
 use Rattle.quantity.specs.declared.refusal.Refusal.the-variants.{HeaderCutOff, FieldUnexpected, BodyCutOff, OutOfRange}
 use Rattle.sheet.specs.Numbers.{numberOf, bytesOf}
 use Rattle.sheet.specs.Bodies.{part, declarationFits, wantedFits, placeFits}
+use Rattle.sheet.specs.House.{houseFits}
 
 -- a field's tag, its body's length, and whether a body's kind and numbers are in their ranges
 pub record Format : Type 0 where
@@ -24,6 +25,9 @@ wantedFormat = record { tag = 0x02; width = 4; fits = wantedFits }
 
 abbrev pub placeFormat : Format
 placeFormat = record { tag = 0x03; width = 6; fits = placeFits }
+
+abbrev pub houseFormat : Format
+houseFormat = record { tag = 0x04; width = 22; fits = houseFits }
 
 -- a field as it is written
 unfoldable pub fieldOf : ℕ → List ℕ → List ℕ

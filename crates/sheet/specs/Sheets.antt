@@ -1,8 +1,8 @@
--- Section 5: one field 01, one 02, then 1 to 16 of 03; what reading and writing a sheet answer (section 7).
+-- Section 5: one field 01, one 02, then 1 to 16 of 03, or one 04 (document 02, item 2); what reading and writing a sheet answer (section 7).
 use Prim.Native.Nat.{ℕ, zero, suc, _+_}
 use mathlib.Core.Bool.{Bool, true, not}
 use mathlib.Core.List.{List, [], _∷_, _++_}
-use lib.ListN.{length, drop}
+use lib.ListN.{length, getD, drop}
 use lib.Dec.{leb, ltb, eqb}
 use Rattle.quantity.specs.Choice.{pick, both, either}
 use Rattle.quantity.specs.Ranges.{inRange, wantedDelayRange}
@@ -14,9 +14,13 @@ use Rattle.sheet.specs.declared.Path.{Path}
 use Rattle.sheet.specs.declared.read.Verdict.{Verdict}
 use Rattle.sheet.specs.declared.read.ReadSheet.{ReadSheet}
 use Rattle.sheet.specs.declared.write.Written.{Written}
-use Rattle.sheet.specs.Paths.{Line, standsFor, valueOf, noPath}
+use Rattle.sheet.specs.declared.House.{House}
+use Rattle.sheet.specs.declared.Form.{Form}
+use Rattle.sheet.specs.Paths.{Line}
+use Rattle.sheet.specs.House.{houseIn, houseBody, houseInRange}
+use Rattle.sheet.specs.Forms.{standsFor, valueIn, houseValue, noPath}
 use Rattle.sheet.specs.Bodies.{declarationIn, wantedIn, placeIn, placeInRange, declarationBody, wantedBody, placeBody}
-use Rattle.sheet.specs.Fields.{declarationFormat, wantedFormat, placeFormat, fieldOf, bodyAt, headerCutOff, fieldCases}
+use Rattle.sheet.specs.Fields.{declarationFormat, wantedFormat, placeFormat, houseFormat, fieldOf, bodyAt, headerCutOff, fieldCases}
 
 -- where the fields begin: 01 at the sheet's start, 02 behind its 10 bytes, the first 03 behind 7 more, each next one 9 bytes on
 abbrev pub declarationAt : ℕ
@@ -36,35 +40,70 @@ unfoldable pub furtherCases : ℕ → ℕ → List ℕ → List Case
 furtherCases zero at sheet = pick (eqb at (length sheet)) [] ((headerCutOff sheet at ⇒ HeaderCutOff at) ∷ (true ⇒ FieldUnexpected at) ∷ [])
 furtherCases (suc more) at sheet = pick (eqb at (length sheet)) [] (fieldCases sheet at placeFormat ++ furtherCases more (at + placeLength) sheet)
 
--- all that a sheet is refused for, in checking order
-abbrev pub sheetCases : List ℕ → List Case
-sheetCases sheet =
+-- fields 01 and 02, and the operators
+abbrev pub fieldsCases : List ℕ → List Case
+fieldsCases sheet =
     fieldCases sheet declarationAt declarationFormat
     ++ fieldCases sheet wantedAt wantedFormat
     ++ fieldCases sheet placesAt placeFormat
     ++ furtherCases 15 (placesAt + placeLength) sheet
+
+-- one field 04 begins at the sheet's start and is 25 bytes long; what begins behind it is refused as behind the sixteenth operator
+abbrev pub houseAt : ℕ
+houseAt = 0
+
+abbrev pub houseLength : ℕ
+houseLength = 25
+
+abbrev pub houseCases : List ℕ → List Case
+houseCases sheet = fieldCases sheet houseAt houseFormat ++ furtherCases 0 (houseAt + houseLength) sheet
+
+-- the sheet begins with the tag 04
+unfoldable pub inHouseForm : List ℕ → Bool
+inHouseForm sheet = eqb (getD sheet houseAt 0) (houseFormat .tag)
+
+-- all that a sheet is refused for, in checking order
+unfoldable pub sheetCases : List ℕ → List Case
+sheetCases sheet = pick (inHouseForm sheet) (houseCases sheet) (fieldsCases sheet)
 
 -- the operators of a sheet from a byte on, so many at the most
 unfoldable pub placesFrom : ℕ → ℕ → List ℕ → List Place
 placesFrom zero at sheet = []
 placesFrom (suc more) at sheet = pick (leb (length sheet) at) [] (placeIn (bodyAt sheet at (placeFormat .width)) ∷ placesFrom more (at + placeLength) sheet)
 
--- the path of a sheet that is not refused
-unfoldable pub lineIn : List ℕ → Line
-lineIn sheet =
+-- the path of a sheet of fields 01, 02 and 03 that is not refused
+unfoldable pub fieldsLine : List ℕ → Line
+fieldsLine sheet =
     record {
       declaration = declarationIn (bodyAt sheet declarationAt (declarationFormat .width));
       wanted = wantedIn (bodyAt sheet wantedAt (wantedFormat .width));
       places = placesFrom 16 placesAt sheet;
     }
 
+-- the value of the path of a sheet that is not refused
+unfoldable pub pathIn : List ℕ → Path
+pathIn sheet = pick (inHouseForm sheet) (houseValue (houseIn (bodyAt sheet houseAt (houseFormat .width)))) (valueIn Form.Fields (fieldsLine sheet))
+
+-- the path that a sheet counts as: all that is above the sheet goes by it, and asks for no form
+unfoldable pub lineIn : List ℕ → Line
+lineIn sheet = standsFor (pathIn sheet)
+
 unfoldable pub refusedRead : Rattle.quantity.specs.declared.refusal.Refusal.Refusal → ReadSheet
 refusedRead why = record { verdict = Verdict.Refused why; path = noPath }
+
+-- what reading a sheet of fields 01, 02 and 03 answers, and one of a field 04
+unfoldable pub readFields : List ℕ → ReadSheet
+unfolding refusedRead
+readFields sheet = firstOf (fieldsCases sheet) refusedRead (record { verdict = Verdict.Accepted; path = valueIn Form.Fields (fieldsLine sheet) })
+
+unfoldable pub readHouse : List ℕ → ReadSheet
+unfolding refusedRead
+readHouse sheet = firstOf (houseCases sheet) refusedRead (record { verdict = Verdict.Accepted; path = houseValue (houseIn (bodyAt sheet houseAt (houseFormat .width))) })
 
 -- what reading answers
 unfoldable pub readSheet : List ℕ → ReadSheet
 unfolding refusedRead
-readSheet sheet = firstOf (sheetCases sheet) refusedRead (record { verdict = Verdict.Accepted; path = valueOf (lineIn sheet) })
+readSheet sheet = firstOf (sheetCases sheet) refusedRead (record { verdict = Verdict.Accepted; path = pathIn sheet })
 
 unfoldable pub placeFields : List Place → List ℕ
 placeFields [] = []
@@ -87,17 +126,31 @@ unfoldable pub lineInRange : Line → Bool
 unfolding placesInRange
 lineInRange line = both (declarationInRange (line .declaration)) (both (inRange wantedDelayRange (line .wanted)) (placesInRange (line .places)))
 
--- 1: the writer is not lent 256 bytes; 3: the path has 0 or over 16 operators; 5: a number is out of its range
-abbrev pub writeCases : Path → List ℕ → List Case
-writeCases path lent =
-    (not (eqb (length lent) 256) ⇒ Unusable)
-    ∷ (either (eqb (path .count) 0) (ltb 16 (path .count)) ⇒ FieldUnexpected 0)
+-- the sheet of a path value: in the house form the field of its nine numbers
+sheetIn : Form → Line → List ℕ
+sheetIn Form.Fields line = sheetOf line
+sheetIn (Form.House h) line = fieldOf (houseFormat .tag) (houseBody h)
+
+unfoldable pub sheetOfPath : Path → List ℕ
+unfolding sheetIn
+sheetOfPath path = sheetIn (path .form) (standsFor path)
+
+-- 3: a path written out has 0 or over 16 operators; 5: a number is out of its range
+formCases : Form → Path → List Case
+formCases Form.Fields path =
+    (either (eqb (path .count) 0) (ltb 16 (path .count)) ⇒ FieldUnexpected 0)
     ∷ (not (lineInRange (standsFor path)) ⇒ OutOfRange 0)
     ∷ []
+formCases (Form.House h) path = (not (houseInRange h) ⇒ OutOfRange 0) ∷ []
+
+-- 1: the writer is not lent 256 bytes; then what its form is refused for
+unfoldable pub writeCases : Path → List ℕ → List Case
+unfolding formCases
+writeCases path lent = (not (eqb (length lent) 256) ⇒ Unusable) ∷ formCases (path .form) path
 
 -- what writing answers
 unfoldable pub writeAnswer : Path → List ℕ → Written
-writeAnswer path lent = firstOf (writeCases path lent) Written.Refused (Written.Length (length (sheetOf (standsFor path))))
+writeAnswer path lent = firstOf (writeCases path lent) Written.Refused (Written.Length (length (sheetOfPath path)))
 
 unfoldable pub behindSheet : List ℕ → List ℕ → List ℕ
 behindSheet sheet lent = sheet ++ drop (length sheet) lent
@@ -105,4 +158,4 @@ behindSheet sheet lent = sheet ++ drop (length sheet) lent
 -- what the lent bytes hold then: the sheet, and behind it what they held; all that they held where it is refused
 unfoldable pub bytesAfter : Path → List ℕ → List ℕ
 unfolding behindSheet
-bytesAfter path lent = firstOf (writeCases path lent) (λ why. lent) (behindSheet (sheetOf (standsFor path)) lent)
+bytesAfter path lent = firstOf (writeCases path lent) (λ why. lent) (behindSheet (sheetOfPath path) lent)

@@ -3,16 +3,21 @@
 use operator::Declaration;
 use operator::Kind;
 use operator::Operator;
+use quantity::Hops;
 use quantity::Interval;
 use quantity::Link;
+use quantity::Packet;
 use quantity::Quota;
 use quantity::Rate;
 use quantity::WantedDelay;
 ghost use mathlib.Core.Path.{_≡_};
 ghost use Rattle.operator.specs.Operators.{numberInRange};
 ghost use Rattle.sheet.specs.Bodies.{placeInRange};
-ghost use Rattle.sheet.specs.Paths.{noPlace, noPath};
+ghost use Rattle.sheet.specs.House.{houseInRange};
+ghost use Rattle.sheet.specs.Paths.{noPlace};
+ghost use Rattle.sheet.specs.Forms.{noPath};
 
+mod profile;
 pub mod read;
 pub mod write;
 
@@ -37,14 +42,49 @@ const PLACE_TAG: u8 = 0x03;
 
 const PLACE_WIDTH: usize = 6;
 
+const HOUSE_AT: usize = 0;
+
+const HOUSE_TAG: u8 = 0x04;
+
+const HOUSE_WIDTH: usize = 22;
+
 // An operator of a path and the link that it is on.
 pub struct Place {
     pub operator: Operator,
     pub link: Link,
 }
 
-// A path is its declaration, its delay wanted and the first `count` of its places.
+// A house profile (document 02, item 2): which it is, its hops, the delay wanted, m, Q, R, the own longest packet L, the longest packet of all X and the link rate C.
+pub struct House {
+    pub profile: u8,
+    pub hops: Hops,
+    pub wanted: WantedDelay,
+    pub interval: Interval,
+    pub quota: Quota,
+    pub rate: Rate,
+    pub own: Packet,
+    pub longest: Packet,
+    pub carrying: Rate,
+}
+
+impl House {
+    // Refusal 5 of the nine numbers: each that the profile uses is in its range, the others are 0, and a delayer has at most 64 slots.
+    pub fn in_range(self) -> bool
+        ensures { λ r. ⌜ r ≡ houseInRange self ⌝ }
+    {
+        profile::in_range(self)
+    }
+}
+
+// A path is written out in fields 01, 02 and 03, or it is a house profile.
+pub enum Form {
+    Fields,
+    House(House),
+}
+
+// A path is its declaration, its delay wanted and the first `count` of its places. In the house form these are what the nine numbers stand for.
 pub struct Path {
+    pub form: Form,
     pub declaration: Declaration,
     pub wanted: WantedDelay,
     pub count: usize,
@@ -73,6 +113,7 @@ pub fn no_path() -> Path
     let place = no_place();
     let places = [place; 16];
     Path {
+        form: Form::Fields,
         declaration,
         wanted: WantedDelay(0),
         count: 0,

@@ -3,7 +3,11 @@
 use crate::DECLARATION_AT;
 use crate::DECLARATION_TAG;
 use crate::DECLARATION_WIDTH;
+use crate::Form;
 use crate::HEADER;
+use crate::HOUSE_AT;
+use crate::HOUSE_TAG;
+use crate::HOUSE_WIDTH;
 use crate::PLACE_TAG;
 use crate::PLACE_WIDTH;
 use crate::PLACES_AT;
@@ -14,6 +18,9 @@ use crate::WANTED_TAG;
 use crate::WANTED_WIDTH;
 use crate::no_path;
 use crate::no_place;
+use crate::profile::ReadHouse;
+use crate::profile::path_of;
+use crate::profile::read_house;
 use operator::Declaration;
 use operator::Kind;
 use operator::Operator;
@@ -36,7 +43,7 @@ ghost use Rattle.sheet.specs.Numbers.{numberOf};
 ghost use Rattle.sheet.specs.Paths.{noPlace};
 ghost use Rattle.sheet.specs.Bodies.{part, declarationIn, declarationFits, wantedIn, wantedFits, operatorOf, placeIn, placeFits};
 ghost use Rattle.sheet.specs.Fields.{fieldUnexpected, fieldCases, declarationFormat, wantedFormat};
-ghost use Rattle.sheet.specs.Sheets.{declarationAt, wantedAt, furtherCases, lineIn, refusedRead, readSheet};
+ghost use Rattle.sheet.specs.Sheets.{declarationAt, wantedAt, inHouseForm, furtherCases, fieldsLine, refusedRead, readFields, readHouse, readSheet};
 
 // What reading a sheet answers. Beside a refusal the path is the empty one.
 pub enum Verdict {
@@ -82,14 +89,14 @@ enum ReadPlace {
     OutOfRange,
 }
 
-fn wide(byte: u8) -> u32
+pub(crate) fn wide(byte: u8) -> u32
     ensures { λ r. ⌜ r ≡ byte ⌝ }
 {
     byte as u32
 }
 
 // The number in `width` bytes from `at` on, the high byte first.
-fn number_at(bytes: &[u8], at: usize, width: usize) -> u32
+pub(crate) fn number_at(bytes: &[u8], at: usize, width: usize) -> u32
     requires { ⌜ (width ≤ 4) × (at + width ≤ length (now bytes)) ⌝ }
     ensures { λ r. ⌜ r ≡ numberOf (part at width (now (bytes .entry))) ⌝ }
 {
@@ -218,7 +225,7 @@ fn read_place(body: &[u8]) -> ReadPlace
 
 // The first two fields.
 fn read_head(sheet: &[u8]) -> ReadHead
-    ensures { λ r. ⌜ r ≡ firstOf (fieldCases (now (sheet .entry)) declarationAt declarationFormat ++ fieldCases (now (sheet .entry)) wantedAt wantedFormat) ReadHead.Refused (ReadHead.Fits (record { declaration = lineIn (now (sheet .entry)) .declaration; wanted = record { 0 = lineIn (now (sheet .entry)) .wanted } })) ⌝ }
+    ensures { λ r. ⌜ r ≡ firstOf (fieldCases (now (sheet .entry)) declarationAt declarationFormat ++ fieldCases (now (sheet .entry)) wantedAt wantedFormat) ReadHead.Refused (ReadHead.Fits (record { declaration = fieldsLine (now (sheet .entry)) .declaration; wanted = record { 0 = fieldsLine (now (sheet .entry)) .wanted } })) ⌝ }
 {
     if let Due::Refused(why) = field_at(sheet, DECLARATION_AT, DECLARATION_TAG, DECLARATION_WIDTH) {
         return ReadHead::Refused(why);
@@ -273,6 +280,7 @@ fn refused(why: Refusal, stored: [Place; 16], count: usize) -> ReadSheet
     let declaration = empty.declaration;
     let wanted = empty.wanted;
     let path = Path {
+        form: Form::Fields,
         declaration,
         wanted,
         count: 0,
@@ -284,9 +292,9 @@ fn refused(why: Refusal, stored: [Place; 16], count: usize) -> ReadSheet
     }
 }
 
-// Behind the first two fields an operator is due, and behind each the sheet may end.
-pub fn read(sheet: &[u8]) -> ReadSheet
-    ensures { λ r. ⌜ r ≡ readSheet (now (sheet .entry)) ⌝ }
+// Fields 01, 02 and 03: behind the first two an operator is due, and behind each the sheet may end.
+fn read_fields(sheet: &[u8]) -> ReadSheet
+    ensures { λ r. ⌜ r ≡ readFields (now (sheet .entry)) ⌝ }
 {
     let none = no_place();
     let mut places = [none; 16];
@@ -318,6 +326,7 @@ pub fn read(sheet: &[u8]) -> ReadSheet
     let declaration = head.declaration;
     let wanted = head.wanted;
     let path = Path {
+        form: Form::Fields,
         declaration,
         wanted,
         count,
@@ -327,4 +336,53 @@ pub fn read(sheet: &[u8]) -> ReadSheet
         verdict: Verdict::Accepted,
         path,
     }
+}
+
+// One field 04, and behind it the sheet ends.
+fn read_profile(sheet: &[u8]) -> ReadSheet
+    ensures { λ r. ⌜ r ≡ readHouse (now (sheet .entry)) ⌝ }
+{
+    if let Due::Refused(why) = field_at(sheet, HOUSE_AT, HOUSE_TAG, HOUSE_WIDTH) {
+        return without_path(why);
+    }
+    let start = HOUSE_AT + HEADER;
+    let end = start + HOUSE_WIDTH;
+    let ReadHouse::Fits(house) = read_house(&sheet[start..end]) else {
+        return without_path(Refusal::OutOfRange(HOUSE_AT));
+    };
+    if let Due::Refused(why) = ended(sheet, end) {
+        return without_path(why);
+    }
+    ReadSheet {
+        verdict: Verdict::Accepted,
+        path: path_of(house),
+    }
+}
+
+fn without_path(why: Refusal) -> ReadSheet
+    ensures { λ r. ⌜ r ≡ refusedRead why ⌝ }
+{
+    ReadSheet {
+        verdict: Verdict::Refused(why),
+        path: no_path(),
+    }
+}
+
+// Whether a sheet begins with the tag 04.
+fn in_house_form(sheet: &[u8]) -> bool
+    ensures { λ r. ⌜ r ≡ inHouseForm (now (sheet .entry)) ⌝ }
+{
+    if sheet.len() == 0 {
+        return false;
+    }
+    sheet[HOUSE_AT] == HOUSE_TAG
+}
+
+pub fn read(sheet: &[u8]) -> ReadSheet
+    ensures { λ r. ⌜ r ≡ readSheet (now (sheet .entry)) ⌝ }
+{
+    if in_house_form(sheet) {
+        return read_profile(sheet);
+    }
+    read_fields(sheet)
 }

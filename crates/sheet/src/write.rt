@@ -3,7 +3,10 @@
 use crate::DECLARATION_AT;
 use crate::DECLARATION_TAG;
 use crate::DECLARATION_WIDTH;
+use crate::Form;
 use crate::HEADER;
+use crate::HOUSE_WIDTH;
+use crate::House;
 use crate::PLACE_TAG;
 use crate::PLACE_WIDTH;
 use crate::PLACES_AT;
@@ -12,6 +15,8 @@ use crate::Place;
 use crate::WANTED_AT;
 use crate::WANTED_TAG;
 use crate::WANTED_WIDTH;
+use crate::profile::in_range;
+use crate::profile::write_house;
 use operator::Declaration;
 use operator::Kind;
 use operator::Operator;
@@ -50,7 +55,7 @@ fn head_in_range(declaration: Declaration, wanted: WantedDelay) -> bool
 }
 
 // A number in `width` bytes from `at` on, the high byte first: written from the low byte, which is what is left of it modulo 256.
-fn write_number(sheet: &mut [u8], at: usize, width: usize, value: u32)
+pub(crate) fn write_number(sheet: &mut [u8], at: usize, width: usize, value: u32)
     requires { ⌜ at + width ≤ length (now sheet) ⌝ }
     ensures { λ r. ⌜ now (sheet .exit) ≡ sets (now (sheet .entry)) at (bytesOf width value) ⌝ }
 {
@@ -63,7 +68,7 @@ fn write_number(sheet: &mut [u8], at: usize, width: usize, value: u32)
     }
 }
 
-fn write_header(sheet: &mut [u8], at: usize, tag: u8, width: u32)
+pub(crate) fn write_header(sheet: &mut [u8], at: usize, tag: u8, width: u32)
     requires { ⌜ at + 3 ≤ length (now sheet) ⌝ }
     ensures { λ r. ⌜ now (sheet .exit) ≡ sets (now (sheet .entry)) at (tag ∷ bytesOf 2 width) ⌝ }
 {
@@ -171,13 +176,12 @@ fn write_places(sheet: &mut [u8], places: [Place; 16], count: usize) -> WrittenP
     WrittenPlaces::End(at)
 }
 
-pub fn write(path: Path, sheet: &mut [u8]) -> Written
+// Fields 01, 02 and 03.
+fn write_fields(path: Path, sheet: &mut [u8]) -> Written
+    requires { ⌜ (length (now sheet) ≡ 256) × (path .form ≡ Form.Fields) ⌝ }
     ensures { λ r. ⌜ (r ≡ writeAnswer path (now (sheet .entry))) × (now (sheet .exit) ≡ bytesAfter path (now (sheet .entry))) ⌝ }
 {
     let count = path.count;
-    if sheet.len() != 256 {
-        return Written::Refused(Refusal::Unusable);
-    }
     if count == 0 || 16 < count {
         return Written::Refused(Refusal::FieldUnexpected(0));
     }
@@ -193,4 +197,29 @@ pub fn write(path: Path, sheet: &mut [u8]) -> Written
     write_declaration(sheet, declaration);
     write_wanted(sheet, wanted);
     Written::Length(end)
+}
+
+// One field 04.
+fn write_profile(sheet: &mut [u8], house: House) -> Written
+    requires { ⌜ length (now sheet) ≡ 256 ⌝ }
+    ensures { λ r. ⌜ ((path : Path) → path .form ≡ Form.House house → (r ≡ writeAnswer path (now (sheet .entry))) × (now (sheet .exit) ≡ bytesAfter path (now (sheet .entry)))) ⌝ }
+{
+    if !in_range(house) {
+        return Written::Refused(Refusal::OutOfRange(0));
+    }
+    write_house(sheet, house);
+    Written::Length(HEADER + HOUSE_WIDTH)
+}
+
+pub fn write(path: Path, sheet: &mut [u8]) -> Written
+    ensures { λ r. ⌜ (r ≡ writeAnswer path (now (sheet .entry))) × (now (sheet .exit) ≡ bytesAfter path (now (sheet .entry))) ⌝ }
+{
+    if sheet.len() != 256 {
+        return Written::Refused(Refusal::Unusable);
+    }
+    let form = path.form;
+    match form {
+        Form::Fields => write_fields(path, sheet),
+        Form::House(house) => write_profile(sheet, house),
+    }
 }

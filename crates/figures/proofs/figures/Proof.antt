@@ -5,7 +5,7 @@ use mathlib.Core.Path.{_≡_, refl, sym, _∙_}
 use native.Mathlib.Omega.{arith}
 use borrow.Author.Needs.{needs}
 use denote.Ref.{now}
-use Rattle.sheet.specs.Paths.{standsFor}
+use Rattle.sheet.specs.Forms.{inFull}
 use Rattle.sheet.specs.declared.read.Verdict.{Verdict}
 use Rattle.figures.specs.Answers.{figuresOf}
 use Rattle.figures.proofs.EachOperator.{Walked, PathWithin, figuresOfPath, plannedAt, walked-start, walked-planned, walked-capacity, walked-next, path-operator, operator-ready, paired-here, delay-counted, refused-path, late-path, accepted-path}
@@ -15,7 +15,7 @@ use Rattle.figures.proofs.figures.Tie as tie
 
 abbrev Inv-loop : tie.InvT-loop
 Inv-loop sheet path planned₀ count carried₀ delay₀ k₀ planned carried delay k =
-    (k ≤ count) × PathWithin path × (planned .verdict ≡ Verdict.Accepted) × (planned .path ≡ path) × Walked (standsFor path) k carried (planned .figures) delay
+    (k ≤ count) × PathWithin path × (planned .verdict ≡ Verdict.Accepted) × (planned .path ≡ path) × Walked (inFull path) k carried (planned .figures) delay
 
 abbrev μ-loop : tie.MeasureT-loop
 μ-loop sheet path planned₀ count carried₀ delay₀ k₀ planned carried delay k = count - k
@@ -25,14 +25,14 @@ figures-read : (c : tie.After-start Inv-loop μ-loop) → figuresOfPath (c .befo
 figures-read c = accepted-figures (now (c .before .before .before .before .before .before .before .before .args .sheet)) (c .before .before .before .before .before .before .read .ensures) (c .before .before .enum-told2 .given .1)
 
 -- what was planned of operator k
-planned-at : (c : tie.After-plan Inv-loop μ-loop) → c .plan .result ≡ plannedAt (standsFor (c .before .before .before .before .before .before .before .before .before .before .before .before .before .read .result .path)) (c .before .before .before .before .before .before .loop .k)
+planned-at : (c : tie.After-plan Inv-loop μ-loop) → c .plan .result ≡ plannedAt (inFull (c .before .before .before .before .before .before .before .before .before .before .before .before .before .read .result .path)) (c .before .before .before .before .before .before .loop .k)
 planned-at c =
     let (inside, within, verdict, read, walked) = c .before .before .before .before .before .before .loop .inv in
     let here = c .before .before .before .before .before .loop-test .taken in
     walked-planned walked (sym (path-operator _ _ here)) (paired-here within walked here (c .before .before .before .next-place .ensures .1) (c .before .paired .ensures)) (c .plan .ensures)
 
 -- behind the last operator
-walked-through : (c : tie.After-loop Inv-loop μ-loop) → let path = c .before .before .before .before .before .before .before .before .read .result .path in Walked (standsFor path) (path .count) (c .before .loop .carried) (c .before .loop .planned .figures) (c .before .loop .delay)
+walked-through : (c : tie.After-loop Inv-loop μ-loop) → let path = c .before .before .before .before .before .before .before .before .read .result .path in Walked (inFull path) (path .count) (c .before .loop .carried) (c .before .loop .planned .figures) (c .before .loop .delay)
 walked-through c =
     let ends : c .before .loop .k ≡ c .before .before .before .before .before .before .before .before .read .result .path .count = omega arith in
     rw ends at (c .before .loop .inv .4)
@@ -56,13 +56,13 @@ start-requires : tie.Need-start-requires Inv-loop μ-loop
 start-requires c κs = search needs
 
 loop-holds : tie.Need-loop-holds Inv-loop μ-loop
-unfolding standsFor
+unfolding inFull
 loop-holds c = (
   omega arith,
   path-within (now (c .before .before .before .before .before .before .before .before .args .sheet)) (c .before .before .before .before .before .before .read .ensures) (c .before .before .enum-told2 .given .1),
   c .before .before .enum-told2 .given .1,
   refl,
-  walked-start (standsFor (c .before .before .before .before .before .before .read .result .path)) (c .start .result) (c .before .before .before .before .no-figure .result) (c .start .ensures) (c .before .before .before .before .no-figure .ensures),
+  walked-start (inFull (c .before .before .before .before .before .before .read .result .path)) (c .start .result) (c .before .before .before .before .no-figure .result) (c .start .ensures) (c .before .before .before .before .no-figure .ensures),
 )
 
 mul-place : tie.Need-mul-place Inv-loop μ-loop

@@ -5,7 +5,8 @@ use mathlib.Core.List.{List}
 use native.Mathlib.Omega.{arith}
 use lib.ListN.{length, length-map}
 use borrow.Author.Needs.{needs}
-use Rattle.sheet.specs.Paths.{Line, valueOf}
+use Rattle.sheet.specs.Paths.{Line}
+use Rattle.sheet.specs.Forms.{valueIn}
 use Rattle.sheet.specs.Sheets.{lineInRange}
 use Rattle.ledger.specs.declared.Record.{Record}
 use Rattle.ledger.specs.Records.{numberAt, placeAmong}
@@ -43,7 +44,7 @@ place c records usable found = c .find .ensures ∙ place-found (start c .args .
 -- the test of the links is that of the definition
 short : (c : tie.After-link-short) (records : List Record) (line : Line) →
     let args = start (sought (roomy c)) .args in
-    ledgerUnusable (args .ledger) records ≡ false → args .tested ≡ testedOf (args .ledger) records → lineInRange line ≡ true → args .path ≡ valueOf line
+    ledgerUnusable (args .ledger) records ≡ false → args .tested ≡ testedOf (args .ledger) records → lineInRange line ≡ true → args .path ≡ valueIn (args .path .form) line
     → c .link-short .result ≡ linkShort (args .ledger) records line
 short c records line usable found inside same =
     let args = start (sought (roomy c)) .args in

@@ -17,7 +17,7 @@ abbrev μ-loop : tie.MeasureT-loop
 
 -- the value has sixteen places
 full : (c : tie.Start Inv-loop μ-loop) → length (c .args .path .places) ≡ 16
-full c = sym (length-map (c .args .path .places) _) ∙ c .good .0 .1 .1 .1 .1 .1 .0 .1 .0 .1
+full c = sym (length-map (c .args .path .places) _) ∙ c .good .0 .1 .1 .1 .1 .1 .1 .0 .1 .0 .1
 
 -- the link of the place at hand
 inside : (c : tie.After-struct-known2 Inv-loop μ-loop) → let at = c .before .before .before .before .before in

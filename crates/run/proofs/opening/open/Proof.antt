@@ -59,7 +59,7 @@ returns-3 c =
     let start = read .before .before .before .before in
     let sheet = now (start .args .sheet) in
     let accepted = judged read (cleared .before .before .enum-told .given .1) in
-    let path = ap (λ (answer : PathFigures). answer .path) (read .figures .ensures) ∙ accepted-path sheet accepted in
+    let path = accepted-path sheet accepted (read .figures .ensures) in
     let new = c .new-run .ensures (lineIn sheet) (accepted-few sheet accepted) path in
     let (answer, after) = opening-accepted sheet (now (start .args .words)) (read .before .if1 .left) accepted in
     (ap (λ (run : Run). record { verdict = Verdict.Accepted; run = run }) new ∙ answer, cleared .clear .ensures ∙ after)

@@ -1,120 +1,46 @@
--- At each `return` the tests that led there say which refusal stands; behind all of them the three writers leave the sheet.
+-- Each form has its writer.
 use borrow.Author.Needs.{needs}
-use Prim.Native.Nat.{_+_, _≤_, _<_}
-use mathlib.Core.Path.{_≡_, refl, sym, _∙_}
-use mathlib.Core.Bool.{Bool, true, false}
-use mathlib.Core.List.{_++_}
-use mathlib.Core.Logic.{_⊎_, inl, inr, ⊎-elim}
-use borrow.Author.Tests.{ltb-true, ltb-false, not-true, not-false}
-use native.Mathlib.Omega.{arith}
-use denote.Ref.{now}
-use lib.ListN.{length, take}
-use Rattle.quantity.specs.Choice.{both}
-use Rattle.quantity.specs.Ranges.{inRange, wantedDelayRange}
-use Rattle.quantity.proofs.Laws.{pick-true, pick-false}
-use Rattle.operator.specs.Declarations.{declarationInRange}
-use Rattle.sheet.specs.declared.write.WrittenPlaces.{WrittenPlaces}
-use Rattle.sheet.specs.Numbers.{bytesOf}
-use Rattle.sheet.specs.Paths.{standsFor}
-use Rattle.sheet.specs.Bodies.{declarationBody, wantedBody}
-use Rattle.sheet.specs.Fields.{fieldOf}
-use Rattle.sheet.specs.Sheets.{placeFields, placesInRange, sheetOf}
-use Rattle.sheet.proofs.AnswerLaws.{tells}
-use Rattle.sheet.proofs.WriteLaws.{run-behind, run-before, length-placeFields-most}
-use Rattle.sheet.proofs.SheetWritten.{wrong-length, wrong-count, wrong-number, all-right, line-in-range, length-sheet}
+use Rattle.sheet.proofs.SheetWritten.{wrong-length}
 use Rattle.sheet.proofs.write.write.Statement.{statement}
 use Rattle.sheet.proofs.write.write.Tie as tie
-
-abbrev placesFound : WrittenPlaces → Bool
-placesFound (WrittenPlaces.End end) = true
-placesFound WrittenPlaces.OutOfRange = false
 
 returns : tie.Need-returns
 returns c = wrong-length _ _ (c .if1 .taken)
 
-returns-2 : tie.Need-returns-2
-returns-2 c =
-    let a = c .before .before .before .args in
-    let wrong : (a .path .count ≡ 0) ⊎ (16 < a .path .count) = ⊎-elim (λ w. inl (w .taken)) (λ w. inr (ltb-true _ _ (w .1 .taken))) (c .if2 .came) in
-    wrong-count (a .path) (now (a .sheet)) (c .before .if1 .left) wrong
-
-head-in-range-requires : tie.Need-head-in-range-requires
-head-in-range-requires c κs = search needs
-
-returns-3 : tie.Need-returns-3
-returns-3 c =
-    let a = c .before .before .before .before .before .before .before .before .before .args in
-    let out : both (declarationInRange (a .path .declaration)) (inRange wantedDelayRange (a .path .wanted .0)) ≡ false = sym (c .before .head-in-range .ensures) ∙ not-true _ (c .if4 .taken) in
-    wrong-number (a .path) (now (a .sheet)) (c .before .before .before .before .before .before .before .if1 .left) (c .before .before .before .before .before .before .if2 .left) (ltb-false _ _ (c .before .before .before .before .before .if3 .left)) (line-in-range (a .path) ∙ rw out)
-
--- the first two fields are in range
-head : (c : tie.Else4) → let path = c .before .before .before .before .before .before .before .before .before .args .path in both (declarationInRange (path .declaration)) (inRange wantedDelayRange (path .wanted .0)) ≡ true
-head c = sym (c .before .head-in-range .ensures) ∙ not-false _ (c .if4 .left)
-
-write-places-requires : tie.Need-write-places-requires
-write-places-requires c κs = search needs
-
-enum-known-end : tie.Need-enum-known-end
-enum-known-end c = search needs
-
 enum-told : tie.Need-enum-told
 enum-told c = search needs
+
+write-fields-requires : tie.Need-write-fields-requires
+write-fields-requires c κs = search needs
+
+enum-known-form : tie.Need-enum-known-form
+enum-known-form c = search needs
+
+write-profile-requires : tie.Need-write-profile-requires
+write-profile-requires c κs = search needs
 
 same-length : tie.Need-same-length
 same-length c = search needs
 
-returns-4 : tie.Need-returns-4
-returns-4 c =
-    let tested = c .before .before .before .before .before .before in
-    let a = tested .before .before .before .before .before .before .before .before .before .args in
-    let answered = c .before .before .before .before .write-places in
-    let out : placesInRange (take (a .path .count) (a .path .places)) ≡ false = tells placesFound _ (WrittenPlaces.End (17 + length (placeFields (take (a .path .count) (a .path .places))))) WrittenPlaces.OutOfRange refl refl (answered .ensures .0) (c .enum-told .given .1) in
-    rw (answered .ensures .1 ∙ pick-false _ _ _ out) (wrong-number (a .path) (now (a .sheet)) (tested .before .before .before .before .before .before .before .if1 .left) (tested .before .before .before .before .before .before .if2 .left) (ltb-false _ _ (tested .before .before .before .before .before .if3 .left)) (line-in-range (a .path) ∙ rw (head tested, out)))
-
-write-declaration-requires : tie.Need-write-declaration-requires
-write-declaration-requires c κs = search needs
-
-write-wanted-requires : tie.Need-write-wanted-requires
-write-wanted-requires c κs = search needs
+returns-2 : tie.Need-returns-2
+returns-2 c = search needs
 
 same-length-2 : tie.Need-same-length-2
 same-length-2 c = search needs
 
-returns-5 : tie.Need-returns-5
-unfolding standsFor sheetOf fieldOf declarationBody wantedBody bytesOf
-returns-5 c =
-    let tested = c .before .before .before .before .before .before .before .before .before .before .before .before .before .before .before in
-    let path = tested .before .before .before .before .before .before .before .before .before .args .path in
-    let lent = now (tested .before .before .before .before .before .before .before .before .before .args .sheet) in
-    let few : path .count ≤ 16 = ltb-false _ _ (tested .before .before .before .before .before .if3 .left) in
-    let answered = c .before .before .before .before .before .before .before .before .before .before .before .before .before .write-places in
-    let ended = c .before .before .before .before .before .before .before .before .before .end .given in
-    let declaration = fieldOf 0x01 (declarationBody (path .declaration)) in
-    let wanted = fieldOf 0x02 (wantedBody (path .wanted .0)) in
-    let places = placeFields (take (path .count) (path .places)) in
-    let inside : placesInRange (take (path .count) (path .places)) ≡ true = tells placesFound _ (WrittenPlaces.End (17 + length places)) WrittenPlaces.OutOfRange refl refl (answered .ensures .0) (ended .1) in
-    let end : WrittenPlaces.End (ended .0 .0) ≡ WrittenPlaces.End (17 + length places) = sym (ended .1) ∙ answered .ensures .0 ∙ pick-true _ _ _ inside in
-    let to-wanted = run-behind (answered .last .0) 0 10 declaration wanted (c .before .before .before .before .before .before .write-declaration .ensures) (c .before .before .write-wanted .ensures) refl in
-    let to-places = run-before lent 0 17 (declaration ++ wanted) places (answered .ensures .1 ∙ pick-true _ _ _ inside) to-wanted refl in
-    let written = length-placeFields-most (path .places) (path .count) in
-    let size = length-sheet (standsFor path) in
-    let length-is : ended .0 .0 ≡ 17 + length places = cc end in
-    rw (length-is ∙ sym size) (all-right path lent (tested .before .before .before .before .before .before .before .if1 .left) (tested .before .before .before .before .before .before .if2 .left) few (line-in-range path ∙ rw (head tested, inside)) to-places (omega arith))
+returns-3 : tie.Need-returns-3
+returns-3 c = c .before .before .write-profile .ensures (c .before .before .before .before .before .before .before .before .before .args .path) (c .before .before .before .before .before .form .given .1)
 
 pub write-spec : {M : Type 1} → statement M
 write-spec =
     tie.close
     (tie.spec
     returns
-    returns-2
-    head-in-range-requires
-    returns-3
-    write-places-requires
-    enum-known-end
     enum-told
+    write-fields-requires
+    enum-known-form
+    write-profile-requires
     same-length
-    returns-4
-    write-declaration-requires
-    write-wanted-requires
+    returns-2
     same-length-2
-    returns-5)
+    returns-3)
