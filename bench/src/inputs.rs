@@ -3,7 +3,9 @@
 use crate::plain::Refusal;
 use crate::plain::figures::figures;
 use crate::plain::run::{Run, WORDS};
-use crate::plain::sheet::{Declaration, Kind, Operator, Path, Place, SHEET_MEMORY, write};
+use crate::plain::sheet::{
+    Declaration, Form, House, Kind, Operator, Path, Place, SHEET_MEMORY, write,
+};
 
 /// The length of a sheet of sixteen operators.
 pub const SHEET_LENGTH: usize = 161;
@@ -88,6 +90,7 @@ impl Random {
 
     fn path_of(&mut self, declaration: Declaration, operators: [Operator; 16]) -> Path {
         Path {
+            form: Form::Fields,
             declaration,
             wanted: 65_535,
             count: 16,
@@ -101,6 +104,26 @@ impl Random {
     /// The sheets of so many such paths, one behind the other.
     pub fn sheets(&mut self, count: usize) -> Vec<u8> {
         (0..count).flat_map(|_| sheet_of(&self.path())).collect()
+    }
+
+    /// The sheet of a house profile.
+    pub fn house(&mut self) -> Vec<u8> {
+        let profile = self.below(3) as u8;
+        let rated = profile > 0;
+        let packets = profile > 1;
+        let mut number = |used: bool, largest: u32| if used { self.within(1, largest) } else { 0 };
+        let house = House {
+            profile,
+            hops: number(true, 5) as u8,
+            wanted: number(true, 65_535),
+            interval: number(true, 1_024),
+            quota: number(true, 65_535),
+            rate: number(rated, 65_535),
+            own_packet: number(packets, 64) as u16,
+            longest_packet: number(packets, 64) as u16,
+            link_rate: number(packets, 65_535) as u16,
+        };
+        house.field().to_vec()
     }
 
     /// A sheet with some of its bytes changed, cut off or doubled.

@@ -248,8 +248,12 @@ pub fn answers_agree() -> Result<u64, String> {
             Err(what.to_string())
         }
     };
-    for _ in 0..100 {
-        let sheet = random.sheets(1);
+    for turn in 0..200 {
+        let sheet = if turn < 100 {
+            random.sheets(1)
+        } else {
+            random.house()
+        };
         for _ in 0..200 {
             let damaged = random.damaged(&sheet);
             for (what, answered) in [
@@ -291,5 +295,5 @@ pub fn answers_agree() -> Result<u64, String> {
             200,
         )?;
     }
-    Ok(calls + 100 * 200 * 2 * 16)
+    Ok(calls + 200 * 200 * 2 * 16)
 }

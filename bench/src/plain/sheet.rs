@@ -1,4 +1,4 @@
-//! A path and its sheet (sections 1 and 5).
+//! A path and its sheet (sections 1 and 5; document 02, item 2).
 
 use super::Refusal;
 
@@ -96,9 +96,108 @@ impl Place {
     }
 }
 
+/// The numbers of a house profile.
+#[derive(Clone, Copy, Debug, PartialEq, Eq)]
+pub struct House {
+    pub profile: u8,
+    pub hops: u8,
+    pub wanted: u32,
+    pub interval: u32,
+    pub quota: u32,
+    pub rate: u32,
+    pub own_packet: u16,
+    pub longest_packet: u16,
+    pub link_rate: u16,
+}
+
+impl House {
+    fn delayer(&self) -> u64 {
+        let rate = u64::from(self.rate);
+        let link_rate = u64::from(self.link_rate);
+        let units = u64::from(self.own_packet) * link_rate + u64::from(self.longest_packet) * rate;
+        units.div_ceil(rate * link_rate)
+    }
+
+    fn in_range(&self) -> bool {
+        let packets = [self.own_packet, self.longest_packet, self.link_rate];
+        let rated = (1..=65_535).contains(&self.rate);
+        (1..=5).contains(&self.hops)
+            && self.wanted <= 65_535
+            && (1..=1_024).contains(&self.interval)
+            && (1..=65_535).contains(&self.quota)
+            && match self.profile {
+                0 => self.rate == 0 && packets == [0; 3],
+                1 => rated && packets == [0; 3],
+                2 => rated && packets.iter().all(|&n| n > 0) && self.delayer() <= 64,
+                _ => false,
+            }
+    }
+
+    /// The path that the numbers stand for.
+    fn path(self) -> Path {
+        let mut path = Path {
+            form: Form::House(self),
+            declaration: Declaration {
+                kind: Kind::Smooth,
+                interval: self.interval,
+                quota: self.quota,
+            },
+            wanted: self.wanted,
+            count: 0,
+            places: [Place::NONE; MOST_OPERATORS],
+        };
+        for hop in 0..u32::from(self.hops) {
+            let mut put = |operator| {
+                path.places[path.count] = Place {
+                    operator,
+                    link: hop,
+                };
+                path.count += 1;
+            };
+            match self.profile {
+                0 => {
+                    put(Operator::Compactor(self.interval));
+                    put(Operator::Expander(self.interval));
+                }
+                1 => {
+                    put(Operator::Limiter(self.rate));
+                    put(Operator::Compactor(self.interval));
+                    put(Operator::Expander(self.interval));
+                }
+                _ => {
+                    put(Operator::Filter(self.rate));
+                    put(Operator::Delayer(self.delayer() as u32));
+                }
+            }
+        }
+        path
+    }
+
+    pub fn field(&self) -> [u8; 25] {
+        let mut field = [0; 25];
+        field[..5].copy_from_slice(&[0x04, 0, 22, self.profile, self.hops]);
+        field[5..9].copy_from_slice(&self.wanted.to_be_bytes());
+        field[9..11].copy_from_slice(&(self.interval as u16).to_be_bytes());
+        field[11..15].copy_from_slice(&self.quota.to_be_bytes());
+        field[15..19].copy_from_slice(&self.rate.to_be_bytes());
+        field[19..21].copy_from_slice(&self.own_packet.to_be_bytes());
+        field[21..23].copy_from_slice(&self.longest_packet.to_be_bytes());
+        field[23..].copy_from_slice(&self.link_rate.to_be_bytes());
+        field
+    }
+}
+
+/// Fields 01, 02 and 03, or one field 04.
+#[derive(Clone, Copy, Debug, PartialEq, Eq)]
+pub enum Form {
+    Fields,
+    House(House),
+}
+
 /// The path has the first `count` of its places.
 #[derive(Clone, Copy, Debug, PartialEq, Eq)]
 pub struct Path {
+    pub form: Form,
     pub declaration: Declaration,
     pub wanted: u32,
     pub count: usize,
@@ -174,6 +273,40 @@ impl<'a> Fields<'a> {
         Ok(place)
     }
 
+    fn house(&mut self) -> Result<House, Refusal> {
+        let at = self.at;
+        let body: &[u8; 22] = self.body(0x04)?;
+        let number = |from: usize, width: usize| {
+            body[from..from + width]
+                .iter()
+                .fold(0, |number, &byte| number << 8 | u32::from(byte))
+        };
+        let house = House {
+            profile: body[0],
+            hops: body[1],
+            wanted: number(2, 4),
+            interval: number(6, 2),
+            quota: number(8, 4),
+            rate: number(12, 4),
+            own_packet: number(16, 2) as u16,
+            longest_packet: number(18, 2) as u16,
+            link_rate: number(20, 2) as u16,
+        };
+        if !house.in_range() {
+            return Err(Refusal::OutOfRange(at));
+        }
+        Ok(house)
+    }
+
+    /// Nothing more may begin here.
+    fn end(&self) -> Result<(), Refusal> {
+        match self.left() {
+            0 => Ok(()),
+            left if left < HEADER => Err(Refusal::HeaderCutOff(self.at)),
+            _ => Err(Refusal::FieldUnexpected(self.at)),
+        }
+    }
+
     fn left(&self) -> usize {
         self.sheet.len() - self.at
     }
@@ -182,9 +315,15 @@ impl<'a> Fields<'a> {
 /// The path of a sheet.
 pub fn read(sheet: &[u8]) -> Result<Path, Refusal> {
     let mut fields = Fields { sheet, at: 0 };
+    if sheet.first() == Some(&0x04) {
+        let house = fields.house()?;
+        fields.end()?;
+        return Ok(house.path());
+    }
     let declaration = fields.declaration()?;
     let wanted = fields.wanted()?;
     let mut path = Path {
+        form: Form::Fields,
         declaration,
         wanted,
         count: 0,
@@ -197,11 +336,7 @@ pub fn read(sheet: &[u8]) -> Result<Path, Refusal> {
             return Ok(path);
         }
         if path.count == MOST_OPERATORS {
-            return Err(if fields.left() < HEADER {
-                Refusal::HeaderCutOff(fields.at)
-            } else {
-                Refusal::FieldUnexpected(fields.at)
-            });
+            fields.end()?;
         }
     }
 }
@@ -210,6 +345,13 @@ pub fn read(sheet: &[u8]) -> Result<Path, Refusal> {
 pub fn write(path: &Path, sheet: &mut [u8]) -> Result<usize, Refusal> {
     if sheet.len() != SHEET_MEMORY {
         return Err(Refusal::Unusable);
+    }
+    if let Form::House(house) = path.form {
+        if !house.in_range() {
+            return Err(Refusal::OutOfRange(0));
+        }
+        sheet[..25].copy_from_slice(&house.field());
+        return Ok(25);
     }
     if path.count == 0 || path.count > MOST_OPERATORS {
         return Err(Refusal::FieldUnexpected(0));

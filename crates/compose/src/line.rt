@@ -1,6 +1,7 @@
 // What a line of a path's text says by itself, wherever it stands.
 
 use crate::fault::Fault;
+use crate::profile::read_profile;
 use console::numbers::narrow;
 use operator::Declaration;
 use operator::Kind;
@@ -11,6 +12,7 @@ use quantity::Link;
 use quantity::Quota;
 use quantity::Rate;
 use quantity::WantedDelay;
+use sheet::House;
 use sheet::Place;
 use text::decimal::Decimal;
 use text::decimal::Decimals;
@@ -18,7 +20,7 @@ use text::decimal::decimal_at;
 use text::decimal::decimals_from;
 use text::line::starts_with;
 
-const SPACE: u8 = 32;
+pub(crate) const SPACE: u8 = 32;
 
 // The numbers of what is said are in their ranges.
 pub enum Said {
@@ -26,6 +28,7 @@ pub enum Said {
     Declaration(Declaration),
     Wanted(WantedDelay),
     Place(Place),
+    House(House),
     Wrong(Fault),
 }
 
@@ -57,6 +60,9 @@ pub(crate) fn read_line(line: &[u8]) -> Said {
     if has_word(line, b"wanted") {
         return read_wanted(numbers_from(line, 7, 1));
     }
+    if has_word(line, b"profile") {
+        return read_profile(line);
+    }
     read_operator(line)
 }
 
@@ -80,7 +86,7 @@ fn read_operator(line: &[u8]) -> Said {
 }
 
 // Whether a text begins with a word that ends there or at a space.
-fn has_word(line: &[u8], word: &[u8]) -> bool {
+pub(crate) fn has_word(line: &[u8], word: &[u8]) -> bool {
     let end = word.len();
     if end < line.len() {
         if line[end] != SPACE {

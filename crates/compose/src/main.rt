@@ -12,6 +12,8 @@ use console::print::refused;
 use console::print::text;
 use operator::Declaration;
 use quantity::WantedDelay;
+use sheet::Form;
+use sheet::House;
 use sheet::Path;
 use sheet::Place;
 use sheet::no_path;
@@ -21,12 +23,14 @@ ghost use Prim.Native.Nat.{_≤_};
 
 mod fault;
 mod line;
+mod profile;
 
-// The path so far, which of its lines were there, whether its bytes are wanted in hexadecimal, and whether a line was wrong.
+// The path so far, which of its lines were there, whether it is complete, as a house profile is, whether its bytes are wanted in hexadecimal, and whether a line was wrong.
 struct Draft {
     path: Path,
     declared: bool,
     delay_given: bool,
+    complete: bool,
     in_hexadecimal: bool,
     wrong: bool,
 }
@@ -39,6 +43,7 @@ fn main() {
         path: no_path(),
         declared: false,
         delay_given: false,
+        complete: false,
         in_hexadecimal: false,
         wrong: false,
     };
@@ -84,6 +89,7 @@ fn take(draft: Draft, lines: u64, said: Said) -> Draft {
         Said::Declaration(declaration) => take_declaration(draft, lines, declaration),
         Said::Wanted(wanted) => take_wanted(draft, lines, wanted),
         Said::Place(place) => take_place(draft, lines, place),
+        Said::House(house) => take_house(draft, lines, house),
     }
 }
 
@@ -131,6 +137,9 @@ fn take_place(draft: Draft, lines: u64, place: Place) -> Draft {
     if !draft.delay_given {
         return fail(draft, lines, Fault::WantedMissing);
     }
+    if draft.complete {
+        return fail(draft, lines, Fault::LineTooMany);
+    }
     let count = draft.path.count;
     if 16 <= count {
         return fail(draft, lines, Fault::LineTooMany);
@@ -143,13 +152,39 @@ fn take_place(draft: Draft, lines: u64, place: Place) -> Draft {
     next
 }
 
+// A house profile is a path by itself: no line of one comes before it or behind it.
+fn take_house(draft: Draft, lines: u64, house: House) -> Draft {
+    if draft.declared {
+        return fail(draft, lines, Fault::LineTooMany);
+    }
+    let empty = draft.path;
+    let declaration = empty.declaration;
+    let wanted = empty.wanted;
+    let places = empty.places;
+    let path = Path {
+        form: Form::House(house),
+        declaration,
+        wanted,
+        count: 0,
+        places,
+    };
+    Draft {
+        path,
+        declared: true,
+        delay_given: true,
+        complete: true,
+        in_hexadecimal: draft.in_hexadecimal,
+        wrong: false,
+    }
+}
+
 // Where operators have come, nothing before them is missing.
 fn end_text(draft: Draft, lines: u64) {
     let path = draft.path;
-    if path.count == 0 {
-        say(std::num::wrapping_add_u64(lines, 1), Fault::LineMissing);
-    } else {
+    if draft.complete || 0 < path.count {
         write_path(path, draft.in_hexadecimal);
+    } else {
+        say(std::num::wrapping_add_u64(lines, 1), Fault::LineMissing);
     }
 }
 

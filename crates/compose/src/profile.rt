@@ -1,0 +1,191 @@
+// A line that is a whole path: `profile P hops N wanted N m N Q N`, with `R N` in profiles 1 and 2 and `L N X N C N` in profile 2.
+
+use crate::fault::Fault;
+use crate::line::SPACE;
+use crate::line::Said;
+use crate::line::has_word;
+use console::numbers::narrow;
+use quantity::Hops;
+use quantity::Interval;
+use quantity::Packet;
+use quantity::Quota;
+use quantity::Rate;
+use quantity::WantedDelay;
+use sheet::House;
+use text::decimal::Decimal;
+use text::decimal::decimal_at;
+ghost use Prim.Native.Nat.{_≤_};
+ghost use lib.ListN.{length};
+
+// A number, and where it ends in its line.
+enum Labelled {
+    Number { value: u32, end: usize },
+    Wrong(Fault),
+}
+
+// The number of the profile stands behind the word and a space, and says how many follow; those that it does not use are 0.
+pub(crate) fn read_profile(line: &[u8]) -> Said {
+    match number_from(line, 8) {
+        Labelled::Wrong(why) => Said::Wrong(why),
+        Labelled::Number { value, end } => {
+            if 2 < value {
+                return Said::Wrong(Fault::ProfileOutOfRange);
+            }
+            read_numbers(line, value as u8, end)
+        }
+    }
+}
+
+fn read_numbers(line: &[u8], profile: u8, from: usize) -> Said {
+    let mut numbers = [0u32; 8];
+    match numbers_behind(line, from, used_by(profile), &mut numbers) {
+        Labelled::Wrong(why) => Said::Wrong(why),
+        Labelled::Number { value: _, end } => {
+            if end < line.len() {
+                return Said::Wrong(Fault::TooManyNumbers);
+            }
+            said_of(House {
+                profile,
+                hops: Hops(numbers[0]),
+                wanted: WantedDelay(numbers[1]),
+                interval: Interval(numbers[2]),
+                quota: Quota(numbers[3]),
+                rate: Rate(numbers[4]),
+                own: Packet(numbers[5]),
+                longest: Packet(numbers[6]),
+                carrying: Rate(numbers[7]),
+            })
+        }
+    }
+}
+
+// How many numbers a profile uses.
+fn used_by(profile: u8) -> usize
+    ensures { λ r. ⌜ r ≤ 8 ⌝ }
+{
+    match profile {
+        0 => 4,
+        1 => 5,
+        _ => 8,
+    }
+}
+
+// Answers where the last one ends.
+fn numbers_behind(line: &[u8], from: usize, count: usize, numbers: &mut [u32]) -> Labelled
+    requires { ⌜ count ≤ length (now numbers) ⌝ }
+{
+    let mut end = from;
+    let mut k = 0;
+    while k < count {
+        match number_behind(line, end, k) {
+            Labelled::Wrong(why) => return Labelled::Wrong(why),
+            Labelled::Number { value, end: next } => {
+                numbers[k] = value;
+                end = next;
+            }
+        }
+        k += 1;
+    }
+    Labelled::Number { value: 0, end }
+}
+
+// Behind a number come a space, the next one's word, a space and the next one.
+fn number_behind(line: &[u8], at: usize, k: usize) -> Labelled {
+    if line.len() <= at {
+        return Labelled::Wrong(Fault::TooFewNumbers);
+    }
+    if line[at] != SPACE {
+        return Labelled::Wrong(Fault::NotANumber);
+    }
+    let begins = at + 1;
+    if !has_label(&line[begins..], k) {
+        return Labelled::Wrong(Fault::UnknownWord);
+    }
+    number_from(line, begins + label_length(k) + 1)
+}
+
+fn number_from(line: &[u8], from: usize) -> Labelled {
+    if line.len() < from {
+        return Labelled::Wrong(Fault::TooFewNumbers);
+    }
+    match decimal_at(line, from) {
+        Decimal::NoDigit => Labelled::Wrong(Fault::NotANumber),
+        Decimal::TooLarge => Labelled::Wrong(Fault::NumberTooLarge),
+        Decimal::Number { value, next } => Labelled::Number {
+            value: narrow(value),
+            end: next,
+        },
+    }
+}
+
+fn has_label(text: &[u8], k: usize) -> bool {
+    match k {
+        0 => has_word(text, b"hops"),
+        1 => has_word(text, b"wanted"),
+        2 => has_word(text, b"m"),
+        3 => has_word(text, b"Q"),
+        4 => has_word(text, b"R"),
+        5 => has_word(text, b"L"),
+        6 => has_word(text, b"X"),
+        _ => has_word(text, b"C"),
+    }
+}
+
+fn label_length(k: usize) -> usize
+    ensures { λ r. ⌜ r ≤ 6 ⌝ }
+{
+    match k {
+        0 => 4,
+        1 => 6,
+        _ => 1,
+    }
+}
+
+fn said_of(house: House) -> Said {
+    if house.in_range() {
+        return Said::House(house);
+    }
+    Said::Wrong(fault_of(house))
+}
+
+// The ranges from left to right; what is left then is the length of the delayer.
+fn fault_of(house: House) -> Fault {
+    let hops = house.hops;
+    let wanted = house.wanted;
+    let interval = house.interval;
+    let quota = house.quota;
+    if !hops.in_range() {
+        return Fault::HopsOutOfRange;
+    }
+    if !wanted.in_range() {
+        return Fault::WantedOutOfRange;
+    }
+    if !interval.in_range() {
+        return Fault::IntervalOutOfRange;
+    }
+    if !quota.in_range() {
+        return Fault::QuotaOutOfRange;
+    }
+    rate_fault(house)
+}
+
+// Profile 0 uses none of the numbers that are left.
+fn rate_fault(house: House) -> Fault {
+    let rate = house.rate;
+    let own = house.own;
+    let longest = house.longest;
+    let carrying = house.carrying;
+    if !rate.in_range() {
+        return Fault::RateOutOfRange;
+    }
+    if !own.in_range() {
+        return Fault::PacketOutOfRange;
+    }
+    if !longest.in_range() {
+        return Fault::PacketOutOfRange;
+    }
+    if !carrying.in_range() {
+        return Fault::LinkRateOutOfRange;
+    }
+    Fault::DelayerTooLong
+}
