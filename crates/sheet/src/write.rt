@@ -137,29 +137,14 @@ fn write_place(sheet: &mut [u8], at: usize, place: Place)
     }
 }
 
-// The same places, copied one by one. A copy of the whole array is made of wide stores, and reads right behind those are slow.
-fn copied(places: [Place; 16]) -> [Place; 16]
-    ensures { λ r. ⌜ r ≡ places ⌝ }
-{
-    let mut own = places;
-    let mut k = 0;
-    while k < 16 {
-        let place = places[k];
-        own[k] = place;
-        k += 1;
-    }
-    own
-}
-
 // The operators, one behind the other, where all are in range. Both loops are here, since each function has its own copy of the places.
 fn write_places(sheet: &mut [u8], places: [Place; 16], count: usize) -> WrittenPlaces
     requires { ⌜ (count ≤ 16) × (length (now sheet) ≡ 256) ⌝ }
     ensures { λ r. ⌜ (r ≡ pick (placesInRange (take count places)) (WrittenPlaces.End (placesAt + length (placeFields (take count places)))) WrittenPlaces.OutOfRange) × (now (sheet .exit) ≡ pick (placesInRange (take count places)) (sets (now (sheet .entry)) placesAt (placeFields (take count places))) (now (sheet .entry))) ⌝ }
 {
-    let own = copied(places);
     let mut k = 0;
     while k < count {
-        let place = own[k];
+        let place = places[k];
         if !crate::place_in_range(place) {
             return WrittenPlaces::OutOfRange;
         }
@@ -168,7 +153,7 @@ fn write_places(sheet: &mut [u8], places: [Place; 16], count: usize) -> WrittenP
     let mut at = PLACES_AT;
     let mut written = 0;
     while written < count {
-        let place = own[written];
+        let place = places[written];
         write_place(sheet, at, place);
         at += HEADER + PLACE_WIDTH;
         written += 1;
