@@ -1,15 +1,15 @@
 -- What holds of the flows into each operator of a path that no refusal stands against, and so of those behind the last one: by induction over the operators.
 use mathlib.Core.Path.{_≡_, sym, ap}
 use mathlib.Core.Bool.{Bool, true, false, true≢false}
-use mathlib.Core.List.{List, [], _∷_}
+use mathlib.Core.List.{List}
 use mathlib.Core.Logic.{⊎-elim}
 use Prim.Native.Nat.{ℕ, zero, suc, _+_, _≤_, _<_}
 use native.Mathlib.Nat.{le-refl, le-of-lt, le-of-suc-le-suc, not-suc-le-zero, eq-or-lt-of-le, add-zero}
 use native.Mathlib.Numerals.{add-one}
 use lib.ListN.{length, getD, List·getD-eq-default}
 use lib.Dec.{ltb}
-use Rattle.quantity.specs.Choice.{pick, both}
-use Rattle.quantity.specs.Ranges.{inRange, intervalRange, quotaRange, linkRange, wantedDelayRange}
+use Rattle.quantity.specs.Choice.{pick}
+use Rattle.quantity.specs.Ranges.{inRange, intervalRange, quotaRange, linkRange}
 use Rattle.quantity.specs.Sums.{total}
 use Rattle.quantity.proofs.Refusals.{NoneStands, none-of-each}
 use Rattle.quantity.proofs.Sums.{both-true}
@@ -25,6 +25,7 @@ use Rattle.sheet.specs.Paths.{Line, noPlace}
 use Rattle.sheet.specs.Sheets.{placesInRange, lineInRange}
 use Rattle.figures.specs.Progress.{progressAt}
 use Rattle.figures.specs.Figures.{pairs, delayOfPart}
+use Rattle.sheet.proofs.InRange.{places-at, declaration-of-path, places-of-path}
 use Rattle.figures.specs.Answers.{operatorAt, before, pairedAt, delayAt, pathDelay, operatorCases, operatorsCases, lineCases}
 use Rattle.figures.specs.Along.{flowInto, flowOfClass, AllFit}
 use Rattle.figures.proofs.Part.{part-in-time}
@@ -32,12 +33,10 @@ use Rattle.figures.proofs.Steps.{Known, Timed, Passed, Step, known-star
 
 -- each operator's number is in its range
 number-in-range : (places : List Place) → placesInRange places ≡ true → (k : ℕ) → k < length places → numberInRange (getD places k noPlace .operator) ≡ true
-unfolding placesInRange placeInRange
-number-in-range [] inside k less = absurd (not-suc-le-zero less)
-number-in-range (place ∷ places) inside zero less =
-    both-true (numberInRange (place .operator)) (inRange linkRange (place .link .0)) (both-true (placeInRange place) (placesInRange places) inside .0) .0
-number-in-range (place ∷ places) inside (suc k) less =
-    number-in-range places (both-true (placeInRange place) (placesInRange places) inside .1) k (le-of-suc-le-suc less)
+unfolding placeInRange
+number-in-range places inside k less =
+    let place = getD places k noPlace in
+    both-true (numberInRange (place .operator)) (inRange linkRange (place .link .0)) (places-at places k noPlace inside less) .0
 
 -- no refusal stands against any operator
 pub none-at : (line : Line) (n : ℕ) → NoneStands (operatorsCases line n) → (k : ℕ) → k < n → NoneStands (operatorCases line k)
@@ -96,20 +95,17 @@ module _ (line : Line) (r : Flow) (choices : ℕ → Flow) where
 
 -- a declaration in range counts over at least one slot
 pub large-interval : (line : Line) → lineInRange line ≡ true → 1 ≤ line .declaration .interval .0
-unfolding lineInRange declarationInRange
+unfolding declarationInRange
 large-interval line inside =
-    let declared = both-true (declarationInRange (line .declaration)) (both (inRange wantedDelayRange (line .wanted)) (placesInRange (line .places))) inside .0 in
     above-least intervalRange (line .declaration .interval .0)
-    (both-true (inRange intervalRange (line .declaration .interval .0)) (inRange quotaRange (line .declaration .quota .0)) declared .0)
+    (both-true (inRange intervalRange (line .declaration .interval .0)) (inRange quotaRange (line .declaration .quota .0)) (declaration-of-path line inside) .0)
 
 module _ (line : Line) (inside : lineInRange line ≡ true) (none : NoneStands (lineCases line)) where
   pub passed-at : (k : ℕ) → k < length (line .places) → Passed (before line k) (operatorAt line k)
-  unfolding lineInRange operatorAt
+  unfolding operatorAt
   passed-at k less =
-      let others = both-true (declarationInRange (line .declaration)) (both (inRange wantedDelayRange (line .wanted)) (placesInRange (line .places))) inside .1 in
-      let places = both-true (inRange wantedDelayRange (line .wanted)) (placesInRange (line .places)) others .1 in
       let here = none-at line (length (line .places)) (none-of-each (operatorsCases line (length (line .places))) _ none .0) k less in
-      record { inside = number-in-range (line .places) places k less; placed = here .0; rated = here .1 .1 .0 }
+      record { inside = number-in-range (line .places) (places-of-path line inside) k less; placed = here .0; rated = here .1 .1 .0 }
 
   module _ (r : Flow) (choices : ℕ → Flow) (kept : Keeps (classOf (line .declaration)) r) (fits : AllFit line r choices) where
     step-at : (k : ℕ) → k < length (line .places) → Reached line r choices k

@@ -13,7 +13,7 @@ use Rattle.quantity.specs.Ranges.{inRange, pathNumberRange}
 use Rattle.quantity.proofs.Laws.{le-largest}
 use Rattle.quantity.proofs.Sums.{every-at, every-holds, every-fails}
 use Rattle.quantity.proofs.Refusals.{NoneStands, none-of-both, none-of-each, none-where-result, firstOf-none}
-use Rattle.sheet.specs.Paths.{Line}
+use Rattle.sheet.specs.Paths.{Line, linkAt}
 use Rattle.sheet.specs.Sheets.{sheetCases, pathIn, lineIn}
 use Rattle.sheet.specs.declared.read.Verdict.{Verdict}
 use Rattle.sheet.proofs.Accepted.{sheet-line, never-accepted}
@@ -25,7 +25,7 @@ use Rattle.ledger.specs.declared.Ledger.{Ledger}
 use Rattle.ledger.specs.declared.admission.Admission.{Admission}
 use Rattle.ledger.specs.Records.{numberAt, among, stands, reserved}
 use Rattle.ledger.specs.Ledgers.{recordCount, linkCount, capacityOf}
-use Rattle.ledger.specs.Admission.{rateOf, linkAt, namesLink, ledgerFull, linkShort, standingCases, admissionCases, refusedAdmission, acceptedAdmission, admissionOf}
+use Rattle.ledger.specs.Admission.{rateOf, namesLink, ledgerFull, linkShort, standingCases, admissionCases, refusedAdmission, acceptedAdmission, admissionOf}
 use Rattle.ledger.specs.Admissible.{Admissible}
 use Rattle.ledger.proofs.UsableLedger.{usable-ledger}
 use Rattle.ledger.proofs.Numbers.{not-among}

@@ -13,7 +13,7 @@ use borrow.Author.Tests.{lt-ltb, le-ltb, eq-eqb, ne-eqb}
 use Rattle.quantity.specs.Choice.{pick, both}
 use Rattle.quantity.specs.Rounding.{roundUp}
 use Rattle.quantity.specs.Quantities.{ratesSum}
-use Rattle.quantity.specs.Ranges.{inRange, linkRange, wantedDelayRange, pathNumberRange}
+use Rattle.quantity.specs.Ranges.{inRange, linkRange, pathNumberRange}
 use Rattle.quantity.specs.Refusals.{firstOf}
 use Rattle.quantity.specs.declared.Rate.{Rate}
 use Rattle.quantity.specs.declared.refusal.Refusal.{Refusal}
@@ -22,11 +22,11 @@ use Rattle.quantity.proofs.Laws.{pick-true, pick-false, le-largest}
 use Rattle.quantity.proofs.Quantities.{rates-sum}
 use Rattle.quantity.proofs.Refusals.{firstOf-map, firstOf-append}
 use Rattle.quantity.proofs.Sums.{both-true, getD-listOf, total-same, every-same}
-use Rattle.operator.specs.Declarations.{declarationInRange}
 use Rattle.operator.specs.Operators.{numberInRange}
 use Rattle.sheet.specs.Bodies.{placeInRange}
 use Rattle.sheet.specs.declared.Form.{Form}
-use Rattle.sheet.specs.Paths.{Line, noPlace}
+use Rattle.sheet.specs.Paths.{Line, noPlace, linkAt}
+use Rattle.sheet.proofs.InRange.{declaration-of-path, places-of-path}
 use Rattle.sheet.specs.Forms.{inFull, valueIn}
 use Rattle.sheet.specs.Sheets.{sheetCases, pathIn, lineIn, placesInRange, lineInRange}
 use Rattle.sheet.specs.declared.Place.{Place}
@@ -43,7 +43,7 @@ use Rattle.ledger.specs.declared.test.Tested.{Tested}
 use Rattle.ledger.specs.declared.admission.Admitting.{Admitting}
 use Rattle.ledger.specs.Records.{numberAt, reserved, stands, placeAmong}
 use Rattle.ledger.specs.Ledgers.{linkCount, recordCount, capacityOf, ledgerUnusable}
-use Rattle.ledger.specs.Admission.{rateOf, linkAt, namesLink, linksOf, ledgerFull, linkShort, standingCases, bitsOf}
+use Rattle.ledger.specs.Admission.{rateOf, namesLink, linksOf, ledgerFull, linkShort, standingCases, bitsOf}
 use Rattle.ledger.specs.Steps.{rateAt, testedOf, namedBy, shortOf, Decidable, refusedAdmitting, acceptedAdmitting, admittingOf}
 use Rattle.ledger.proofs.Deciding.{declaration-in-range, count-few, reserved-le, capacity-le, reserved-found, stands-below}
 
@@ -68,29 +68,19 @@ links-below (place ∷ places) inside n zero =
 links-below (place ∷ places) inside n (suc k) = links-below places (both-true (placeInRange place) (placesInRange places) inside .1) n k
 
 module _ (line : Line) (inside : lineInRange line ≡ true) where
-  declaration-inside : declarationInRange (line .declaration) ≡ true
-  unfolding lineInRange
-  declaration-inside = both-true (declarationInRange (line .declaration)) (both (inRange wantedDelayRange (line .wanted)) (placesInRange (line .places))) inside .0
-
-  places-inside : placesInRange (line .places) ≡ true
-  unfolding lineInRange
-  places-inside =
-      both-true (inRange wantedDelayRange (line .wanted)) (placesInRange (line .places))
-      (both-true (declarationInRange (line .declaration)) (both (inRange wantedDelayRange (line .wanted)) (placesInRange (line .places))) inside .1) .1
-
   -- its value's links are below sixteen
   value-links : (form : Form) (k : ℕ) → k < 16 → getD (valueIn form line .places) k noPlace .link .0 < linkCount
   unfolding valueIn
-  value-links form k less = rw (getD-take 16 (line .places ++ replicate 16 noPlace) k noPlace less) (links-below (line .places) places-inside 16 k)
+  value-links form k less = rw (getD-take 16 (line .places ++ replicate 16 noPlace) k noPlace less) (links-below (line .places) (places-of-path line inside) 16 k)
 
   pub line-link : (k : ℕ) → linkAt line k < linkCount
-  line-link k = subst (λ (places : List Place). getD places k noPlace .link .0 < linkCount) (append-nil (line .places)) (links-below (line .places) places-inside 0 k)
+  line-link k = subst (λ (places : List Place). getD places k noPlace .link .0 < linkCount) (append-nil (line .places)) (links-below (line .places) (places-of-path line inside) 0 k)
 
   -- and its rate is small
   rate-le : rateOf line ≤ 66558
   unfolding rateOf roundUp
   rate-le =
-      let declared = declaration-in-range (line .declaration) declaration-inside in
+      let declared = declaration-in-range (line .declaration) (declaration-of-path line inside) in
       omega (arith, div-le-self (line .declaration .quota .0 + (line .declaration .interval .0 - 1)) (line .declaration .interval .0))
 
 -- What the code finds of a path's value is what the definitions say of the path.
@@ -150,7 +140,7 @@ module _ (sheet : List ℕ) (accepted : figuresOf sheet .verdict ≡ Verdict.Acc
   accepted-decidable ledger records usable =
       rw accepted-path (
         count-few ledger records usable,
-        declaration-inside (lineIn sheet) accepted-inside,
+        declaration-of-path (lineIn sheet) accepted-inside,
         sheet-line sheet (accepted-none sheet accepted .0) .few,
         value-links (lineIn sheet) accepted-inside (answer .path .form),
       )

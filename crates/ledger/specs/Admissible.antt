@@ -4,7 +4,7 @@ use mathlib.Core.Path.{_≡_}
 use mathlib.Core.Bool.{false}
 use mathlib.Core.List.{List}
 use lib.ListN.{length}
-use Rattle.sheet.specs.Paths.{Line}
+use Rattle.sheet.specs.Paths.{Line, linkAt}
 use Rattle.sheet.specs.Sheets.{lineIn}
 use Rattle.sheet.specs.declared.read.Verdict.{Verdict}
 use Rattle.figures.specs.Answers.{figuresOf}
@@ -12,7 +12,7 @@ use Rattle.ledger.specs.declared.Record.{Record}
 use Rattle.ledger.specs.declared.Ledger.{Ledger}
 use Rattle.ledger.specs.Records.{numberAt, reserved}
 use Rattle.ledger.specs.Ledgers.{recordCount, capacityOf, ledgerUnusable}
-use Rattle.ledger.specs.Admission.{rateOf, linkAt}
+use Rattle.ledger.specs.Admission.{rateOf}
 
 module _ (ledger : Ledger) (records : List Record) (number : ℕ) (sheet : List ℕ) where
   abbrev pub line : Line

@@ -2,7 +2,7 @@
 use Prim.Native.Nat.{ℕ, _+_, _^_}
 use mathlib.Core.Bool.{Bool, not}
 use mathlib.Core.List.{List, [], _∷_, _++_}
-use lib.ListN.{length, getD, set}
+use lib.ListN.{length, set}
 use lib.Dec.{ltb, eqb}
 use Rattle.quantity.specs.Choice.{pick, both}
 use Rattle.quantity.specs.Sums.{total, every}
@@ -11,7 +11,7 @@ use Rattle.quantity.specs.Ranges.{inRange, pathNumberRange}
 use Rattle.quantity.specs.Refusals.{Case, _⇒_, firstOf}
 use Rattle.quantity.specs.declared.refusal.Refusal.{Refusal}
 use Rattle.quantity.specs.declared.refusal.Refusal.the-variants.{Unusable, PathNumberWrong, LedgerFull, LinkShort}
-use Rattle.sheet.specs.Paths.{Line, noPlace}
+use Rattle.sheet.specs.Paths.{Line, linkAt}
 use Rattle.sheet.specs.Sheets.{sheetCases, lineIn}
 use Rattle.sheet.specs.declared.read.Verdict.{Verdict}
 use Rattle.figures.specs.Answers.{lineCases, pathDelay}
@@ -24,10 +24,6 @@ use Rattle.ledger.specs.Ledgers.{recordCount, linkCount, capacityOf, led
 -- what a path reserves: ⌈Q/m⌉ of its declaration
 unfoldable pub rateOf : Line → ℕ
 rateOf line = roundUp (line .declaration .quota .0) (line .declaration .interval .0)
-
--- the link of operator k
-abbrev pub linkAt : Line → ℕ → ℕ
-linkAt line k = getD (line .places) k noPlace .link .0
 
 -- a path names a link if an operator of it is on the link, however many are
 unfoldable pub namesLink : Line → ℕ → Bool

@@ -14,6 +14,8 @@ mod HeadRead
 mod HouseRead
 mod AnswerLaws
 mod ReadLaws
+pub mod Runs
+pub mod InRange
 mod SheetWritten
 mod WriteLaws
 pub mod ReferenceSheets

@@ -4,11 +4,10 @@ use mathlib.Core.Bool.{true, false}
 use mathlib.Core.List.{List}
 use mathlib.Core.Logic.{_⊎_, inl, inr}
 use Prim.Native.Nat.{ℕ, _+_, _≤_, _<_}
-use native.Mathlib.Nat.{zero-add}
 use native.Mathlib.Omega.{arith}
 use borrow.Author.Tests.{eq-eqb, ne-eqb, lt-ltb, le-ltb}
 use lib.ListN.{length, take}
-use lib.Seq.{sets, sets-eq}
+use lib.Seq.{sets}
 use lib.Dec.{eqb, ltb}
 use Rattle.quantity.specs.Choice.{both, either}
 use Rattle.quantity.specs.Ranges.{inRange, wantedDelayRange}
@@ -31,6 +30,7 @@ use Rattle.sheet.specs.Fields.{fieldOf}
 use Rattle.sheet.specs.Sheets.{placeFields, placesInRange, sheetOf, lineInRange, sheetOfPath, writeCases, writeAnswer, bytesAfter, behindSheet}
 use Rattle.sheet.proofs.Forms.{stands-in-fields, sheet-in-fields, refusals-in-fields, sheet-in-house, refusals-in-house}
 use Rattle.sheet.proofs.HouseLaws.{length-houseBody}
+use Rattle.sheet.proofs.Runs.{stored-first}
 
 wrong-either : (count : ℕ) → (count ≡ 0) ⊎ (16 < count) → either (eqb count 0) (ltb 16 count) ≡ true
 wrong-either count (inl none) = rw (eq-eqb count 0 none)
@@ -57,7 +57,7 @@ module _ {A : Type 0} (refused : Refusal → A) (result : A) (path : Path) (lent
 -- the sheet, stored from the start on, and behind it what the bytes held
 stored-sheet : (sheet lent : List ℕ) → length sheet ≤ length lent → sets lent 0 sheet ≡ behindSheet sheet lent
 unfolding behindSheet
-stored-sheet sheet lent room = sets-eq sheet lent 0 (rw zero-add room) ∙ rw zero-add
+stored-sheet = stored-first
 
 -- a field 04 has 25 bytes
 length-houseField : (h : House) → length (fieldOf 0x04 (houseBody h)) ≡ 25

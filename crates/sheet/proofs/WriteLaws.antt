@@ -1,34 +1,20 @@
--- What the writer's functions rest on: bytes that are written one run behind the other are one run, and each is where the definition puts it.
+-- What the writer's functions rest on: a number's bytes, and the fields of the places, each where the definition puts it.
 use mathlib.Core.Path.{_≡_, refl, sym, ap, _∙_}
 use mathlib.Core.Bool.{Bool, true}
 use mathlib.Core.List.{List, [], _∷_, _++_, append-nil, append-assoc}
-use Prim.Native.Nat.{ℕ, zero, suc, _+_, _-_, _*_, _/_, _%_, _^_, _≤_, _<_}
-use native.Mathlib.Nat.{add-zero, add-suc, suc-add, pow-suc, div-div-eq-div-mul, le-refl, not-suc-le-zero, le-of-suc-le-suc, min-le-left}
+use Prim.Native.Nat.{ℕ, suc, _+_, _-_, _*_, _/_, _%_, _^_, _≤_, _<_}
+use native.Mathlib.Nat.{pow-suc, div-div-eq-div-mul, le-refl, min-le-left}
 use native.Mathlib.Numerals.{add-one}
 use native.Mathlib.Omega.{arith}
 use lib.ListN.{length, getD, set, take, drop, length-append, drop-of-length-le, length-take}
-use lib.Seq.{sets, set-comm, drop-cons, getD-take, take-suc, length-take-le}
-use borrow.Author.Tests.{leb-true}
-use lib.Dec.{leb}
+use lib.Seq.{sets, drop-cons, getD-take, take-suc, length-take-le}
 use Rattle.quantity.specs.Choice.{both}
-use Rattle.quantity.specs.Ranges.{inRange, linkRange}
-use Rattle.quantity.proofs.Sums.{both-true}
-use Rattle.operator.specs.Operators.{numberInRange}
 use Rattle.sheet.specs.declared.Place.{Place}
 use Rattle.sheet.specs.Numbers.{bytesOf}
 use Rattle.sheet.specs.Bodies.{placeBody, placeInRange}
 use Rattle.sheet.specs.Fields.{fieldOf}
 use Rattle.sheet.specs.Sheets.{placeFields, placesInRange}
-
--- a run of bytes behind another
-pub sets-append : (l : List ℕ) (i : ℕ) (vs ws : List ℕ) → sets (sets l i vs) (i + length vs) ws ≡ sets l i (vs ++ ws)
-sets-append l i [] ws = rw add-zero
-sets-append l i (a ∷ vs) ws = rw (add-suc, ← suc-add) (sets-append (set l i a) (suc i) vs ws)
-
--- a byte before a run
-pub set-before : (l : List ℕ) (i j : ℕ) (vs : List ℕ) (a : ℕ) → i < j → set (sets l j vs) i a ≡ sets (set l i a) j vs
-set-before l i j [] a h = refl
-set-before l i j (b ∷ vs) a h = set-before (set l j b) i (suc j) vs a (omega arith) ∙ ap (λ (m : List ℕ). sets m (suc j) vs) (set-comm l j i b a (λ e. omega arith))
+use Rattle.sheet.proofs.Runs.{set-before}
 
 -- a number is written from its low byte: one byte more, before those that are written
 pub number-written : (l sheet : List ℕ) (at k width value left : ℕ) → 0 < k → k ≤ width → sheet ≡ sets l (at + k) (bytesOf (width - k) value) → left ≡ value / 256 ^ (width - k)
@@ -55,33 +41,6 @@ places-tested places count k d here inside e =
 pub none-left : (places : List Place) (count : ℕ) → count ≤ length places → placesInRange (drop count (take count places)) ≡ true
 unfolding placesInRange
 none-left places count inside = rw (drop-of-length-le (take count places) {i = count} (rw (length-take-le count places inside) (le-refl count)))
-
--- what is written behind a run is with it one run
-pub run-behind : (l : List ℕ) (i j : ℕ) (vs ws : List ℕ) {before after : List ℕ} → before ≡ sets l i vs → after ≡ sets before j ws → j ≡ i + length vs → after ≡ sets l i (vs ++ ws)
-run-behind l i j vs ws p q e = rw (q, p, e) (sets-append l i vs ws)
-
--- a run of bytes before another that is written, and what is written before one is with it one run
-sets-before : (l : List ℕ) (i : ℕ) (vs ws : List ℕ) → sets (sets l (i + length vs) ws) i vs ≡ sets l i (vs ++ ws)
-sets-before l i [] ws = rw add-zero
-sets-before l i (a ∷ vs) ws = rw (set-before l i (i + suc (length vs)) ws a (omega arith), add-suc, ← suc-add) (sets-before (set l i a) (suc i) vs ws)
-
-pub run-before : (l : List ℕ) (i j : ℕ) (vs ws : List ℕ) {before after : List ℕ} → before ≡ sets l j ws → after ≡ sets before i vs → j ≡ i + length vs → after ≡ sets l i (vs ++ ws)
-run-before l i j vs ws p q e = rw (q, p, e) (sets-before l i vs ws)
-
--- section 1: a link in its range is one byte
-pub link-small : (place : Place) → placeInRange place ≡ true → place .link .0 ≤ 15
-unfolding placeInRange inRange
-link-small place h =
-    let (_, in-range) = both-true (numberInRange (place .operator)) (inRange linkRange (place .link .0)) h in
-    let (_, largest) = both-true (leb 0 (place .link .0)) (leb (place .link .0) 15) in-range in
-    leb-true _ _ largest
-
--- each of some places that are in range is
-pub places-at : (places : List Place) (k : ℕ) (d : Place) → placesInRange places ≡ true → k < length places → placeInRange (getD places k d) ≡ true
-unfolding placesInRange
-places-at [] k d h inside = absurd (not-suc-le-zero inside)
-places-at (place ∷ places) zero d h inside = both-true (placeInRange place) (placesInRange places) h .0
-places-at (place ∷ places) (suc k) d h inside = places-at places k d (both-true (placeInRange place) (placesInRange places) h .1) (le-of-suc-le-suc inside)
 
 placeFields-snoc : (places : List Place) (place : Place) → placeFields (places ++ (place ∷ [])) ≡ placeFields places ++ fieldOf 0x03 (placeBody place)
 unfolding placeFields

@@ -10,7 +10,7 @@ use Rattle.sheet.specs.Numbers.{bytesOf}
 use Rattle.sheet.specs.House.{houseBody}
 use Rattle.sheet.specs.Fields.{fieldOf}
 use Rattle.sheet.proofs.HouseLaws.{house-within}
-use Rattle.sheet.proofs.WriteLaws.{run-behind}
+use Rattle.sheet.proofs.Runs.{run-behind}
 use Rattle.sheet.proofs.profile.write_house.Statement.{statement}
 use Rattle.sheet.proofs.profile.write_house.Tie as tie
 

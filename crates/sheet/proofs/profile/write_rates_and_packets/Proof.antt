@@ -4,7 +4,7 @@ use mathlib.Core.Path.{refl}
 use mathlib.Core.List.{_++_}
 use denote.Ref.{now}
 use Rattle.sheet.specs.Numbers.{bytesOf}
-use Rattle.sheet.proofs.WriteLaws.{run-behind}
+use Rattle.sheet.proofs.Runs.{run-behind}
 use Rattle.sheet.proofs.profile.write_rates_and_packets.Statement.{statement}
 use Rattle.sheet.proofs.profile.write_rates_and_packets.Tie as tie
 

@@ -9,7 +9,7 @@ use lib.ListN.{length-set}
 use Rattle.sheet.specs.Numbers.{bytesOf}
 use Rattle.sheet.specs.Bodies.{kindByte, declarationBody}
 use Rattle.sheet.specs.Fields.{fieldOf}
-use Rattle.sheet.proofs.WriteLaws.{run-behind}
+use Rattle.sheet.proofs.Runs.{run-behind}
 use Rattle.sheet.proofs.write.write_declaration.Statement.{statement}
 use Rattle.sheet.proofs.write.write_declaration.Tie as tie
 

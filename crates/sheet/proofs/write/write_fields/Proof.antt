@@ -23,7 +23,8 @@ use Rattle.sheet.specs.Fields.{fieldOf}
 use Rattle.sheet.specs.Sheets.{placeFields, placesInRange, sheetOf}
 use Rattle.sheet.proofs.AnswerLaws.{tells}
 use Rattle.sheet.proofs.Forms.{stands-in-fields}
-use Rattle.sheet.proofs.WriteLaws.{run-behind, run-before, length-placeFields-most}
+use Rattle.sheet.proofs.Runs.{run-behind, run-before}
+use Rattle.sheet.proofs.WriteLaws.{length-placeFields-most}
 use Rattle.sheet.proofs.SheetWritten.{wrong-count, wrong-number, all-right, line-in-range, length-sheet}
 use Rattle.sheet.proofs.write.write_fields.Statement.{statement}
 use Rattle.sheet.proofs.write.write_fields.Tie as tie

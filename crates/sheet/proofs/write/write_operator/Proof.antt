@@ -8,7 +8,7 @@ use denote.Ref.{now}
 use lib.ListN.{length-set}
 use Rattle.sheet.specs.Numbers.{bytesOf}
 use Rattle.sheet.specs.Fields.{fieldOf}
-use Rattle.sheet.proofs.WriteLaws.{run-behind, run-before}
+use Rattle.sheet.proofs.Runs.{run-behind, run-before}
 use Rattle.sheet.proofs.write.write_operator.Statement.{statement}
 use Rattle.sheet.proofs.write.write_operator.Tie as tie
 

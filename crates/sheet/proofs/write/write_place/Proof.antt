@@ -2,7 +2,7 @@
 use borrow.Author.Needs.{needs}
 use native.Mathlib.Omega.{arith}
 use Rattle.sheet.specs.Bodies.{operatorByte, operatorNumber, placeBody}
-use Rattle.sheet.proofs.WriteLaws.{link-small}
+use Rattle.sheet.proofs.InRange.{link-small}
 use Rattle.sheet.proofs.write.write_place.Statement.{statement}
 use Rattle.sheet.proofs.write.write_place.Tie as tie
 

@@ -14,7 +14,9 @@ use Rattle.sheet.specs.Paths.{noPlace}
 use Rattle.sheet.specs.Bodies.{placeBody}
 use Rattle.sheet.specs.Fields.{fieldOf}
 use Rattle.sheet.specs.Sheets.{placeFields, placesInRange}
-use Rattle.sheet.proofs.WriteLaws.{places-tested, none-left, run-behind, places-at, placeFields-next, length-placeFields-take}
+use Rattle.sheet.proofs.Runs.{run-behind}
+use Rattle.sheet.proofs.InRange.{places-at}
+use Rattle.sheet.proofs.WriteLaws.{places-tested, none-left, placeFields-next, length-placeFields-take}
 use Rattle.sheet.proofs.write.write_places.Statement.{statement}
 use Rattle.sheet.proofs.write.write_places.Tie as tie
 

@@ -6,7 +6,7 @@ use denote.Ref.{now}
 use Rattle.sheet.specs.Numbers.{bytesOf}
 use Rattle.sheet.specs.Bodies.{wantedBody}
 use Rattle.sheet.specs.Fields.{fieldOf}
-use Rattle.sheet.proofs.WriteLaws.{run-behind}
+use Rattle.sheet.proofs.Runs.{run-behind}
 use Rattle.sheet.proofs.write.write_wanted.Statement.{statement}
 use Rattle.sheet.proofs.write.write_wanted.Tie as tie
 
