@@ -1,0 +1,53 @@
+-- Worked examples, computed from the definitions: columns as they stand on paper, and all that is read off the page of section 8's path.
+use mathlib.Core.Path.{_≡_, refl}
+use mathlib.Core.List.{[], _∷_}
+use Prim.Native.Nat.{ℕ}
+use Rattle.quantity.specs.Rounding.{roundUp}
+use Rattle.quantity.specs.Divisors.{euclid, gcd}
+use Rattle.quantity.specs.Sums.{total, listOf}
+use Rattle.operator.specs.Classes.{burst, mostIn, blocksMet, changedTo}
+use Rattle.operator.specs.FilterPart.{slower}
+use Rattle.operator.specs.Operators.{compactor, expander}
+use Rattle.operator.specs.declared.Kind.{Kind}
+use Rattle.operator.specs.declared.Operator.{Operator}
+use Rattle.text.specs.Decimals.{withDigit, withDigits, valueOf}
+use Rattle.sheet.specs.declared.Place.{Place}
+use Rattle.sheet.specs.Paths.{Line}
+use Rattle.sheet.specs.Bodies.{operatorByte}
+use Rattle.figures.specs.Progress.{behind, progressAt}
+use Rattle.figures.specs.Figures.{partCapacity, partDelay, capacity, ownDelay, pairs, isFramed}
+use Rattle.figures.specs.Answers.{operatorAt, before, pairedAt, capacityAt, delayAt, pathDelay, figureAt}
+use Rattle.page.specs.Columns.{text, number, digitsOf, decimal, column, columns}
+use Rattle.page.specs.Pages.{widths, lineOf, kindNames, pathName, operatorCells, pathCells, cellsAt, sumCells, rowsOf, linesOf, pageOf}
+use Rattle.page.specs.Reading.{widthOf, lineLength, lineAt, cut, columnAt, behindSpaces, numberIn, beforeSpaces, same, whichOf, kindIn, entryAt, readLines, readPage}
+
+-- 0, 15 and 307 to the right, path to the left
+columns-computed : columns (4 ∷ 4 ∷ 6 ∷ 6 ∷ []) (number 0 ∷ number 15 ∷ number 307 ∷ text pathName ∷ []) ≡ 32 ∷ 32 ∷ 32 ∷ 48 ∷ 32 ∷ 32 ∷ 49 ∷ 53 ∷ 32 ∷ 32 ∷ 32 ∷ 51 ∷ 48 ∷ 55 ∷ 112 ∷ 97 ∷ 116 ∷ 104 ∷ 32 ∷ 32 ∷ []
+unfolding columns column decimal digitsOf pathName
+columns-computed = refl
+
+-- smooth (10, 30), wanted 30; compactor and expander 10 on link 0, and again on link 1
+abbrev on : ℕ → Operator → Place
+on link operator = record { operator = operator; link = record { 0 = link } }
+
+abbrev frames : Line
+frames =
+    record {
+      declaration = record { kind = Kind.Smooth; interval = record { 0 = 10 }; quota = record { 0 = 30 } };
+      wanted = 30;
+      places = on 0 (compactor 10) ∷ on 0 (expander 10) ∷ on 1 (compactor 10) ∷ on 1 (expander 10) ∷ [];
+    }
+
+-- index, kind (1 compactor, 2 expander), link, capacity and delay of each operator, and the sums
+page-computed : readPage (pageOf frames) ≡ record {
+  entries =
+      record { index = 0; kind = 1; link = 0; capacity = 30; delay = 10 }
+      ∷ record { index = 1; kind = 2; link = 0; capacity = 30; delay = 0 }
+      ∷ record { index = 2; kind = 1; link = 1; capacity = 30; delay = 10 }
+      ∷ record { index = 3; kind = 2; link = 1; capacity = 30; delay = 10 }
+      ∷ [];
+  capacity = 120;
+  delay = 30;
+}
+unfolding roundUp euclid gcd total listOf burst mostIn blocksMet changedTo slower withDigit withDigits valueOf operatorByte behind progressAt partCapacity partDelay capacity ownDelay pairs isFramed operatorAt before pairedAt capacityAt delayAt pathDelay figureAt digitsOf decimal column columns widths lineOf kindNames pathName operatorCells pathCells cellsAt sumCells rowsOf linesOf pageOf widthOf lineLength lineAt cut columnAt behindSpaces numberIn beforeSpaces same whichOf kindIn entryAt readLines readPage
+page-computed = refl
