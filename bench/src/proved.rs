@@ -4,6 +4,15 @@ mod exported {
     unsafe extern "C" {
         pub fn workload_figures(sheets: *const u8, size: usize, width: usize, turns: u64) -> u64;
 
+        pub fn workload_pages(
+            sheets: *const u8,
+            size: usize,
+            width: usize,
+            lent: *mut u8,
+            lent_size: usize,
+            turns: u64,
+        ) -> u64;
+
         pub fn workload_reading(sheets: *const u8, size: usize, width: usize, turns: u64) -> u64;
 
         pub fn workload_writing(
@@ -58,6 +67,19 @@ mod exported {
 
 pub fn figures(sheets: &[u8], width: usize, turns: u64) -> u64 {
     unsafe { exported::workload_figures(sheets.as_ptr(), sheets.len(), width, turns) }
+}
+
+pub fn pages(sheets: &[u8], width: usize, lent: &mut [u8], turns: u64) -> u64 {
+    unsafe {
+        exported::workload_pages(
+            sheets.as_ptr(),
+            sheets.len(),
+            width,
+            lent.as_mut_ptr(),
+            lent.len(),
+            turns,
+        )
+    }
 }
 
 pub fn reading(sheets: &[u8], width: usize, turns: u64) -> u64 {

@@ -1,6 +1,7 @@
 //! The rows of the comparison, and whether the two sides agree on many more calls.
 
 use crate::inputs::{Random, SHEET_LENGTH, Slots};
+use crate::plain::page::PAGE_MEMORY;
 use crate::plain::run::WORDS;
 use crate::plain::sheet::{Kind, Path, SHEET_MEMORY};
 use crate::turns::mix;
@@ -9,6 +10,7 @@ use crate::{proved, turns};
 /// One side: its workloads.
 pub struct Planner {
     figures: fn(&[u8], usize, u64) -> u64,
+    pages: fn(&[u8], usize, &mut [u8], u64) -> u64,
     reading: fn(&[u8], usize, u64) -> u64,
     writing: fn(&[u8], usize, &mut [u8], u64) -> u64,
     slots: fn(&[u8], &mut [u32], &[u64], &[u64], usize, u64) -> u64,
@@ -18,6 +20,7 @@ pub struct Planner {
 
 pub const PROVED: Planner = Planner {
     figures: proved::figures,
+    pages: proved::pages,
     reading: proved::reading,
     writing: proved::writing,
     slots: proved::slots,
@@ -27,6 +30,7 @@ pub const PROVED: Planner = Planner {
 
 pub const PLAIN: Planner = Planner {
     figures: turns::figures,
+    pages: turns::pages,
     reading: turns::reading,
     writing: turns::writing,
     slots: turns::slots,
@@ -45,6 +49,7 @@ const SHEETS: usize = 63;
 #[derive(Clone, Copy)]
 pub enum Calls {
     Figures,
+    Pages,
     Reading,
     Writing,
     Slots(fn(&mut Random) -> Path),
@@ -57,10 +62,14 @@ pub struct RowKind {
     calls: Calls,
 }
 
-pub const ROWS: [RowKind; 13] = [
+pub const ROWS: [RowKind; 14] = [
     RowKind {
         name: "figures of 16 operators",
         calls: Calls::Figures,
+    },
+    RowKind {
+        name: "page of 16 operators",
+        calls: Calls::Pages,
     },
     RowKind {
         name: "reading 16 operators",
@@ -120,6 +129,7 @@ pub struct Row {
 
 enum Given {
     Figures(Vec<u8>),
+    Pages(Vec<u8>),
     Reading(Vec<u8>),
     Writing(Vec<u8>),
     Slots(Slots),
@@ -140,6 +150,7 @@ impl RowKind {
         let mut random = Random::new(1);
         let given = match self.calls {
             Calls::Figures => Given::Figures(random.sheets(SHEETS)),
+            Calls::Pages => Given::Pages(random.sheets(SHEETS)),
             Calls::Reading => Given::Reading(random.sheets(SHEETS)),
             Calls::Writing => Given::Writing(random.sheets(SHEETS)),
             Calls::Slots(path) => {
@@ -183,19 +194,28 @@ impl Given {
     fn play(&self, planner: &Planner, calls: u64) -> u64 {
         match self {
             Given::Figures(sheets) => (planner.figures)(sheets, SHEET_LENGTH, calls),
+            Given::Pages(sheets) => {
+                let mut lent = [0; PAGE_MEMORY];
+                let sum = (planner.pages)(sheets, SHEET_LENGTH, &mut lent, calls);
+                mix_bytes(sum, &lent)
+            }
             Given::Reading(sheets) => (planner.reading)(sheets, SHEET_LENGTH, calls),
             Given::Writing(sheets) => {
                 let mut written = [0; SHEET_MEMORY];
                 let sum = (planner.writing)(sheets, SHEET_LENGTH, &mut written, calls);
-                written
-                    .iter()
-                    .fold(sum, |sum, &byte| mix(sum, u64::from(byte)))
+                mix_bytes(sum, &written)
             }
             Given::Slots(slots) => slots.play(planner, calls),
             Given::Admissions(paths) => paths.play(planner.admissions, calls),
             Given::Releases(paths) => paths.play(planner.releases, calls),
         }
     }
+}
+
+fn mix_bytes(sum: u64, bytes: &[u8]) -> u64 {
+    bytes
+        .iter()
+        .fold(sum, |sum, &byte| mix(sum, u64::from(byte)))
 }
 
 impl Slots {
@@ -265,6 +285,14 @@ pub fn answers_agree() -> Result<u64, String> {
                     return Err(format!("{what} of {damaged:02X?}"));
                 }
             }
+            let [proved, plain] = [PROVED.pages, PLAIN.pages].map(|paged| {
+                let mut lent = [0xFF; PAGE_MEMORY];
+                let sum = paged(&damaged, damaged.len(), &mut lent, 1);
+                mix_bytes(sum, &lent)
+            });
+            if proved != plain {
+                return Err(format!("the page of {damaged:02X?}"));
+            }
         }
     }
     for _ in 0..100 {
@@ -295,5 +323,5 @@ pub fn answers_agree() -> Result<u64, String> {
             200,
         )?;
     }
-    Ok(calls + 200 * 200 * 2 * 16)
+    Ok(calls + 200 * 200 * (2 * 16 + 1))
 }

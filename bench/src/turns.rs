@@ -3,6 +3,7 @@
 use crate::plain::Refusal;
 use crate::plain::figures::figures as figures_of;
 use crate::plain::ledger::{LINKS, Ledger, RECORDS, Record};
+use crate::plain::page::page;
 use crate::plain::run::Run;
 use crate::plain::sheet::{Path, read, write};
 
@@ -33,6 +34,19 @@ pub fn figures(sheets: &[u8], width: usize, turns: u64) -> u64 {
         };
         at = after(at, width, sheets.len());
         k = after(k, 1, 16);
+    }
+    sum
+}
+
+pub fn pages(sheets: &[u8], width: usize, lent: &mut [u8], turns: u64) -> u64 {
+    let (mut sum, mut at) = (0, 0);
+    for left in (1..=turns).rev() {
+        sum = match page(&sheets[at..at + width], lent) {
+            Err(why) => mix_refusal(sum, why),
+            Ok(length) => mix(sum, length as u64),
+        };
+        sum = mix(sum, u64::from(lent[(left % 1037) as usize]));
+        at = after(at, width, sheets.len());
     }
     sum
 }

@@ -2,6 +2,7 @@
 
 pub mod figures;
 pub mod ledger;
+pub mod page;
 pub mod run;
 pub mod sheet;
 

@@ -6,6 +6,8 @@ use crate::mix_refusal;
 use figures::PathFigures;
 use figures::figures;
 use operator::Operator;
+use page::Paged;
+use page::page;
 use sheet::Path;
 use sheet::no_path;
 use sheet::read::ReadSheet;
@@ -48,6 +50,25 @@ pub extern "C" fn workload_reading(sheets: &[u8], width: usize, turns: u64) -> u
     while 0 < left {
         let end = at + width;
         sum = mix_read(sum, read(&sheets[at..end]));
+        at = after(at, width, sheets.len());
+        left -= 1;
+    }
+    sum
+}
+
+// The page of a sheet in each turn, of which one byte goes into the checksum.
+#[no_mangle]
+pub extern "C" fn workload_pages(sheets: &[u8], width: usize, lent: &mut [u8], turns: u64) -> u64 {
+    let mut sum: u64 = 0;
+    if sheets.len() < width {
+        return sum;
+    }
+    let mut at = 0;
+    let mut left = turns;
+    while 0 < left {
+        let end = at + width;
+        sum = mix_paged(sum, page(&sheets[at..end], lent));
+        sum = mix_byte(sum, &lent[..], (left % 1037) as usize);
         at = after(at, width, sheets.len());
         left -= 1;
     }
@@ -150,6 +171,13 @@ fn mix_written(sum: u64, answer: Written) -> u64 {
     match answer {
         Written::Refused(why) => mix_refusal(sum, why),
         Written::Length(length) => mix(sum, length as u64),
+    }
+}
+
+fn mix_paged(sum: u64, answer: Paged) -> u64 {
+    match answer {
+        Paged::Refused(why) => mix_refusal(sum, why),
+        Paged::Length(length) => mix(sum, length as u64),
     }
 }
 
