@@ -9,12 +9,15 @@ use native.Mathlib.Omega.{arith}
 use lib.ListN.{length, take, drop, length-drop}
 use lib.Seq.{length-take-le, getD-take, getD-drop}
 use lib.Dec.{leb, eqb}
-use borrow.Author.Tests.{lt-ltb, le-ltb, le-leb, eqb-true, ne-eqb}
+use borrow.Author.Tests.{lt-ltb, le-ltb, le-leb, lt-leb, eqb-true, ne-eqb}
 use Rattle.quantity.specs.Choice.{pick, both}
 use Rattle.quantity.specs.Sums.{total, every}
 use Rattle.quantity.specs.Limits.{largestAmount}
 use Rattle.quantity.proofs.Sums.{total-le, total-suc, total-same, every-holds, every-same, both-true, both-assoc}
+use Rattle.quantity.proofs.Laws.{pick-true, pick-false}
 use Rattle.operator.specs.Stored.{wordAt, storedFits, wordFits}
+use Rattle.operator.specs.Scanning.{mostScanned, allFit, noneScanned, scannedOf}
+use Rattle.operator.specs.declared.Scanned.{Scanned}
 
 every-parts : (test : ℕ → Bool) (n k : ℕ) → every test (n + k) ≡ both (every test n) (every (λ j. test (n + j)) k)
 unfolding every
@@ -119,3 +122,33 @@ module _ (words : List ℕ) (used end : ℕ) (below : end ≤ used) (within : en
       let behind-total = ap (total (wordAt behind)) behind-length ∙ total-same (wordAt behind) (λ j. wordAt words (end + j)) rest behind-word in
       ap (total (wordAt first)) first-length ∙ total-same (wordAt first) (wordAt words) end first-word
       ∙ (let parts = total-parts (wordAt words) end rest in let same = ap (total (wordAt words)) whole in omega arith)
+
+module _ (used : ℕ) (words : List ℕ) where
+  -- more words than are scanned at once
+  pub too-many : mostScanned < length words → noneScanned ≡ scannedOf used words
+  unfolding scannedOf allFit
+  too-many above = sym (pick-false _ _ _ (ap (λ (t : Bool). both t (every (wordFits used words) (length words))) (lt-leb (length words) mostScanned above)))
+
+  -- of no more than that, each word's test decides
+  module _ (few : length words ≤ mostScanned) where
+    tested : allFit used words ≡ every (wordFits used words) (length words)
+    unfolding allFit
+    tested = ap (λ (t : Bool). both t (every (wordFits used words) (length words))) (le-leb (length words) mostScanned few)
+
+    pub misfit : every (wordFits used words) (length words) ≡ false → noneScanned ≡ scannedOf used words
+    unfolding scannedOf
+    misfit none = sym (pick-false _ _ _ (tested ∙ none))
+
+    pub all-fit : every (wordFits used words) (length words) ≡ true → record { fits = true; units = total (wordAt words) (length words) } ≡ scannedOf used words
+    unfolding scannedOf
+    all-fit fits = sym (pick-true _ _ _ (tested ∙ fits))
+
+    pub scan-fits : scannedOf used words .fits ≡ every (wordFits used words) (length words)
+    scan-fits = answered (every (wordFits used words) (length words)) refl
+      where
+        answered : (fits : Bool) → every (wordFits used words) (length words) ≡ fits → scannedOf used words .fits ≡ fits
+        answered true fits = ap (λ (r : Scanned). r .fits) (sym (all-fit fits))
+        answered false none = ap (λ (r : Scanned). r .fits) (sym (misfit none))
+
+    pub scan-units : scannedOf used words .fits ≡ true → scannedOf used words .units ≡ total (wordAt words) (length words)
+    scan-units fits = ap (λ (r : Scanned). r .units) (sym (all-fit (sym scan-fits ∙ fits)))

@@ -11,6 +11,7 @@ pub mod FilterPart
 pub mod Whole
 pub mod Declarations
 pub mod Stored
+pub mod Scanning
 pub mod Single
 pub mod Within
 pub mod Meter

@@ -16,6 +16,7 @@ ghost use Rattle.quantity.specs.Choice.{both};
 ghost use Rattle.quantity.specs.Sums.{total, every};
 ghost use Rattle.quantity.specs.Limits.{largestAmount, lastSlot};
 ghost use Rattle.operator.specs.Stored.{wordAt, storedFits, wordFits, anyOf};
+ghost use Rattle.operator.specs.Scanning.{noneScanned, scannedOf};
 ghost use Rattle.operator.specs.Operators.{numberInRange};
 ghost use Rattle.operator.specs.Declarations.{declarationInRange};
 
@@ -84,14 +85,40 @@ pub struct SourceMeter {
     pub block: Units,
 }
 
-// Whether every lent word fits, of which the first so many are used, and then the sum of the words.
-struct Scanned {
-    fits: bool,
-    units: u64,
+// Whether there are at most 1,024 words and each fits, of which the first so many are used; and then their sum, else 0.
+pub struct Scanned {
+    pub fits: bool,
+    pub units: u64,
+}
+
+// The most words that are scanned at once, so that their sum fits.
+const MOST_SCANNED: usize = 1024;
+
+// Every lent word tested once, and the words added.
+fn scan(words: &[u32], used: usize) -> Scanned
+    ensures { λ r. ⌜ r ≡ scannedOf used (now (words .entry)) ⌝ }
+{
+    if MOST_SCANNED < words.len() {
+        return misfit();
+    }
+    let scanned = scan_few(words, used);
+    if !scanned.fits {
+        return misfit();
+    }
+    scanned
+}
+
+fn misfit() -> Scanned
+    ensures { λ r. ⌜ r ≡ noneScanned ⌝ }
+{
+    Scanned {
+        fits: false,
+        units: 0,
+    }
 }
 
 // Where all fit, the words that are not used are 0 and add nothing. Used or not, a word is added, so that it takes as long for few used words as for many; where none is used, it is quicker.
-fn scan(words: &[u32], used: usize) -> Scanned
+fn scan_few(words: &[u32], used: usize) -> Scanned
     requires { ⌜ length (now words) ≤ 1024 ⌝ }
     ensures { λ r. ⌜ (r .fits ≡ every (wordFits used (now (words .entry))) (length (now (words .entry)))) × (r .fits ≡ true → r .units ≡ total (wordAt (now (words .entry))) (length (now (words .entry)))) ⌝ }
 {

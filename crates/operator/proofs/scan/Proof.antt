@@ -1,86 +1,46 @@
--- The words in two parts, those used and the rest.
-use mathlib.Core.Path.{_≡_, ap, ap₂, sym, _∙_}
+-- Of words that are not too many the two parts' answer is the definition's.
+use mathlib.Core.Path.{_≡_, sym, _∙_, ap}
+use mathlib.Core.Bool.{Bool, true}
 use Prim.Native.Nat.{ℕ}
-use lib.Dec.{eqb}
-use Rattle.quantity.specs.Choice.{both}
-use Rattle.operator.proofs.ScanLaws.{unused-fits, unused-units, scanned-fits, scanned-units}
+use borrow.Author.Tests.{not-true, not-false}
 use borrow.Author.Needs.{needs}
+use Rattle.operator.specs.declared.Scanned.{Scanned}
+use Rattle.operator.proofs.ScanLaws.{too-many, misfit, all-fit}
 use Rattle.operator.proofs.scan.Statement.{statement}
 use Rattle.operator.proofs.scan.Tie as tie
 
-all-clear-requires : tie.Need-all-clear-requires
-all-clear-requires c κs = search needs
+-- an answer by its parts
+answer : (r : Scanned) (units : ℕ) → r .fits ≡ true → r .units ≡ units → r ≡ record { fits = true; units = units }
+answer r units fits sum = ap (λ (fits : Bool). record { fits = fits; units = r .units }) fits ∙ ap (λ (n : ℕ). record { fits = true; units = n }) sum
+
+misfit-requires : tie.Need-misfit-requires
+misfit-requires c κs = search needs
 
 returns : tie.Need-returns
-returns c =
-    let start = c .before .before .before in
-    let words = start .args .words .now in
-    let none : start .args .used ≡ 0 = c .before .if1 .taken in
-    rw none (c .all-clear .ensures ∙ unused-fits words, λ fits. unused-units words (sym (c .all-clear .ensures) ∙ fits))
+returns c = c .misfit .ensures ∙ too-many _ _ (c .before .if1 .taken)
 
-at-most-requires : tie.Need-at-most-requires
-at-most-requires c κs = search needs
+scan-few-requires : tie.Need-scan-few-requires
+scan-few-requires c κs = search needs
 
-sub-first : tie.Need-sub-first
-sub-first c = search needs
-
-part-first-start : tie.Need-part-first-start
-part-first-start c = search needs
-
-part-first-end : tie.Need-part-first-end
-part-first-end c = search needs
-
-mul-rest : tie.Need-mul-rest
-mul-rest c = search needs
-
-sub-rest : tie.Need-sub-rest
-sub-rest c = search needs
-
-part-rest-start : tie.Need-part-rest-start
-part-rest-start c = search needs
-
-part-rest-end : tie.Need-part-rest-end
-part-rest-end c = search needs
-
-sum-requires : tie.Need-sum-requires
-sum-requires c κs = search needs
-
-none-above-requires : tie.Need-none-above-requires
-none-above-requires c κs = search needs
-
-sum-requires-2 : tie.Need-sum-requires-2
-sum-requires-2 c κs = search needs
-
-and-requires : tie.Need-and-requires
-and-requires c κs = search needs
+misfit-requires-2 : tie.Need-misfit-requires-2
+misfit-requires-2 c κs = search needs
 
 returns-2 : tie.Need-returns-2
 returns-2 c =
-    let start = c .before .before .before .before .before .before .before .before .before in
-    let words = start .args .words .now in
-    let used = start .args .used in
-    let ends = c .before .before .before .before .before .before .at-most in
-    let end = ends .result in
-    let (below, within, all) = ends .ensures in
-    let tested = c .and .ensures ∙ ap₂ both (c .before .before .none-above .ensures) (ap (λ (units : ℕ). eqb units 0) (c .before .sum2 .ensures .0)) in
-    (tested ∙ scanned-fits words used end below within all, λ fits. c .before .before .before .sum .ensures .0 ∙ scanned-units words used end below within all (sym tested ∙ fits))
+    let start = c .before .before .before .before .before .before in
+    c .misfit2 .ensures
+    ∙ misfit (start .args .used) (start .args .words .now) (c .before .before .before .before .if1 .left)
+    (sym (c .before .before .before .scan-few .ensures .0) ∙ not-true _ (c .before .if2 .taken))
+
+returns-3 : tie.Need-returns-3
+returns-3 c =
+    let start = c .before .before .before .before .before in
+    let scanned = c .before .before .scan-few in
+    let fits = not-false _ (c .if2 .left) in
+    answer _ _ fits (scanned .ensures .1 fits)
+    ∙ all-fit (start .args .used) (start .args .words .now) (c .before .before .before .if1 .left) (sym (scanned .ensures .0) ∙ fits)
 
 pub scan-spec : {M : Type 1} → statement M
 scan-spec =
     tie.close
-    (tie.spec
-    all-clear-requires
-    returns
-    at-most-requires
-    sub-first
-    part-first-start
-    part-first-end
-    mul-rest
-    sub-rest
-    part-rest-start
-    part-rest-end
-    sum-requires
-    none-above-requires
-    sum-requires-2
-    and-requires
-    returns-2)
+    (tie.spec misfit-requires returns scan-few-requires misfit-requires-2 returns-2 returns-3)

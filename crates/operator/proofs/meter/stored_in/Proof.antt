@@ -2,12 +2,15 @@
 use mathlib.Core.Path.{_≡_, sym, ap, ap₂, _∙_}
 use mathlib.Core.Bool.{Bool, true}
 use Prim.Native.Nat.{ℕ}
+use native.Mathlib.Omega.{arith}
 use borrow.Author.Tests.{not-true, not-false}
 use Rattle.quantity.specs.Sums.{total, every}
 use Rattle.quantity.proofs.Laws.{pick-true, pick-false}
 use Rattle.operator.specs.Stored.{wordAt, storedFits, wordFits}
 use Rattle.operator.specs.Meter.{meterWordCount, usesBlock, meterWordsUsed}
+use Rattle.operator.specs.declared.Scanned.{Scanned}
 use Rattle.operator.specs.declared.meter.Stored.{Stored}
+use Rattle.operator.proofs.ScanLaws.{scan-fits, scan-units}
 use Rattle.operator.proofs.UsableMeter.{meter-usable, wrong-length, no-slot-left, block-misfit, word-misfit}
 use borrow.Author.Needs.{needs}
 use Rattle.operator.proofs.meter.stored_in.Statement.{statement}
@@ -28,7 +31,7 @@ words-tested : (c : tie.After-scan) →
 words-tested c =
     let words = c .before .before .before .before .before .before .before .before .before .before .args .words .now in
     let sized = c .before .before .before .before .before .before .before .before .if1 .left in
-    sym (c .scan .ensures .0 ∙ ap₂ (λ (used count : ℕ). every (wordFits used words) count) (c .before .words-used .ensures) sized)
+    sym (ap (λ (r : Scanned). r .fits) (c .scan .ensures) ∙ scan-fits _ words (omega (arith, sized)) ∙ ap₂ (λ (used count : ℕ). every (wordFits used words) count) (c .before .words-used .ensures) sized)
 
 words-summed : (c : tie.After-scan) →
     let words = c .before .before .before .before .before .before .before .before .before .before .args .words .now in
@@ -36,7 +39,9 @@ words-summed : (c : tie.After-scan) →
 words-summed c fits =
     let words = c .before .before .before .before .before .before .before .before .before .before .args .words .now in
     let sized = c .before .before .before .before .before .before .before .before .if1 .left in
-    c .scan .ensures .1 fits ∙ ap (total (wordAt words)) sized
+    ap (λ (r : Scanned). r .units) (c .scan .ensures)
+    ∙ scan-units _ words (omega (arith, sized)) (sym (ap (λ (r : Scanned). r .fits) (c .scan .ensures)) ∙ fits)
+    ∙ ap (total (wordAt words)) sized
 
 returns : tie.Need-returns
 returns c = sym (pick-true _ _ _ (wrong-length _ _ (c .if1 .taken)))
