@@ -3,8 +3,8 @@
 use crate::fault::Fault;
 use crate::profile::read_profile;
 use console::numbers::narrow;
-use operator::Declaration;
-use operator::Kind;
+use flow::Declaration;
+use flow::Kind;
 use operator::Operator;
 use quantity::Delay;
 use quantity::Interval;

@@ -10,7 +10,7 @@ use console::input::begin;
 use console::print::hexadecimal;
 use console::print::refused;
 use console::print::text;
-use operator::Declaration;
+use flow::Declaration;
 use quantity::WantedDelay;
 use sheet::Form;
 use sheet::House;

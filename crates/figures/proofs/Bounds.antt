@@ -16,10 +16,10 @@ use Rattle.quantity.specs.declared.Delay.{Delay}
 use Rattle.quantity.proofs.Quantities.{units-sum, units-over}
 use Rattle.quantity.proofs.Rounding.{round-up-enough, round-up-least}
 use Rattle.quantity.proofs.Sums.{both-true}
-use Rattle.operator.specs.Classes.{Class, burst}
+use Rattle.flow.specs.Classes.{Class, burst}
 use Rattle.operator.specs.FilterPart.{Slowest, unfiltered, filtered, slower}
 use Rattle.operator.specs.Operators.{numberInRange}
-use Rattle.operator.specs.declared.Kind.{Kind}
+use Rattle.flow.specs.declared.Kind.{Kind}
 use Rattle.operator.specs.declared.Operator.{Operator}
 use Rattle.operator.specs.declared.Operator.the-variants.{Limiter, Compactor, Expander, Filter, Delayer}
 use Rattle.figures.specs.declared.carried.LeastRate.{LeastRate}

@@ -23,8 +23,7 @@ use Rattle.quantity.proofs.Quantities.{slots-sum}
 use Rattle.quantity.proofs.Laws.{pick-true, pick-false}
 use Rattle.quantity.proofs.Sums.{both-true, total-zero, total-suc, total-next, listOf-ext}
 use Rattle.operator.specs.Operators.{numberInRange}
-use Rattle.operator.specs.Declarations.{declarationInRange}
-use Rattle.operator.specs.Metering.{classOf}
+use Rattle.flow.specs.Declarations.{declarationInRange, classOf}
 use Rattle.operator.specs.declared.Operator.{Operator}
 use Rattle.sheet.specs.Paths.{Line, noPlace}
 use Rattle.sheet.specs.Forms.{inFull}

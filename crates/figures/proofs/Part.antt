@@ -6,12 +6,14 @@ use native.Mathlib.Decide.{decLe}
 use native.Mathlib.Omega.{arith}
 use Rattle.quantity.specs.Rounding.{roundUp}
 use Rattle.quantity.proofs.Rounding.{round-up-enough, round-up-least}
-use Rattle.operator.specs.Flows.{Flow, heldOn, outputOn, Fitting, InTime, Behind}
-use Rattle.operator.specs.Classes.{Class, Keeps, burst}
+use Rattle.flow.specs.Flows.{Flow, InTime, Behind}
+use Rattle.operator.specs.OnFlows.{heldOn, outputOn, Fitting}
+use Rattle.flow.specs.Classes.{Class, Keeps, burst}
 use Rattle.operator.specs.FilterPart.{Slowest, unfiltered, filtered, slower, Served}
 use Rattle.operator.specs.Operators.{filter}
 use Rattle.operator.specs.declared.Operator.{Operator}
-use Rattle.operator.proofs.Laws.{window, envelope, filtered-in-time, unfiltered-in-time, filtered-held, unfiltered-held, filter-beside}
+use Rattle.flow.proofs.Laws.{window, envelope}
+use Rattle.operator.proofs.Laws.{filtered-in-time, unfiltered-in-time, filtered-held, unfiltered-held, filter-beside}
 use Rattle.figures.specs.Figures.{partCapacity, partDelay}
 
 -- the slowest filter carries the class, as refusal 8 asks of each

@@ -16,12 +16,12 @@ use Rattle.quantity.specs.Sums.{total}
 use Rattle.quantity.proofs.Laws.{either-none}
 use Rattle.quantity.proofs.Refusals.{NoneStands, none-of-both}
 use Rattle.quantity.proofs.Sums.{getD-listOf}
-use Rattle.operator.specs.Classes.{Class, smooth, uniform, burst, changedTo}
+use Rattle.flow.specs.Classes.{Class, smooth, uniform, burst, changedTo}
 use Rattle.operator.specs.FilterPart.{filtered, slower}
-use Rattle.operator.specs.Metering.{classOf}
+use Rattle.flow.specs.Declarations.{classOf}
 use Rattle.operator.specs.Operators.{limiter, compactor, expander, filter, delayer}
 use Rattle.operator.specs.declared.Operator.{Operator}
-use Rattle.operator.proofs.Laws.{blocks-met-whole}
+use Rattle.flow.proofs.Laws.{blocks-met-whole}
 use Rattle.sheet.specs.declared.Place.{Place}
 use Rattle.sheet.specs.declared.House.{House}
 use Rattle.sheet.specs.House.{delayerSlots, houseInRange, hopLength, hopOperator, housePlace, houseLine}

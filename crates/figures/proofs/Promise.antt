@@ -12,9 +12,9 @@ use Rattle.quantity.specs.Sums.{listOf}
 use Rattle.quantity.specs.declared.refusal.Refusal.{Refusal}
 use Rattle.quantity.proofs.Laws.{either-false}
 use Rattle.quantity.proofs.Refusals.{NoneStands, none-of-each, none-where-result, firstOf-none}
-use Rattle.operator.specs.Flows.{Flow}
-use Rattle.operator.specs.Classes.{Keeps}
-use Rattle.operator.specs.Metering.{classOf}
+use Rattle.flow.specs.Flows.{Flow}
+use Rattle.flow.specs.Classes.{Keeps}
+use Rattle.flow.specs.Declarations.{classOf}
 use Rattle.operator.specs.Operators.{numberInRange}
 use Rattle.sheet.specs.declared.read.Verdict.{Verdict}
 use Rattle.sheet.specs.Paths.{Line}

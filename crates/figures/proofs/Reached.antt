@@ -13,12 +13,11 @@ use Rattle.quantity.specs.Ranges.{inRange, intervalRange, quotaRange, linkRange
 use Rattle.quantity.specs.Sums.{total}
 use Rattle.quantity.proofs.Refusals.{NoneStands, none-of-each}
 use Rattle.quantity.proofs.Sums.{both-true}
-use Rattle.operator.specs.Flows.{Flow, InTime}
-use Rattle.operator.specs.Classes.{Keeps}
-use Rattle.operator.specs.Declarations.{declarationInRange}
-use Rattle.operator.specs.Metering.{classOf}
+use Rattle.flow.specs.Flows.{Flow, InTime}
+use Rattle.flow.specs.Classes.{Keeps}
+use Rattle.flow.specs.Declarations.{declarationInRange, classOf}
 use Rattle.operator.specs.Operators.{numberInRange, expander}
-use Rattle.operator.proofs.Laws.{in-time-add}
+use Rattle.flow.proofs.Laws.{in-time-add}
 use Rattle.sheet.specs.declared.Place.{Place}
 use Rattle.sheet.specs.Bodies.{placeInRange}
 use Rattle.sheet.specs.Paths.{Line, noPlace}

@@ -13,12 +13,13 @@ use Rattle.operator.specs.Compactor.{compactorLeast, compactorAfter}
 use Rattle.operator.specs.Filter.{besideAfter, filterLeast, filterGreatest, filterAfter}
 use Rattle.operator.specs.Delayer.{ofAge, olderThan, staysOf, delayerLeast, delayerAfter}
 use Rattle.operator.specs.Operators.{leastOutput, greatestOutput, heldAfter, numberInRange, limiter, compactor, expander, filter, delayer}
-use Rattle.operator.specs.Flows.{flowOf, outputOn, heldOn, none}
-use Rattle.operator.specs.Classes.{burst, mostIn, blocksMet, changedTo}
+use Rattle.flow.specs.Flows.{flowOf}
+use Rattle.operator.specs.OnFlows.{outputOn, heldOn, none}
+use Rattle.flow.specs.Classes.{burst, mostIn, blocksMet, changedTo}
 use Rattle.operator.specs.FilterPart.{slower}
-use Rattle.operator.specs.Stored.{storedFits, wordFits}
+use Rattle.words.specs.Stored.{storedFits, wordFits}
 use Rattle.operator.specs.Single
-use Rattle.operator.specs.declared.Kind.{Kind}
+use Rattle.flow.specs.declared.Kind.{Kind}
 use Rattle.operator.specs.declared.Operator.{Operator}
 use Rattle.operator.specs.declared.single.Stepped.{Stepped}
 use Rattle.sheet.specs.Paths.{Line}

@@ -18,12 +18,14 @@ use Rattle.operator.specs.Compactor.{compactorAfter}
 use Rattle.operator.specs.Expander.{expanderAfter}
 use Rattle.operator.specs.Delayer.{delayerAfter}
 use Rattle.operator.specs.Operators.{heldAfter, numberInRange, expander}
-use Rattle.operator.specs.Flows.{Flow, Smooth, heldOn, outputOn, Fitting, InTime, Behind, Envelope}
-use Rattle.operator.specs.Classes.{Class, smooth, uniform, Keeps, burst, changedTo}
+use Rattle.flow.specs.Flows.{Flow, Smooth, InTime, Behind, Envelope}
+use Rattle.operator.specs.OnFlows.{heldOn, outputOn, Fitting}
+use Rattle.flow.specs.Classes.{Class, smooth, uniform, Keeps, burst, changedTo}
 use Rattle.operator.specs.FilterPart.{Slowest, Served}
-use Rattle.operator.specs.declared.Kind.{Kind}
+use Rattle.flow.specs.declared.Kind.{Kind}
 use Rattle.operator.specs.declared.Operator.{Operator}
 use Rattle.operator.specs.declared.Operator.the-variants.{Limiter, Compactor, Expander, Filter, Delayer}
+use Rattle.flow.proofs.Laws as Flows
 use Rattle.operator.proofs.Laws as Laws
 use Rattle.figures.specs.Progress.{Progress, start, behind}
 use Rattle.figures.specs.Figures.{partDelay, delayOfPart, capacity, ownDelay, pairs, isFramed, framedAfterFilter, rateTooLow}
@@ -104,7 +106,7 @@ module _ (p : Progress) (g f c : Flow) (known : Known p g f) where
     smooth-into : (n : ℕ) → Smooth n (changedTo n (p .class) .quota) f
     smooth-into n =
         let changed = changedTo n (p .class) in
-        rw (changed-interval n (p .class .kind) (p .class .interval) (p .class .quota)) at (Laws.keeps-smooth changed f (Laws.keeps-changed n (p .class) f (known .large) kept-into))
+        rw (changed-interval n (p .class .kind) (p .class .interval) (p .class .quota)) at (Flows.keeps-smooth changed f (Flows.keeps-changed n (p .class) f (known .large) kept-into))
 
     late-into : (r : Flow) (D : ℕ) → (E : ℕ) × (E + delayOfPart p ≡ D) × InTime E r g → InTime D r f
     unfolding partDelay
@@ -118,14 +120,14 @@ module _ (p : Progress) (g f c : Flow) (known : Known p g f) where
   step-limiter R passed fits =
       let output = outputOn (Limiter R) f c in
       let before = not-in-part (p .inFilterPart) (passed .placed) in
-      let bound : Envelope (burst (p .class)) (R .0) f = Laws.envelope (p .class) f (R .0) (known .large) (ltb-false _ _ (passed .rated)) (kept-into before) in
+      let bound : Envelope (burst (p .class)) (R .0) f = Flows.envelope (p .class) f (R .0) (known .large) (ltb-false _ _ (passed .rated)) (kept-into before) in
       let late = Laws.limiter-in-time (R .0) (burst (p .class)) f c (above-least rateRange (R .0) (passed .inside)) fits bound in
       record {
         known = known-start (uniform 1 (R .0)) output (le-refl 1) (Laws.limiter-uniform (R .0) f c fits);
         held = Laws.limiter-held (R .0) (burst (p .class)) f c fits bound;
         beside = λ n. omega (arith, beside-none (Limiter R) f c (λ x i s. refl) n);
         timed = λ r D next pair makes timed. timed-start r (uniform 1 (R .0)) next output _
-            (Laws.in-time-add D _ r f output (late-into before r D (timed-counted r p (Limiter R) g f D (λ n. refl) timed)) late);
+            (Flows.in-time-add D _ r f output (late-into before r D (timed-counted r p (Limiter R) g f D (λ n. refl) timed)) late);
       }
 
   -- an expander's delay, which is left out where it makes a pair
@@ -134,7 +136,7 @@ module _ (p : Progress) (g f c : Flow) (known : Known p g f) where
       → Timed r (start q) next (outputOn (Expander n) f c) (outputOn (Expander n) f c) (D + pick pair 0 (n .0))
   timed-expander n q large fits r D next late true makes = paired (n .0) f c (makes refl) refl fits (rw add-zero late)
   timed-expander n q large fits r D next late false makes =
-      timed-start r q next _ _ (Laws.in-time-add D (n .0) r f (outputOn (Expander n) f c) late (Laws.expander-in-time (n .0) f c large fits))
+      timed-start r q next _ _ (Flows.in-time-add D (n .0) r f (outputOn (Expander n) f c) late (Laws.expander-in-time (n .0) f c large fits))
 
   step-expander : (n : Interval) → Passed p (Expander n) → Fitting (Expander n) f c → Step p (Expander n) g f c
   unfolding behind capacity ownDelay pairs isFramed framedAfterFilter numberInRange heldAfter expanderAfter keeps
@@ -156,11 +158,11 @@ module _ (p : Progress) (g f c : Flow) (known : Known p g f) where
       → InTime (D + n .0) r (outputOn (Compactor n) f c)
   unfolding pairs
   late-compactor n before large fits r D (counted E sum late) =
-      Laws.in-time-add D (n .0) r f (outputOn (Compactor n) f c) (late-into before r D (E, sum, late)) (Laws.compactor-in-time (n .0) f c large fits)
+      Flows.in-time-add D (n .0) r f (outputOn (Compactor n) f c) (late-into before r D (E, sum, late)) (Laws.compactor-in-time (n .0) f c large fits)
   late-compactor n before large fits r D (paired m s e makes flow first late) =
       let interval : m ≡ n .0 = sym (eqb-true (n .0) m makes) in
       let into : outputOn (expander (n .0)) s e ≡ f = rw interval at flow in
-      Laws.in-time-add D (n .0) r s (outputOn (Compactor n) f c) late
+      Flows.in-time-add D (n .0) r s (outputOn (Compactor n) f c) late
       (rw (← into) (Laws.pair-in-time (n .0) s e c large (rw interval at first) (rw into fits)))
 
   step-compactor : (n : Interval) → Passed p (Compactor n) → Fitting (Compactor n) f c → Step p (Compactor n) g f c

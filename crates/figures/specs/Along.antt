@@ -2,8 +2,9 @@
 use Prim.Native.Nat.{ℕ, zero, suc, _≤_, _<_}
 use lib.ListN.{length}
 use Rattle.quantity.specs.Choice.{pick}
-use Rattle.operator.specs.Flows.{Flow, heldOn, outputOn, Fitting, InTime}
-use Rattle.operator.specs.Classes.{Keeps}
+use Rattle.flow.specs.Flows.{Flow, InTime}
+use Rattle.operator.specs.OnFlows.{heldOn, outputOn, Fitting}
+use Rattle.flow.specs.Classes.{Keeps}
 use Rattle.operator.specs.declared.Operator.{Operator}
 use Rattle.sheet.specs.Paths.{Line}
 use Rattle.figures.specs.Figures.{isFramed}

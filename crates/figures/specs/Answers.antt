@@ -9,7 +9,7 @@ use Rattle.quantity.specs.Sums.{total, listOf}
 use Rattle.quantity.specs.Refusals.{Case, _⇒_, firstOf}
 use Rattle.quantity.specs.declared.refusal.Refusal.{Refusal}
 use Rattle.quantity.specs.declared.refusal.Refusal.the-variants.{FramedAfterFilter, FigureTooLarge, RateTooLow, DelayAboveWanted}
-use Rattle.operator.specs.Metering.{classOf}
+use Rattle.flow.specs.Declarations.{classOf}
 use Rattle.operator.specs.declared.Operator.{Operator}
 use Rattle.sheet.specs.Paths.{Line, noPlace}
 use Rattle.sheet.specs.Forms.{noPath}

@@ -4,7 +4,7 @@ use mathlib.Core.Bool.{Bool}
 use mathlib.Core.List.{List, [], _∷_}
 use Rattle.quantity.specs.Refusals.{Case, _⇒_, firstOf}
 use Rattle.quantity.specs.declared.refusal.Refusal.the-variants.{FramedAfterFilter, FigureTooLarge, RateTooLow}
-use Rattle.operator.specs.Classes.{Class}
+use Rattle.flow.specs.Classes.{Class}
 use Rattle.operator.specs.FilterPart.{Slowest, unfiltered, filtered}
 use Rattle.operator.specs.declared.Operator.{Operator}
 use Rattle.figures.specs.declared.Figure.{Figure}

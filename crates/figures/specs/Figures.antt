@@ -5,7 +5,7 @@ use lib.Dec.{ltb, eqb}
 use Rattle.quantity.specs.Choice.{pick, either}
 use Rattle.quantity.specs.Rounding.{roundUp}
 use Rattle.quantity.specs.Limits.{largestAmount}
-use Rattle.operator.specs.Classes.{Class, burst, mostIn, changedTo}
+use Rattle.flow.specs.Classes.{Class, burst, mostIn, changedTo}
 use Rattle.operator.specs.FilterPart.{Slowest, unfiltered, filtered}
 use Rattle.operator.specs.declared.Operator.{Operator}
 use Rattle.operator.specs.declared.Operator.the-variants.{Limiter, Compactor, Expander, Filter, Delayer}

@@ -1,7 +1,7 @@
 -- Section 4, the class between operators: what the operators before one have made of the declared class.
 use Prim.Native.Nat.{ℕ, zero, suc, _+_}
 use mathlib.Core.Bool.{Bool, true, false}
-use Rattle.operator.specs.Classes.{Class, smooth, uniform, changedTo}
+use Rattle.flow.specs.Classes.{Class, smooth, uniform, changedTo}
 use Rattle.operator.specs.FilterPart.{Slowest, unfiltered, slower}
 use Rattle.operator.specs.declared.Operator.{Operator}
 use Rattle.operator.specs.declared.Operator.the-variants.{Limiter, Compactor, Expander, Filter, Delayer}

@@ -1,6 +1,6 @@
 // The class between two operators: its burst, the most that it carries in a window and its change of interval (document 01, section 4).
 
-use operator::Kind;
+use flow::Kind;
 use quantity::Interval;
 use quantity::Slots;
 use quantity::Units;
@@ -8,7 +8,7 @@ use quantity::divisor::gcd;
 ghost use mathlib.Core.Path.{_≡_};
 ghost use Prim.Native.Nat.{_+_, _≤_};
 ghost use Rattle.quantity.specs.Rounding.{roundUp};
-ghost use Rattle.operator.specs.Classes.{burst, mostIn, blocksMet, changedTo};
+ghost use Rattle.flow.specs.Classes.{burst, mostIn, blocksMet, changedTo};
 ghost use Rattle.figures.specs.Carried.{classIn, ClassWithin};
 
 // Smooth or uniform (m, Q). Behind a change of interval Q may be larger than a declared quota.

@@ -22,8 +22,8 @@ use Rattle.quantity.specs.declared.CheckedLinkCapacity.{CheckedLinkCapacity}
 use Rattle.quantity.specs.declared.refusal.Refusal.the-variants.{Unusable, OutOfRange, PathNumberWrong}
 use Rattle.quantity.proofs.Laws.{pick-true, pick-false, picked-true, picked-false, least-le, le-largest}
 use Rattle.quantity.proofs.Sums.{every-next, every-at, length-listOf, getD-listOf, listOf-ext, both-true, every-fails}
-use Rattle.operator.specs.Declarations.{declarationInRange}
-use Rattle.operator.specs.declared.Declaration.{Declaration}
+use Rattle.flow.specs.Declarations.{declarationInRange}
+use Rattle.flow.specs.declared.Declaration.{Declaration}
 use Rattle.sheet.specs.declared.read.Verdict.{Verdict}
 use Rattle.ledger.specs.declared.Ledger.{Ledger}
 use Rattle.ledger.specs.declared.opening.Clearing.{Clearing}

@@ -12,7 +12,7 @@ use Rattle.quantity.proofs.Laws.{least-le, le-largest}
 use Rattle.quantity.proofs.Sums.{both-true}
 use Rattle.quantity.proofs.Rounding.{round-up-enough, round-up-least}
 use Rattle.quantity.proofs.Refusals.{NoneStands}
-use Rattle.operator.specs.Declarations.{declarationInRange}
+use Rattle.flow.specs.Declarations.{declarationInRange}
 use Rattle.sheet.specs.Sheets.{sheetCases, lineIn, lineInRange}
 use Rattle.sheet.proofs.Accepted.{sheet-line}
 use Rattle.ledger.specs.Admission.{rateOf}

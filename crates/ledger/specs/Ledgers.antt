@@ -4,10 +4,9 @@ use mathlib.Core.Bool.{Bool, not}
 use mathlib.Core.List.{List, [], _∷_}
 use lib.ListN.{length, getD}
 use lib.Dec.{leb, ltb, eqb}
-use Rattle.quantity.specs.Choice.{pick, both}
+use Rattle.quantity.specs.Choice.{pick, both, anyOf}
 use Rattle.quantity.specs.Sums.{every}
 use Rattle.quantity.specs.Ranges.{Range, inRange, rateRange, pathNumberRange, linkCapacityRange}
-use Rattle.operator.specs.Stored.{anyOf}
 use Rattle.ledger.specs.declared.Record.{Record}
 use Rattle.ledger.specs.declared.Ledger.{Ledger}
 use Rattle.ledger.specs.Records.{recordAt, numberAt, reserved, allDiffer}

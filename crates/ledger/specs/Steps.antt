@@ -12,7 +12,7 @@ use Rattle.quantity.specs.Refusals.{firstOf}
 use Rattle.quantity.specs.declared.refusal.Refusal.{Refusal}
 use Rattle.quantity.specs.declared.Rate.{Rate}
 use Rattle.quantity.specs.declared.LinkCapacity.{LinkCapacity}
-use Rattle.operator.specs.Declarations.{declarationInRange}
+use Rattle.flow.specs.Declarations.{declarationInRange}
 use Rattle.sheet.specs.Paths.{Line, noPlace}
 use Rattle.sheet.specs.Forms.{inFull}
 use Rattle.sheet.specs.Sheets.{lineIn}

@@ -1,8 +1,8 @@
 -- Compactor n (source document 000, Theorem 4): in a block's first slot it sends all it held and in the others nothing, so its totals are known
 -- exactly; what it holds, its delay and its class follow from them.
-use mathlib.Core.Path.{_≡_, sym, _∙_}
+use mathlib.Core.Path.{_≡_, _∙_}
 use Prim.Native.Nat.{ℕ, zero, suc, _+_, _*_, _/_, _%_, _≤_, _<_}
-use native.Mathlib.Nat.{add-suc, suc-add, zero-mod, mod-lt, add-mul, zero-mul, le-refl, le-dest, mul-le-mul-right, div-add-mod', div-eq-of-lt-le, div-lt-iff-lt-mul, lt-div-mul-add}
+use native.Mathlib.Nat.{add-suc, suc-add, zero-mod, mod-lt, add-mul, zero-mul, le-refl, le-dest, mul-le-mul-right, div-add-mod', div-lt-iff-lt-mul, lt-div-mul-add}
 use native.Mathlib.Decide.{ℕ-discrete}
 use native.Mathlib.Omega.{arith}
 use lib.Dec.{eqb}
@@ -12,14 +12,10 @@ use Rattle.quantity.specs.Sums.{total}
 use Rattle.quantity.proofs.Sums.{total-zero, total-suc, total-le}
 use Rattle.operator.specs.Compactor.{compactorLeast, compactorGreatest}
 use Rattle.operator.specs.Operators.{leastOutput, greatestOutput, compactor}
-use Rattle.operator.specs.Flows.{Flow, Smooth, Uniform, heldOn, outputOn, Fitting, InTime}
+use Rattle.flow.specs.Flows.{Flow, Smooth, Uniform, InTime}
+use Rattle.operator.specs.OnFlows.{heldOn, outputOn, Fitting}
+use Rattle.flow.proofs.Blocks.{same-block}
 use Rattle.operator.proofs.Conservation.{conserved}
-
--- a slot that does not start a block is of the block of the slot before
-pub same-block : (n k : ℕ) → 1 ≤ n → (suc k % n ≡ 0 → ⊥) → suc k / n ≡ k / n
-same-block n k large inside =
-    sym
-    (div-eq-of-lt-le n (omega (arith, div-add-mod' (suc k) n, inside)) (omega (arith, lt-div-mul-add {a = suc k} large, add-mul (suc k / n) 1 n)))
 
 module _ (n : ℕ) (r c : Flow) (large : 1 ≤ n) (fits : Fitting (compactor n) r c) where
   -- the only output that fits

@@ -3,7 +3,7 @@
 use mathlib.Core.Path.{_≡_, sym}
 use mathlib.Core.Bool.{Bool, true, false}
 use Prim.Native.Nat.{ℕ, zero, suc, _+_, _-_, _≤_, _%_}
-use native.Mathlib.Nat.{le-refl, le-trans, min-le-left, add-assoc}
+use native.Mathlib.Nat.{le-refl, min-le-left}
 use native.Mathlib.Omega.{arith}
 use lib.Dec.{eqb, ltb}
 use borrow.Author.Tests.{lt-ltb}
@@ -19,7 +19,8 @@ use Rattle.operator.specs.Filter.{filterLeast, filterGreatest}
 use Rattle.operator.specs.Delayer.{ofAge, olderThan, staysOf, delayerLeast, delayerGreatest, delayerAfter}
 use Rattle.operator.specs.Operators.{leastOutput, greatestOutput, heldAfter}
 use Rattle.operator.specs.Whole.{Whole}
-use Rattle.operator.specs.Flows.{Flow, heldOn, outputOn, Fitting, none, InTime, Behind}
+use Rattle.flow.specs.Flows.{Flow, Behind}
+use Rattle.operator.specs.OnFlows.{heldOn, outputOn, Fitting, none}
 use Rattle.operator.specs.declared.Operator.{Operator}
 use Rattle.operator.specs.declared.Operator.the-variants.{Limiter, Compactor, Expander, Filter, Delayer}
 use Rattle.operator.proofs.Steps.{held-b-zero, held-b-suc}
@@ -129,6 +130,3 @@ conserved op r c fits (suc n) =
 
 pub behind : (op : Operator) (r c : Flow) → Fitting op r c → Behind r (outputOn op r c)
 behind op r c fits n = omega (arith, conserved op r c fits n)
-
-pub in-time-add : (D E : ℕ) (r s u : Flow) → InTime D r s → InTime E s u → InTime (D + E) r u
-in-time-add D E r s u first second n = rw (← add-assoc) (le-trans (first n) (second (n + D)))

@@ -12,7 +12,8 @@ use Rattle.quantity.specs.Sums.{total}
 use Rattle.quantity.proofs.Sums.{total-zero, total-suc, total-le}
 use Rattle.operator.specs.Expander.{expanderLeast}
 use Rattle.operator.specs.Operators.{leastOutput, compactor, expander}
-use Rattle.operator.specs.Flows.{Flow, Smooth, heldOn, outputOn, Fitting, none, InTime}
+use Rattle.flow.specs.Flows.{Flow, Smooth, InTime}
+use Rattle.operator.specs.OnFlows.{heldOn, outputOn, Fitting, none}
 use Rattle.operator.proofs.Conservation.{conserved, behind, none-fits}
 use Rattle.operator.proofs.Compactor.{compactor-totals, compactor-in-time}
 

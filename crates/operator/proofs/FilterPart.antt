@@ -16,7 +16,8 @@ use Rattle.operator.specs.Limiter.{limiterLeast, limiterAfter}
 use Rattle.operator.specs.Filter.{besideAfter, filterLeast, filterAfter}
 use Rattle.operator.specs.Delayer.{ofAge, staysOf, delayerAfter}
 use Rattle.operator.specs.Operators.{leastOutput, heldAfter, limiter, filter, delayer}
-use Rattle.operator.specs.Flows.{Flow, heldOn, outputOn, Fitting, none, InTime, Behind, Envelope}
+use Rattle.flow.specs.Flows.{Flow, InTime, Behind, Envelope}
+use Rattle.operator.specs.OnFlows.{heldOn, outputOn, Fitting, none}
 use Rattle.operator.specs.FilterPart.{Slowest, unfiltered, filtered, slower, limited, Served}
 use Rattle.operator.specs.declared.Operator.{Operator}
 use Rattle.operator.proofs.Steps.{held-suc}

@@ -5,17 +5,14 @@ use mathlib.Core.List.{[], _∷_}
 use Prim.Native.Nat.{ℕ, suc, _+_, _*_, _/_, _≤_}
 use Rattle.quantity.specs.Sums.{total, listOf}
 use Rattle.quantity.specs.Rounding.{roundUp}
-use Rattle.quantity.specs.Divisors.{Divides}
 use Rattle.operator.specs.Held.{Held, nothing}
 use Rattle.operator.specs.Operators.{leastOutput, greatestOutput, heldAfter, limiter, compactor, expander, filter, delayer}
 use Rattle.operator.specs.Whole.{Whole}
-use Rattle.operator.specs.Flows.{Flow, flowOf, Smooth, Uniform, heldOn, outputOn, Fitting, none, InTime, Behind, Envelope}
-use Rattle.operator.specs.Classes.{Class, Keeps, burst, mostIn, blocksMet, changedTo}
+use Rattle.flow.specs.Flows.{Flow, flowOf, Smooth, Uniform, InTime, Behind, Envelope}
+use Rattle.operator.specs.OnFlows.{heldOn, outputOn, Fitting, none}
 use Rattle.operator.specs.FilterPart.{Slowest, unfiltered, filtered, slower, Served}
 use Rattle.operator.specs.declared.Operator.{Operator}
 use Rattle.operator.proofs.Conservation as Conservation
-use Rattle.operator.proofs.Windows as Windows
-use Rattle.operator.proofs.Reached as Reached
 use Rattle.operator.proofs.Limiter as Limiter
 use Rattle.operator.proofs.Compactor as Compactor
 use Rattle.operator.proofs.Expander as Expander
@@ -50,45 +47,6 @@ conserved = Conservation.conserved
 
 pub behind : (op : Operator) (r c : Flow) → Fitting op r c → Behind r (outputOn op r c)
 behind = Conservation.behind
-
--- Delays add (Theorem 6).
-pub in-time-add : (D E : ℕ) (r s u : Flow) → InTime D r s → InTime E s u → InTime (D + E) r u
-in-time-add = Conservation.in-time-add
-
--- Windows, change of interval and envelope (Theorem 1).
-
-pub uniform-is-smooth : (m Q : ℕ) (r : Flow) → Uniform m Q r → Smooth m Q r
-uniform-is-smooth = Windows.uniform-is-smooth
-
-pub keeps-smooth : (c : Class) (r : Flow) → Keeps c r → Smooth (c .interval) (c .quota) r
-keeps-smooth = Windows.keeps-smooth
-
--- no window of n slots has more than the most that the class carries in n slots
-pub window : (c : Class) (r : Flow) → 1 ≤ c .interval → Keeps c r → (a n : ℕ) → total r (a + n) ≤ total r a + mostIn c n
-window = Windows.window
-
--- the flow keeps the changed class
-pub keeps-changed : (n : ℕ) (c : Class) (r : Flow) → 1 ≤ c .interval → Keeps c r → Keeps (changedTo n c) r
-keeps-changed = Windows.keeps-changed
-
--- a smooth flow is smooth over blocks of n slots too, with Q for each block of m that such a block meets
-pub smooth-changed : (m n Q : ℕ) (r : Flow) → 1 ≤ m → Smooth m Q r → Smooth n (blocksMet m n * Q) r
-smooth-changed = Windows.smooth-changed
-
--- some flow has so much in one of its blocks of n slots
-pub blocks-met-reached : (m n Q : ℕ) → 1 ≤ m → 1 ≤ n → (r : Flow) × (Smooth m Q r) × ((j : ℕ) × (total r (j * n + n) ≡ total r (j * n) + blocksMet m n * Q))
-blocks-met-reached = Reached.blocks-met-reached
-
--- so no smaller quota holds of all smooth flows
-pub blocks-met-least : (m n Q q : ℕ) → 1 ≤ m → 1 ≤ n → ((r : Flow) → Smooth m Q r → Smooth n q r) → blocksMet m n * Q ≤ q
-blocks-met-least = Reached.blocks-met-least
-
--- where m divides n the blocks met are the whole blocks
-pub blocks-met-whole : (m n : ℕ) → 1 ≤ m → 1 ≤ n → Divides m n → blocksMet m n ≡ n / m
-blocks-met-whole = Reached.blocks-met-whole
-
-pub envelope : (c : Class) (r : Flow) (R : ℕ) → 1 ≤ c .interval → c .quota ≤ c .interval * R → Keeps c r → Envelope (burst c) R r
-envelope = Windows.envelope
 
 -- Limiter R (Theorem 3).
 

@@ -12,7 +12,8 @@ use Rattle.quantity.proofs.Sums.{total-zero, total-suc, total-next, total-le}
 use Rattle.quantity.proofs.Rounding.{round-up-enough}
 use Rattle.operator.specs.Limiter.{limiterLeast, limiterGreatest}
 use Rattle.operator.specs.Operators.{leastOutput, greatestOutput, limiter}
-use Rattle.operator.specs.Flows.{Flow, heldOn, outputOn, Fitting, Uniform, InTime, Envelope}
+use Rattle.flow.specs.Flows.{Flow, Uniform, InTime, Envelope}
+use Rattle.operator.specs.OnFlows.{heldOn, outputOn, Fitting}
 use Rattle.operator.proofs.Conservation.{conserved}
 
 module _ (R : ℕ) (r c : Flow) (fits : Fitting (limiter R) r c) where

@@ -10,7 +10,8 @@ use Rattle.quantity.proofs.Sums.{total-le, total-le-end}
 use Rattle.operator.specs.Held.{keeps}
 use Rattle.operator.specs.Limiter.{limiterLeast, limiterAfter}
 use Rattle.operator.specs.Operators.{leastOutput, heldAfter, limiter}
-use Rattle.operator.specs.Flows.{flowOf, Smooth, heldOn, outputOn, none}
+use Rattle.flow.specs.Flows.{flowOf, Smooth}
+use Rattle.operator.specs.OnFlows.{heldOn, outputOn, none}
 
 -- nothing comes after the list's slots
 total-le-all : (xs : List ℕ) (n : ℕ) → total (flowOf xs) n ≤ total (flowOf xs) (length xs)

@@ -20,11 +20,11 @@ use Rattle.operator.specs.Held.{Held}
 use Rattle.operator.specs.Delayer.{ofAge}
 use Rattle.operator.specs.Operators.{leastOutput, greatestOutput, numberInRange}
 use Rattle.operator.specs.Whole.{Whole}
-use Rattle.operator.specs.Stored.{wordAt, storedFits, wordFits}
+use Rattle.words.specs.Stored.{wordAt, storedFits, wordFits}
 use Rattle.operator.specs.Single.{wordCount, wordsUsed, usesHeld, usesBeside, heldIn, storedUnusable, unusable, boundsOf}
 use Rattle.operator.specs.Within.{storedOf, heldWith}
-use Rattle.operator.proofs.StoredLaws
-use Rattle.operator.proofs.StoredLaws.{stored-le}
+use Rattle.words.proofs.StoredLaws
+use Rattle.words.proofs.StoredLaws.{stored-le}
 use Rattle.operator.specs.declared.Operator.{Operator}
 use Rattle.operator.specs.declared.Operator.the-variants.{Limiter, Compactor, Expander, Filter, Delayer}
 use Rattle.operator.specs.declared.SingleOperator.{SingleOperator}

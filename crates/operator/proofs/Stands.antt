@@ -23,7 +23,7 @@ use Rattle.operator.specs.Filter.{filterAfter}
 use Rattle.operator.specs.Delayer.{delayerAfter}
 use Rattle.operator.specs.Operators.{leastOutput, greatestOutput, heldAfter, numberInRange}
 use Rattle.operator.specs.Whole.{Whole}
-use Rattle.operator.specs.Stored.{wordAt, storedFits, wordFits}
+use Rattle.words.specs.Stored.{wordAt, storedFits, wordFits}
 use Rattle.operator.specs.Single.{wordCount, wordsUsed, usesHeld, usesBeside, heldIn, heldNext, stateNext, wordsNext}
 use Rattle.operator.specs.declared.Operator.{Operator}
 use Rattle.operator.specs.declared.Operator.the-variants.{Limiter, Compactor, Expander, Filter, Delayer}

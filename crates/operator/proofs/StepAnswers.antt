@@ -22,7 +22,7 @@ use Rattle.operator.specs.declared.single.Decided.{Decided}
 use Rattle.operator.specs.declared.single.Kept.{Kept}
 use Rattle.operator.specs.declared.single.Stepped.{Stepped}
 use Rattle.operator.specs.declared.single.Stored.{Stored}
-use Rattle.operator.proofs.StoredLaws.{either-last}
+use Rattle.words.proofs.StoredLaws.{either-last}
 use Rattle.operator.proofs.SingleLaws.{Usable, stored-holds, stored-is-unusable, unusable-above, unusable-stored, none-unusable}
 use Rattle.operator.proofs.WithinLaws.{choice-alone, sent-fits, kept-or-refused}
 

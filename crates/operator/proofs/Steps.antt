@@ -8,7 +8,8 @@ use Rattle.operator.specs.Expander.{expanderAfter}
 use Rattle.operator.specs.Filter.{filterAfter}
 use Rattle.operator.specs.Delayer.{delayerAfter}
 use Rattle.operator.specs.Operators.{heldAfter}
-use Rattle.operator.specs.Flows.{Flow, heldOn, outputOn}
+use Rattle.flow.specs.Flows.{Flow}
+use Rattle.operator.specs.OnFlows.{heldOn, outputOn}
 use Rattle.operator.specs.declared.Operator.{Operator}
 use Rattle.operator.specs.declared.Operator.the-variants.{Limiter, Compactor, Expander, Filter, Delayer}
 

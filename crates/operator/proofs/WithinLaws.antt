@@ -7,7 +7,7 @@ use native.Mathlib.Omega.{arith}
 use lib.ListN.{length}
 use lib.Dec.{ltb}
 use borrow.Author.Tests.{ltb-true, ltb-false, lt-ltb, le-ltb}
-use Rattle.quantity.specs.Choice.{pick, either}
+use Rattle.quantity.specs.Choice.{pick, either, anyOf}
 use Rattle.quantity.specs.Limits.{largestAmount}
 use Rattle.quantity.specs.Sums.{total, listOf}
 use Rattle.quantity.specs.declared.refusal.Refusal.the-variants.{Unusable, OutOfRange, ChoiceAboveGreatest}
@@ -21,7 +21,7 @@ use Rattle.operator.specs.Filter.{filterAfter}
 use Rattle.operator.specs.Delayer.{ofAge, olderThan, staysOf, delayerAfter}
 use Rattle.operator.specs.Operators.{leastOutput, greatestOutput, heldAfter, numberInRange}
 use Rattle.operator.specs.Whole.{Whole}
-use Rattle.operator.specs.Stored.{wordAt, anyOf}
+use Rattle.words.specs.Stored.{wordAt}
 use Rattle.operator.specs.Single.{wordCount, mostOnTheWay, wordsUsed, usesHeld, heldIn, choiceAbove, leavesTooMuch, sent, heldNext, stateNext, wordsNext}
 use Rattle.operator.specs.Within.{heldWith, undecidable, sentWith, choiceAboveWith, heldOnce, decidedOf, newestOf, stateKept, wordKept, keptOf, wordsKept}
 use Rattle.operator.specs.declared.Operator.{Operator}
@@ -31,7 +31,7 @@ use Rattle.operator.specs.declared.single.Decided.{Decided}
 use Rattle.operator.specs.declared.single.Kept.{Kept}
 use Rattle.operator.proofs.Conservation.{greatest-le-there, least-le-greatest}
 use Rattle.operator.proofs.Steps.{after-b}
-use Rattle.operator.proofs.StoredLaws.{Fit, unfitTests, fit, amounts-tested, none-unfit, anyOf-append, either-last}
+use Rattle.words.proofs.StoredLaws.{Fit, unfitTests, fit, amounts-tested, none-unfit, anyOf-append, either-last}
 use Rattle.operator.proofs.SingleLaws.{Usable, b-le, beside-le, word-none, whole-stored}
 
 -- What a decision answers.

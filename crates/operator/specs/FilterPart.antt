@@ -1,7 +1,8 @@
 -- The filter part of a path: the filters and delayers behind its framed operators (section 4; source document 000, Theorems 8 to 10).
 use Prim.Native.Nat.{ℕ, _+_, _≤_, min}
 use Rattle.quantity.specs.Sums.{total}
-use Rattle.operator.specs.Flows.{Flow, none, outputOn}
+use Rattle.flow.specs.Flows.{Flow}
+use Rattle.operator.specs.OnFlows.{none, outputOn}
 use Rattle.operator.specs.Operators.{limiter}
 
 -- P, the least filter rate so far, if there is a filter so far

@@ -5,16 +5,8 @@ pub mod Expander
 pub mod Filter
 pub mod Delayer
 pub mod Operators
-pub mod Flows
-pub mod Classes
+pub mod OnFlows
 pub mod FilterPart
 pub mod Whole
-pub mod Declarations
-pub mod Stored
-pub mod Scanning
 pub mod Single
 pub mod Within
-pub mod Meter
-pub mod MeterWithin
-pub mod Metering
-pub mod Keeping

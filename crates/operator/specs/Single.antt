@@ -4,13 +4,13 @@ use mathlib.Core.Bool.{Bool, true, false, not}
 use mathlib.Core.List.{List, [], _∷_}
 use lib.ListN.{length}
 use lib.Dec.{ltb, eqb}
-use Rattle.quantity.specs.Choice.{pick, either}
+use Rattle.quantity.specs.Choice.{pick, either, anyOf}
 use Rattle.quantity.specs.Sums.{total, every, listOf}
 use Rattle.quantity.specs.Limits.{largestAmount, lastSlot}
 use Rattle.quantity.specs.Refusals.{Case, _⇒_, firstOf}
 use Rattle.quantity.specs.declared.refusal.Refusal.the-variants.{Unusable, OutOfRange, ChoiceAboveGreatest}
 use Rattle.operator.specs.Held.{Held}
-use Rattle.operator.specs.Stored.{wordAt, storedFits, wordFits, anyOf}
+use Rattle.words.specs.Stored.{wordAt, storedFits, wordFits}
 use Rattle.operator.specs.Operators.{leastOutput, greatestOutput, heldAfter, numberInRange}
 use Rattle.operator.specs.declared.Operator.{Operator}
 use Rattle.operator.specs.declared.SingleOperator.{SingleOperator}

@@ -4,14 +4,14 @@ use mathlib.Core.Bool.{Bool, not}
 use mathlib.Core.List.{List, [], _∷_}
 use lib.ListN.{length}
 use lib.Dec.{ltb, eqb}
-use Rattle.quantity.specs.Choice.{pick}
+use Rattle.quantity.specs.Choice.{pick, anyOf}
 use Rattle.quantity.specs.Sums.{total, listOf}
 use Rattle.quantity.specs.Limits.{largestAmount, lastSlot}
 use Rattle.quantity.specs.Refusals.{Case, _⇒_, firstOf}
 use Rattle.quantity.specs.declared.refusal.Refusal.the-variants.{Unusable, OutOfRange, ChoiceAboveGreatest}
 use Rattle.operator.specs.Held.{Held}
 use Rattle.operator.specs.Delayer.{ofAge}
-use Rattle.operator.specs.Stored.{wordAt, anyOf}
+use Rattle.words.specs.Stored.{wordAt}
 use Rattle.operator.specs.Operators.{leastOutput, greatestOutput, heldAfter, numberInRange}
 use Rattle.operator.specs.Single.{wordCount, mostOnTheWay, wordsUsed, usesHeld, heldIn, storedUnusable}
 use Rattle.operator.specs.declared.SingleOperator.{SingleOperator}

@@ -2,11 +2,11 @@
 // A step is three parts: what is lent and stored is tested, then all is decided on numbers, then what stays is written.
 
 use crate::Operator;
-use crate::Scanned;
 use crate::SingleOperator;
 use quantity::Slots;
 use quantity::Units;
 use quantity::refusal::Refusal;
+use words::Scanned;
 ghost use mathlib.Core.Path.{_≡_};
 ghost use mathlib.Core.Bool.{true};
 ghost use Prim.Native.Nat.{ℕ, _+_, _-_, _%_, _≤_, _<_, min};
@@ -18,9 +18,8 @@ ghost use Rattle.quantity.specs.Limits.{largestAmount, lastSlot};
 ghost use Rattle.operator.specs.Held.{Held};
 ghost use Rattle.operator.specs.Delayer.{ofAge};
 ghost use Rattle.operator.specs.Operators.{leastOutput, greatestOutput, heldAfter, numberInRange};
-ghost use Rattle.operator.specs.Stored.{wordAt, wordFits};
-ghost use Rattle.operator.specs.Single.{boundsOf, stepOf, wordsAfter, mostGiven, mostOnTheWay};
-ghost use Rattle.operator.specs.Single.{wordCount, wordsUsed, usesHeld, usesBeside};
+ghost use Rattle.words.specs.Stored.{wordAt, wordFits};
+ghost use Rattle.operator.specs.Single.{boundsOf, stepOf, wordsAfter, mostGiven, mostOnTheWay, wordCount, wordsUsed, usesHeld, usesBeside};
 ghost use Rattle.operator.specs.Within.{storedOf, undecidable, decidedOf, keptOf, wordsKept};
 
 // The words of an operator.
@@ -102,10 +101,10 @@ pub fn stored_in(state: SingleOperator, words: &[u32]) -> Stored
         return Stored::Unusable;
     }
     let operator = state.operator;
-    if !crate::stored_fits(uses_held(operator), state.held.0) {
+    if !words::stored_fits(uses_held(operator), state.held.0) {
         return Stored::Unusable;
     }
-    if !crate::stored_fits(uses_beside(operator), state.beside.0) {
+    if !words::stored_fits(uses_beside(operator), state.beside.0) {
         return Stored::Unusable;
     }
     let scanned = scan(operator, words);
@@ -166,7 +165,7 @@ pub fn keep(
 ) -> Kept
     ensures { λ r. ⌜ (r ≡ keptOf state (now (words .entry)) (kept .0) (beside .0)) × (now (words .exit) ≡ wordsKept state (now (words .entry)) (input .0) (kept .0) (beside .0)) ⌝ }
 {
-    if crate::unfit(words.len(), WORDS, state.slot.0, kept.0, beside.0) {
+    if words::unfit(words.len(), WORDS, state.slot.0, kept.0, beside.0) {
         return Kept::Refused(Refusal::Unusable);
     }
     let operator = state.operator;
@@ -247,7 +246,7 @@ fn step_at_most(
 fn undecidable(state: SingleOperator, words: &[u32], held: u64, input: u64, choice: u64) -> bool
     ensures { λ r. ⌜ r ≡ undecidable state (now (words .entry)) held input choice ⌝ }
 {
-    if crate::unfit(words.len(), WORDS, state.slot.0, held, state.beside.0) {
+    if words::unfit(words.len(), WORDS, state.slot.0, held, state.beside.0) {
         return true;
     }
     if ON_THE_WAY < input {
@@ -261,7 +260,7 @@ fn scan(operator: Operator, words: &[u32]) -> Scanned
     requires { ⌜ length (now words) ≡ wordCount ⌝ }
     ensures { λ r. ⌜ (r .fits ≡ every (wordFits (wordsUsed operator) (now (words .entry))) wordCount) × (r .fits ≡ true → r .units ≡ total (wordAt (now (words .entry))) wordCount) ⌝ }
 {
-    crate::scan(words, words_used(operator))
+    words::scan(words, words_used(operator))
 }
 
 // Every unit is a slot older, the input is new, and the newest stay, `kept` of them in all: oldest leave first.

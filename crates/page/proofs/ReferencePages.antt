@@ -5,10 +5,10 @@ use Prim.Native.Nat.{ℕ}
 use Rattle.quantity.specs.Rounding.{roundUp}
 use Rattle.quantity.specs.Divisors.{euclid, gcd}
 use Rattle.quantity.specs.Sums.{total, listOf}
-use Rattle.operator.specs.Classes.{burst, mostIn, blocksMet, changedTo}
+use Rattle.flow.specs.Classes.{burst, mostIn, blocksMet, changedTo}
 use Rattle.operator.specs.FilterPart.{slower}
 use Rattle.operator.specs.Operators.{compactor, expander}
-use Rattle.operator.specs.declared.Kind.{Kind}
+use Rattle.flow.specs.declared.Kind.{Kind}
 use Rattle.operator.specs.declared.Operator.{Operator}
 use Rattle.text.specs.Decimals.{withDigit, withDigits, valueOf}
 use Rattle.sheet.specs.declared.Place.{Place}

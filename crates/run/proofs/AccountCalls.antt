@@ -9,10 +9,10 @@ use borrow.Author.Tests.{not-false}
 use Rattle.quantity.specs.Choice.{pick}
 use Rattle.quantity.specs.Refusals.{Case, firstOf}
 use Rattle.quantity.proofs.Refusals.{NoneStands, none-of-each}
-use Rattle.operator.specs.Classes.{Keeps}
-use Rattle.operator.specs.Flows.{flowOf}
-use Rattle.operator.specs.Metering.{classOf}
-use Rattle.operator.proofs.Keeping.{keeps-decided}
+use Rattle.flow.specs.Classes.{Keeps}
+use Rattle.flow.specs.Flows.{flowOf}
+use Rattle.flow.specs.Declarations.{classOf}
+use Rattle.flow.proofs.Keeping.{keeps-decided}
 use Rattle.sheet.specs.Paths.{Line}
 use Rattle.run.specs.Calls.{Call}
 use Rattle.run.specs.Account.{Account, breaksDeclaration, choiceTooLarge, choicesTooLarge, accountCases, accountNext, accountAfter}

@@ -15,11 +15,12 @@ use Rattle.quantity.proofs.Refusals.{NoneStands}
 use Rattle.operator.specs.Held.{Held}
 use Rattle.operator.specs.Operators.{greatestOutput}
 use Rattle.operator.specs.Whole.{Whole}
-use Rattle.operator.specs.Flows.{Flow, flowOf, heldOn, outputOn, Fitting}
-use Rattle.operator.specs.Classes.{Keeps}
-use Rattle.operator.specs.Metering.{classOf}
-use Rattle.operator.specs.Keeping.{keepsClass}
-use Rattle.operator.proofs.Keeping.{keeps-decided}
+use Rattle.flow.specs.Flows.{Flow, flowOf}
+use Rattle.operator.specs.OnFlows.{heldOn, outputOn, Fitting}
+use Rattle.flow.specs.Classes.{Keeps}
+use Rattle.flow.specs.Declarations.{classOf}
+use Rattle.flow.specs.Keeping.{keepsClass}
+use Rattle.flow.proofs.Keeping.{keeps-decided}
 use Rattle.operator.proofs.Laws.{least-le-greatest, whole-on, none-fits}
 use Rattle.sheet.specs.Paths.{Line}
 use Rattle.sheet.specs.Sheets.{lineInRange}

@@ -21,14 +21,13 @@ use Rattle.quantity.proofs.Sums.{every-holds}
 use Rattle.quantity.proofs.Refusals.{NoneStands, none-of-both, firstOf-none, FirstIs, none-or-first, first-answered, first-of-more}
 use Rattle.operator.specs.Held.{nothing}
 use Rattle.operator.specs.Operators.{greatestOutput, heldAfter, numberInRange}
-use Rattle.operator.specs.Declarations.{declarationInRange}
-use Rattle.operator.specs.Classes.{Keeps}
-use Rattle.operator.specs.Flows.{flowOf}
-use Rattle.operator.specs.Metering.{classOf}
+use Rattle.flow.specs.Declarations.{declarationInRange, classOf}
+use Rattle.flow.specs.Classes.{Keeps}
+use Rattle.flow.specs.Flows.{flowOf}
 use Rattle.operator.specs.Single.{heldIn, heldNext, choiceAbove, leavesTooMuch}
-use Rattle.operator.specs.Meter.{meterWordCount, meterUnusable}
+use Rattle.meter.specs.Meter.{meterWordCount, meterUnusable}
 use Rattle.operator.proofs.Laws.{least-le-greatest}
-use Rattle.operator.proofs.Metering.{sound-usable, sound-keeps}
+use Rattle.meter.proofs.Metering.{sound-usable, sound-keeps}
 use Rattle.operator.proofs.SingleLaws.{stored-usable}
 use Rattle.operator.proofs.Stands.{stands-new, stands-usable}
 use Rattle.sheet.specs.Paths.{Line}

@@ -8,7 +8,8 @@ use lib.ListN.{length, length-append, List·getD-append, List·getD-eq-default}
 use lib.Seq.{getD-at}
 use Rattle.operator.specs.Operators.{greatestOutput}
 use Rattle.operator.specs.Whole.{Whole}
-use Rattle.operator.specs.Flows.{Flow, flowOf, heldOn, outputOn, Fitting}
+use Rattle.flow.specs.Flows.{Flow, flowOf}
+use Rattle.operator.specs.OnFlows.{heldOn, outputOn, Fitting}
 use Rattle.operator.specs.declared.Operator.{Operator}
 use Rattle.operator.proofs.Laws.{least-le-greatest, whole-nothing, whole-after}
 use Rattle.figures.specs.Along.{flowInto}

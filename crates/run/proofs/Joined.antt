@@ -15,13 +15,13 @@ use Rattle.quantity.specs.Sums.{listOf}
 use Rattle.quantity.proofs.Laws.{pick-true, pick-false}
 use Rattle.quantity.proofs.Sums.{length-listOf, getD-listOf, listOf-ext}
 use Rattle.operator.specs.Operators.{leastOutput, greatestOutput, numberInRange}
-use Rattle.operator.specs.Declarations.{declarationInRange}
+use Rattle.flow.specs.Declarations.{declarationInRange}
 use Rattle.operator.specs.Whole.{Whole}
-use Rattle.operator.specs.Stored.{wordAt}
+use Rattle.words.specs.Stored.{wordAt}
 use Rattle.operator.specs.Single.{wordCount, heldIn, heldNext, sent, stateNext, wordsNext}
-use Rattle.operator.specs.Meter.{meterWordCount, meterNext, meterWordNext}
-use Rattle.operator.specs.Metering.{Fed}
-use Rattle.operator.proofs.Metering.{Sound, sound-new, sound-next}
+use Rattle.meter.specs.Meter.{meterWordCount, meterNext, meterWordNext}
+use Rattle.meter.specs.Metering.{Fed}
+use Rattle.meter.proofs.Metering.{Sound, sound-new, sound-next}
 use Rattle.operator.proofs.Stands.{Stands, stands-new, stands-next}
 use Rattle.sheet.specs.Paths.{Line, noPlace}
 use Rattle.sheet.specs.declared.Place.{Place}

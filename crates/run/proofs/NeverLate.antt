@@ -16,7 +16,7 @@ use Rattle.quantity.specs.declared.refusal.Refusal.the-variants.{Unusable}
 use Rattle.quantity.proofs.Laws.{pick-true}
 use Rattle.quantity.proofs.Sums.{both-true, getD-listOf}
 use Rattle.quantity.proofs.Refusals.{NoneStands, none-of-each, none-where-result, firstOf-none, FirstIs, none-or-first, first-answered, first-of-each}
-use Rattle.operator.specs.Declarations.{declarationInRange}
+use Rattle.flow.specs.Declarations.{declarationInRange}
 use Rattle.sheet.specs.Paths.{Line}
 use Rattle.sheet.specs.Sheets.{sheetCases, pathIn, lineIn, lineInRange, placesInRange}
 use Rattle.sheet.specs.declared.read.Verdict.{Verdict}

@@ -9,8 +9,8 @@ use lib.Seq.{getD-take, getD-drop}
 use Rattle.quantity.specs.Sums.{listOf}
 use Rattle.quantity.proofs.Sums.{listOf-ext}
 use Rattle.operator.specs.Single.{wordCount}
-use Rattle.operator.specs.Stored.{wordAt}
-use Rattle.operator.specs.Meter.{meterWordCount}
+use Rattle.words.specs.Stored.{wordAt}
+use Rattle.meter.specs.Meter.{meterWordCount}
 use Rattle.sheet.specs.Bodies.{part}
 use Rattle.run.specs.Runs.{runWordCount, mostOperators, operatorAtWord}
 

@@ -11,7 +11,7 @@ use Rattle.operator.specs.Expander.{expanderLeast, expanderGreatest, expanderAf
 use Rattle.operator.specs.Filter.{besideAfter, filterLeast, filterGreatest, filterAfter}
 use Rattle.operator.specs.Delayer.{ofAge, olderThan, staysOf, delayerLeast, delayerGreatest, delayerAfter}
 use Rattle.operator.specs.Operators.{leastOutput, greatestOutput, heldAfter, compactor, expander, filter, delayer}
-use Rattle.operator.specs.Keeping.{keepsTo, keepsClass}
+use Rattle.flow.specs.Keeping.{keepsTo, keepsClass}
 use Rattle.sheet.specs.Paths.{Line}
 use Rattle.figures.specs.Answers.{operatorAt}
 use Rattle.figures.proofs.ReferencePaths.{path}

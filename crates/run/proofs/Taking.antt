@@ -10,7 +10,7 @@ use borrow.Author.Tests.{ltb-false, le-ltb}
 use Rattle.quantity.proofs.Refusals.{NoneStands, none-of-both, none-of-each, none-where-result}
 use Rattle.operator.specs.Operators.{leastOutput, greatestOutput}
 use Rattle.operator.specs.Single.{sent, choiceAbove}
-use Rattle.operator.specs.Meter.{inputBreaks}
+use Rattle.meter.specs.Meter.{inputBreaks}
 use Rattle.operator.proofs.Laws.{least-le-greatest}
 use Rattle.operator.proofs.SingleLaws.{whole-stored}
 use Rattle.run.specs.declared.Run.{Run}

@@ -20,16 +20,16 @@ use Rattle.quantity.proofs.Sums.{both-true, every-next, length-listOf, getD-lis
 use Rattle.operator.specs.Single.{usesHeld, heldIn, storedUnusable}
 use Rattle.operator.specs.Within.{storedOf}
 use Rattle.operator.specs.Operators.{numberInRange}
-use Rattle.operator.specs.Declarations.{declarationInRange}
-use Rattle.operator.specs.Meter.{meterUnusable}
-use Rattle.operator.specs.MeterWithin.{countedOf}
+use Rattle.flow.specs.Declarations.{declarationInRange}
+use Rattle.meter.specs.Meter.{meterUnusable}
+use Rattle.meter.specs.MeterWithin.{countedOf}
 use Rattle.operator.specs.declared.Operator.{Operator}
 use Rattle.operator.specs.declared.Operator.the-variants.{Limiter, Compactor, Expander, Filter, Delayer}
 use Rattle.operator.specs.declared.SingleOperator.{SingleOperator}
 use Rattle.operator.specs.declared.single.Stored.{Stored}
-use Rattle.operator.specs.declared.meter.Counted.{Counted}
+use Rattle.meter.specs.declared.Counted.{Counted}
 use Rattle.operator.proofs.SingleLaws.{stored-usable, stored-holds, stored-is-unusable}
-use Rattle.operator.proofs.MeterWithinLaws.{counted-unusable, counted-next}
+use Rattle.meter.proofs.MeterWithinLaws.{counted-unusable, counted-next}
 use Rattle.sheet.specs.declared.read.Verdict.{Verdict}
 use Rattle.run.specs.declared.Stage.{Stage}
 use Rattle.run.specs.declared.Run.{Run}

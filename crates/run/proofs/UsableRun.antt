@@ -10,9 +10,9 @@ use Rattle.quantity.specs.Choice.{pick, both}
 use Rattle.quantity.specs.Sums.{every}
 use Rattle.quantity.proofs.Laws.{pick-true, pick-false, either-false, either-none}
 use Rattle.quantity.proofs.Sums.{both-true, every-at}
-use Rattle.operator.specs.Declarations.{declarationInRange}
+use Rattle.flow.specs.Declarations.{declarationInRange}
 use Rattle.operator.specs.Operators.{numberInRange}
-use Rattle.operator.specs.Meter.{meterUnusable}
+use Rattle.meter.specs.Meter.{meterUnusable}
 use Rattle.operator.proofs.SingleLaws.{Usable, usable}
 use Rattle.run.specs.declared.Run.{Run}
 use Rattle.run.specs.Runs.{runWordCount, mostOperators, meterWords, operatorWords, noOperator, stageAt, meterIn, singleIn, stageMisplaced, stageUnusable, stageFits, runUnusable}

@@ -17,15 +17,15 @@ use Rattle.quantity.specs.Refusals.{Case, firstOf}
 use Rattle.quantity.specs.declared.Slots.{Slots}
 use Rattle.quantity.proofs.Laws.{pick-true, pick-false}
 use Rattle.quantity.proofs.Sums.{length-listOf, listOf-ext}
-use Rattle.operator.specs.Stored.{wordAt}
+use Rattle.words.specs.Stored.{wordAt}
 use Rattle.operator.specs.Single.{wordCount}
 use Rattle.operator.specs.Within.{keepCases, keptOf, wordKept, wordsKept}
-use Rattle.operator.specs.Meter.{meterWordCount, meterWordNext}
-use Rattle.operator.specs.MeterWithin.{noteCases, notedOf, wordsNoted}
+use Rattle.meter.specs.Meter.{meterWordCount, meterWordNext}
+use Rattle.meter.specs.MeterWithin.{noteCases, notedOf, wordsNoted}
 use Rattle.operator.specs.declared.SingleOperator.{SingleOperator}
-use Rattle.operator.specs.declared.SourceMeter.{SourceMeter}
+use Rattle.meter.specs.declared.SourceMeter.{SourceMeter}
 use Rattle.operator.specs.declared.single.Kept.{Kept}
-use Rattle.operator.specs.declared.meter.Metered.{Metered}
+use Rattle.meter.specs.declared.Metered.{Metered}
 use Rattle.sheet.specs.Bodies.{part}
 use Rattle.run.specs.declared.Stage.{Stage}
 use Rattle.run.specs.declared.Run.{Run}

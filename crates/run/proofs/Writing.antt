@@ -13,17 +13,17 @@ use Rattle.quantity.specs.Sums.{listOf}
 use Rattle.quantity.proofs.Laws.{either-false}
 use Rattle.quantity.proofs.Sums.{every-at, getD-listOf}
 use Rattle.quantity.proofs.Refusals.{NoneStands, none-of-each}
-use Rattle.operator.specs.Stored.{wordAt}
+use Rattle.words.specs.Stored.{wordAt}
 use Rattle.operator.specs.Single.{wordCount, heldIn, heldNext, leavesTooMuch, stateNext, wordsNext}
 use Rattle.operator.specs.Within.{keptOf, wordsKept}
-use Rattle.operator.specs.Meter.{meterWordCount, meterNext, meterWordNext}
-use Rattle.operator.specs.MeterWithin.{notedOf, wordsNoted}
+use Rattle.meter.specs.Meter.{meterWordCount, meterNext, meterWordNext}
+use Rattle.meter.specs.MeterWithin.{notedOf, wordsNoted}
 use Rattle.operator.specs.declared.SingleOperator.{SingleOperator}
 use Rattle.operator.specs.declared.single.Kept.{Kept}
-use Rattle.operator.specs.declared.meter.Metered.{Metered}
+use Rattle.meter.specs.declared.Metered.{Metered}
 use Rattle.operator.proofs.Laws.{greatest-le-there}
 use Rattle.operator.proofs.WithinLaws.{kept-next}
-use Rattle.operator.proofs.MeterWithinLaws.{noted-next}
+use Rattle.meter.proofs.MeterWithinLaws.{noted-next}
 use Rattle.run.specs.declared.Stage.{Stage}
 use Rattle.run.specs.declared.Run.{Run}
 use Rattle.run.specs.declared.decide.Move.{Move}

@@ -9,8 +9,8 @@ use Rattle.quantity.specs.Refusals.{Case, _⇒_, firstOf}
 use Rattle.quantity.specs.declared.refusal.Refusal.the-variants.{Unusable, InputBreaksDeclaration, ChoiceAboveGreatest}
 use Rattle.operator.specs.Held.{Held, nothing}
 use Rattle.operator.specs.Operators.{leastOutput, greatestOutput, heldAfter}
-use Rattle.operator.specs.Metering.{classOf}
-use Rattle.operator.specs.Keeping.{keepsClass}
+use Rattle.flow.specs.Declarations.{classOf}
+use Rattle.flow.specs.Keeping.{keepsClass}
 use Rattle.sheet.specs.Paths.{Line}
 use Rattle.figures.specs.Answers.{operatorAt}
 use Rattle.run.specs.Calls.{Call, choiceFor, choicesMiscounted, amountTooLarge}

@@ -7,9 +7,9 @@ use mathlib.Core.Logic.{_⊎_, _↔_}
 use lib.ListN.{length, getD, take}
 use Rattle.quantity.specs.Sums.{total}
 use Rattle.quantity.specs.declared.refusal.Refusal.the-variants.{Unusable}
-use Rattle.operator.specs.Flows.{flowOf}
-use Rattle.operator.specs.Classes.{Keeps}
-use Rattle.operator.specs.Metering.{classOf}
+use Rattle.flow.specs.Flows.{flowOf}
+use Rattle.flow.specs.Classes.{Keeps}
+use Rattle.flow.specs.Declarations.{classOf}
 use Rattle.sheet.specs.Paths.{Line}
 use Rattle.sheet.specs.Sheets.{lineIn}
 use Rattle.figures.specs.Answers.{figuresOf, noFigure}

@@ -8,7 +8,7 @@ use Rattle.quantity.specs.Sums.{listOf}
 use Rattle.quantity.specs.Refusals.{Case, _⇒_, firstOf}
 use Rattle.quantity.specs.declared.refusal.Refusal.{Refusal}
 use Rattle.quantity.specs.declared.refusal.Refusal.the-variants.{Unusable}
-use Rattle.operator.specs.declared.Kind.{Kind}
+use Rattle.flow.specs.declared.Kind.{Kind}
 use Rattle.sheet.specs.Paths.{Line}
 use Rattle.sheet.specs.Sheets.{sheetCases, lineIn}
 use Rattle.sheet.specs.declared.read.Verdict.{Verdict}

@@ -4,18 +4,17 @@ use mathlib.Core.Bool.{Bool, false, not}
 use mathlib.Core.List.{List, [], _∷_}
 use lib.ListN.{length, getD}
 use lib.Dec.{leb, ltb, eqb}
-use Rattle.quantity.specs.Choice.{pick, both}
+use Rattle.quantity.specs.Choice.{pick, both, anyOf}
 use Rattle.quantity.specs.Sums.{every}
 use Rattle.quantity.specs.declared.Slots.{Slots}
-use Rattle.operator.specs.Stored.{anyOf}
 use Rattle.operator.specs.Operators.{numberInRange}
-use Rattle.operator.specs.Declarations.{declarationInRange}
+use Rattle.flow.specs.Declarations.{declarationInRange}
 use Rattle.operator.specs.Single.{wordCount, storedUnusable}
-use Rattle.operator.specs.Meter.{meterWordCount, meterUnusable}
+use Rattle.meter.specs.Meter.{meterWordCount, meterUnusable}
 use Rattle.operator.specs.declared.Operator.{Operator}
 use Rattle.operator.specs.declared.Operator.the-variants.{Limiter, Compactor, Expander, Filter, Delayer}
 use Rattle.operator.specs.declared.SingleOperator.{SingleOperator}
-use Rattle.operator.specs.declared.SourceMeter.{SourceMeter}
+use Rattle.meter.specs.declared.SourceMeter.{SourceMeter}
 use Rattle.sheet.specs.Bodies.{part}
 use Rattle.run.specs.declared.Stage.{Stage}
 use Rattle.run.specs.declared.Run.{Run}

@@ -8,9 +8,9 @@ use Rattle.quantity.specs.Sums.{every, listOf}
 use Rattle.quantity.specs.Refusals.{Case, _⇒_, firstOf}
 use Rattle.quantity.specs.declared.refusal.Refusal.{Refusal}
 use Rattle.quantity.specs.declared.refusal.Refusal.the-variants.{Unusable, InputBreaksDeclaration, ChoiceAboveGreatest}
-use Rattle.operator.specs.Stored.{wordAt}
+use Rattle.words.specs.Stored.{wordAt}
 use Rattle.operator.specs.Single.{wordCount, sent, choiceAbove, leavesTooMuch, stateNext, wordsNext}
-use Rattle.operator.specs.Meter.{meterWordCount, inputBreaks, meterNext, meterWordNext}
+use Rattle.meter.specs.Meter.{meterWordCount, inputBreaks, meterNext, meterWordNext}
 use Rattle.operator.specs.declared.SingleOperator.{SingleOperator}
 use Rattle.run.specs.Calls.{Call, choiceFor, choicesMiscounted, amountTooLarge}
 use Rattle.run.specs.Runs.{runWordCount, mostOperators, meterWords, operatorWords, stageAt, meterIn, singleIn, runUnusable}

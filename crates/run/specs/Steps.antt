@@ -14,12 +14,12 @@ use Rattle.quantity.specs.declared.refusal.Refusal.the-variants.{Unusable}
 use Rattle.operator.specs.Held.{Held}
 use Rattle.operator.specs.Single.{wordCount, heldNext}
 use Rattle.operator.specs.Within.{keptOf, wordsKept}
-use Rattle.operator.specs.Meter.{meterWordCount, countedBefore}
-use Rattle.operator.specs.MeterWithin.{notedOf, wordsNoted}
-use Rattle.operator.specs.Stored.{wordAt}
-use Rattle.operator.specs.declared.SourceMeter.{SourceMeter}
+use Rattle.meter.specs.Meter.{meterWordCount, countedBefore}
+use Rattle.meter.specs.MeterWithin.{notedOf, wordsNoted}
+use Rattle.words.specs.Stored.{wordAt}
+use Rattle.meter.specs.declared.SourceMeter.{SourceMeter}
 use Rattle.operator.specs.declared.single.Kept.{Kept}
-use Rattle.operator.specs.declared.meter.Metered.{Metered}
+use Rattle.meter.specs.declared.Metered.{Metered}
 use Rattle.run.specs.Calls.{Call}
 use Rattle.run.specs.Runs.{mostOperators, meterWords, operatorWords, stageAt, meterIn, singleOf, singleIn, runUnusable}
 use Rattle.run.specs.Slots.{inputInto, choiceCases, slotLeavesTooMuch, slotOutput}

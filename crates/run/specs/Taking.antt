@@ -4,7 +4,7 @@ use mathlib.Core.Path.{_≡_}
 use mathlib.Core.Bool.{false}
 use mathlib.Core.List.{List}
 use Rattle.operator.specs.Operators.{leastOutput, greatestOutput}
-use Rattle.operator.specs.Meter.{countedBefore}
+use Rattle.meter.specs.Meter.{countedBefore}
 use Rattle.run.specs.declared.Run.{Run}
 use Rattle.run.specs.declared.slot.Outcome.{Outcome}
 use Rattle.run.specs.Calls.{Call, choicesMiscounted, amountTooLarge}

@@ -1,9 +1,9 @@
 // A path run slot by slot (document 01, sections 6 and 7).
 
-use operator::Declaration;
+use flow::Declaration;
+use meter::SourceMeter;
 use operator::Operator;
 use operator::SingleOperator;
-use operator::SourceMeter;
 use quantity::Rate;
 use quantity::Slots;
 use quantity::Units;

@@ -15,9 +15,9 @@ use Rattle.quantity.specs.declared.Interval.{Interval}
 use Rattle.quantity.specs.declared.Quota.{Quota}
 use Rattle.quantity.proofs.Sums.{both-true}
 use Rattle.operator.specs.Operators.{numberInRange}
-use Rattle.operator.specs.Declarations.{declarationInRange}
-use Rattle.operator.specs.declared.Kind.{Kind}
-use Rattle.operator.specs.declared.Declaration.{Declaration}
+use Rattle.flow.specs.Declarations.{declarationInRange}
+use Rattle.flow.specs.declared.Kind.{Kind}
+use Rattle.flow.specs.declared.Declaration.{Declaration}
 use Rattle.operator.specs.declared.Operator.{Operator}
 use Rattle.sheet.specs.declared.Place.{Place}
 use Rattle.sheet.specs.Numbers.{numberOf, bytesOf}

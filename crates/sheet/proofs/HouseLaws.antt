@@ -16,7 +16,7 @@ use Rattle.quantity.specs.Sums.{listOf}
 use Rattle.quantity.proofs.Laws.{least-le, le-largest}
 use Rattle.quantity.proofs.Sums.{both-true, length-listOf}
 use Rattle.operator.specs.Operators.{limiter, compactor, expander, filter, delayer, numberInRange}
-use Rattle.operator.specs.Declarations.{declarationInRange}
+use Rattle.flow.specs.Declarations.{declarationInRange}
 use Rattle.operator.specs.declared.Operator.{Operator}
 use Rattle.sheet.specs.declared.Place.{Place}
 use Rattle.sheet.specs.declared.House.{House}

@@ -10,7 +10,7 @@ use Rattle.quantity.specs.Ranges.{inRange, linkRange, wantedDelayRange}
 use Rattle.quantity.proofs.Laws.{le-largest}
 use Rattle.quantity.proofs.Sums.{both-true}
 use Rattle.operator.specs.Operators.{numberInRange}
-use Rattle.operator.specs.Declarations.{declarationInRange}
+use Rattle.flow.specs.Declarations.{declarationInRange}
 use Rattle.sheet.specs.declared.Place.{Place}
 use Rattle.sheet.specs.Paths.{Line}
 use Rattle.sheet.specs.Bodies.{placeInRange}

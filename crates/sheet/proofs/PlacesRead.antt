@@ -13,7 +13,7 @@ use lib.Seq.{drop-cons, drop-at, set-at, append-snoc, take-at, take-append-add}
 use Rattle.quantity.specs.Refusals.{firstOf}
 use Rattle.quantity.specs.declared.refusal.Refusal.{Refusal}
 use Rattle.quantity.specs.declared.refusal.Refusal.the-variants.{OutOfRange}
-use Rattle.operator.specs.declared.Declaration.{Declaration}
+use Rattle.flow.specs.declared.Declaration.{Declaration}
 use Rattle.quantity.specs.declared.WantedDelay.{WantedDelay}
 use Rattle.sheet.specs.declared.Place.{Place}
 use Rattle.sheet.specs.declared.Form.{Form}

@@ -8,8 +8,8 @@ use Rattle.quantity.specs.Refusals.{numberOf, placeOf}
 use Rattle.quantity.specs.Rounding.{roundUp}
 use Rattle.quantity.specs.Sums.{listOf}
 use Rattle.operator.specs.Operators.{numberInRange, compactor, filter, delayer}
-use Rattle.operator.specs.Declarations.{declarationInRange}
-use Rattle.operator.specs.declared.Kind.{Kind}
+use Rattle.flow.specs.Declarations.{declarationInRange}
+use Rattle.flow.specs.declared.Kind.{Kind}
 use Rattle.operator.specs.declared.Operator.{Operator}
 use Rattle.sheet.specs.declared.Place.{Place}
 use Rattle.sheet.specs.declared.House.{House}

@@ -16,7 +16,7 @@ use Rattle.quantity.specs.declared.refusal.Refusal.{Refusal}
 use Rattle.quantity.specs.declared.refusal.Refusal.the-variants.{Unusable, FieldUnexpected, OutOfRange}
 use Rattle.quantity.proofs.Sums.{both-assoc}
 use Rattle.quantity.proofs.Refusals.{NoneStands, firstOf-none}
-use Rattle.operator.specs.Declarations.{declarationInRange}
+use Rattle.flow.specs.Declarations.{declarationInRange}
 use Rattle.sheet.specs.declared.House.{House}
 use Rattle.sheet.specs.declared.Form.{Form}
 use Rattle.sheet.specs.declared.Path.{Path}

@@ -15,7 +15,7 @@ use Rattle.quantity.specs.declared.refusal.Refusal.{Refusal}
 use Rattle.quantity.proofs.Laws.{either-false}
 use Rattle.quantity.proofs.Sums.{both-true}
 use Rattle.quantity.proofs.Refusals.{NoneStands, none-of-both, none-of-each, firstOf-none, none-where-result}
-use Rattle.operator.specs.Declarations.{declarationInRange}
+use Rattle.flow.specs.Declarations.{declarationInRange}
 use Rattle.sheet.specs.declared.House.{House}
 use Rattle.sheet.specs.declared.Form.{Form}
 use Rattle.sheet.specs.declared.Path.{Path}

@@ -7,9 +7,9 @@ use lib.Dec.{leb, eqb}
 use Rattle.quantity.specs.Choice.{pick, both}
 use Rattle.quantity.specs.Ranges.{inRange, linkRange, wantedDelayRange}
 use Rattle.operator.specs.Operators.{limiter, compactor, expander, filter, delayer, numberInRange}
-use Rattle.operator.specs.Declarations.{declarationInRange}
-use Rattle.operator.specs.declared.Kind.{Kind}
-use Rattle.operator.specs.declared.Declaration.{Declaration}
+use Rattle.flow.specs.Declarations.{declarationInRange}
+use Rattle.flow.specs.declared.Kind.{Kind}
+use Rattle.flow.specs.declared.Declaration.{Declaration}
 use Rattle.operator.specs.declared.Operator.{Operator}
 use Rattle.sheet.specs.declared.Place.{Place}
 use Rattle.sheet.specs.Numbers.{numberOf, bytesOf}

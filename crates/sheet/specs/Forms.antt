@@ -1,7 +1,7 @@
 -- A path value has a form: it is written out in fields 01, 02 and 03, or it is a house profile. What it stands for, and the value of a path in a form.
 use mathlib.Core.List.{_++_}
 use lib.ListN.{length, take, replicate}
-use Rattle.operator.specs.declared.Kind.{Kind}
+use Rattle.flow.specs.declared.Kind.{Kind}
 use Rattle.sheet.specs.declared.House.{House}
 use Rattle.sheet.specs.declared.Form.{Form}
 use Rattle.sheet.specs.declared.Path.{Path}

@@ -9,7 +9,7 @@ use Rattle.quantity.specs.Rounding.{roundUp}
 use Rattle.quantity.specs.Sums.{listOf}
 use Rattle.quantity.specs.Ranges.{inRange, hopsRange, wantedDelayRange, intervalRange, quotaRange, rateRange, packetRange, delayRange}
 use Rattle.operator.specs.Operators.{limiter, compactor, expander, filter, delayer}
-use Rattle.operator.specs.declared.Kind.{Kind}
+use Rattle.flow.specs.declared.Kind.{Kind}
 use Rattle.operator.specs.declared.Operator.{Operator}
 use Rattle.sheet.specs.declared.Place.{Place}
 use Rattle.sheet.specs.declared.House.{House}

@@ -3,7 +3,7 @@ use Prim.Native.Nat.{ℕ}
 use mathlib.Core.List.{List}
 use lib.ListN.{getD}
 use Rattle.operator.specs.declared.Operator.{Operator}
-use Rattle.operator.specs.declared.Declaration.{Declaration}
+use Rattle.flow.specs.declared.Declaration.{Declaration}
 use Rattle.sheet.specs.declared.Place.{Place}
 
 pub record Line : Type 0 where

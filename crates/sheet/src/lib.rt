@@ -1,7 +1,7 @@
 // A path and its sheet: the reader and the writer (document 01, sections 5 and 7).
 
-use operator::Declaration;
-use operator::Kind;
+use flow::Declaration;
+use flow::Kind;
 use operator::Operator;
 use quantity::Hops;
 use quantity::Interval;

@@ -17,11 +17,11 @@ use console::input::begin;
 use console::numbers::narrow;
 use console::numbers::numbers_of;
 use console::print::error;
-use operator::Declaration;
-use operator::Kind;
+use flow::Declaration;
+use flow::Kind;
+use meter::SourceMeter;
 use operator::Operator;
 use operator::SingleOperator;
-use operator::SourceMeter;
 use quantity::Delay;
 use quantity::Interval;
 use quantity::Quota;
@@ -31,7 +31,7 @@ use quantity::Units;
 use text::line::starts_with;
 ghost use Prim.Native.Nat.{_≤_};
 
-mod meter;
+mod metering;
 mod setting;
 mod single;
 mod words;
@@ -115,7 +115,7 @@ fn command_unit(unit: Unit, lines: u64, command: &[u8], words: &mut [u32; 1024])
             unit
         }
         Unit::Alone(state) => Unit::Alone(single::answer(state, lines, command, words)),
-        Unit::Metering(state) => Unit::Metering(meter::answer(state, lines, command, words)),
+        Unit::Metering(state) => Unit::Metering(metering::answer(state, lines, command, words)),
     }
 }
 

@@ -5,7 +5,7 @@ use native.Mathlib.Nat.{div-le-self}
 use native.Mathlib.Omega.{arith}
 use borrow.Author.Needs.{needs}
 use Rattle.quantity.proofs.Divisors.{gcd-le}
-use Rattle.operator.specs.Classes.{blocksMet}
+use Rattle.flow.specs.Classes.{blocksMet}
 use Rattle.figures.proofs.class.blocks_met.Statement.{statement}
 use Rattle.figures.proofs.class.blocks_met.Tie as tie
 

@@ -1,6 +1,6 @@
 -- Each kind has its case of the definition.
 use borrow.Author.Needs.{needs}
-use Rattle.operator.specs.Classes.{burst}
+use Rattle.flow.specs.Classes.{burst}
 use Rattle.figures.proofs.class.burst.Statement.{statement}
 use Rattle.figures.proofs.class.burst.Tie as tie
 

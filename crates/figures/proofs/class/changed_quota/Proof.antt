@@ -2,7 +2,7 @@
 use borrow.Author.Needs.{needs}
 use native.Mathlib.Nat.{mul-le-mul}
 use native.Mathlib.Omega.{arith}
-use Rattle.operator.specs.Classes.{mostIn, changedTo}
+use Rattle.flow.specs.Classes.{mostIn, changedTo}
 use Rattle.figures.proofs.class.changed_quota.Statement.{statement}
 use Rattle.figures.proofs.class.changed_quota.Tie as tie
 

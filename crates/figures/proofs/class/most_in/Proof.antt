@@ -3,7 +3,7 @@ use borrow.Author.Needs.{needs}
 use native.Mathlib.Nat.{mul-le-mul}
 use native.Mathlib.Omega.{arith}
 use Prim.Native.Nat.{_+_, _≤_}
-use Rattle.operator.specs.Classes.{mostIn}
+use Rattle.flow.specs.Classes.{mostIn}
 use Rattle.figures.proofs.Bounds.{round-up-at-most}
 use Rattle.figures.proofs.class.most_in.Statement.{statement}
 use Rattle.figures.proofs.class.most_in.Tie as tie

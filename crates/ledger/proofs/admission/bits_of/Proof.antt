@@ -10,7 +10,6 @@ use lib.ListN.{getD}
 use lib.Pow.{pow-lt}
 use Rattle.ledger.specs.Ledgers.{linkCount}
 use Rattle.ledger.specs.Admission.{bitsOf}
-use Rattle.ledger.specs.Steps.{}
 use Rattle.ledger.proofs.Naming.{bits-none, bits-with, bits-without, bits-below}
 use Rattle.ledger.proofs.admission.bits_of.Statement.{statement}
 use Rattle.ledger.proofs.admission.bits_of.Tie as tie

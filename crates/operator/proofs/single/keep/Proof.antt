@@ -4,10 +4,10 @@ use mathlib.Core.Bool.{true, false}
 use native.Mathlib.Omega.{arith}
 use lib.ListN.{length}
 use borrow.Author.Tests.{not-true, not-false}
-use Rattle.operator.specs.Stored.{anyOf}
+use Rattle.quantity.specs.Choice.{anyOf}
 use Rattle.operator.specs.Operators.{numberInRange}
 use Rattle.operator.specs.Single.{wordCount, heldIn}
-use Rattle.operator.proofs.StoredLaws.{Fit, fit, unfitTests}
+use Rattle.words.proofs.StoredLaws.{Fit, fit, unfitTests}
 use Rattle.operator.proofs.SingleLaws.{used-within}
 use Rattle.operator.proofs.WithinLaws.{kept-unusable, kept-outside, kept-newest}
 use borrow.Author.Needs.{needs}

@@ -12,7 +12,7 @@ use Rattle.quantity.specs.Sums.{total}
 use Rattle.quantity.proofs.Sums.{total-zero, total-next, total-same}
 use Rattle.operator.specs.Held.{Held}
 use Rattle.operator.specs.Delayer.{ofAge}
-use Rattle.operator.specs.Stored.{wordAt}
+use Rattle.words.specs.Stored.{wordAt}
 use Rattle.operator.proofs.SingleLaws.{of-age-same}
 use Rattle.operator.proofs.single.keep_newest.Statement.{statement}
 use Rattle.operator.proofs.single.keep_newest.Tie as tie

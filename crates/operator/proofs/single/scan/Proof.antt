@@ -5,10 +5,10 @@ use lib.ListN.{length}
 use native.Mathlib.Omega.{arith}
 use borrow.Author.Needs.{needs}
 use Rattle.quantity.specs.Sums.{total, every}
-use Rattle.operator.specs.Stored.{wordAt, wordFits}
-use Rattle.operator.specs.Scanning.{mostScanned}
-use Rattle.operator.specs.declared.Scanned.{Scanned}
-use Rattle.operator.proofs.ScanLaws.{scan-fits, scan-units}
+use Rattle.words.specs.Stored.{wordAt, wordFits}
+use Rattle.words.specs.Scanning.{mostScanned}
+use Rattle.words.specs.declared.Scanned.{Scanned}
+use Rattle.words.proofs.ScanLaws.{scan-fits, scan-units}
 use Rattle.operator.proofs.single.scan.Statement.{statement}
 use Rattle.operator.proofs.single.scan.Tie as tie
 

@@ -4,7 +4,7 @@ use mathlib.Core.Bool.{Bool, true, false}
 use Prim.Native.Nat.{ℕ}
 use native.Mathlib.Omega.{arith}
 use borrow.Author.Tests.{not-true, not-false}
-use Rattle.operator.specs.Stored.{storedFits}
+use Rattle.words.specs.Stored.{storedFits}
 use Rattle.operator.proofs.SingleLaws.{Usable, stored-refused, stored-found, held-le, b-sum}
 use borrow.Author.Needs.{needs}
 use Rattle.operator.proofs.single.stored_in.Statement.{statement}

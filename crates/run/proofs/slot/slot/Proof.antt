@@ -4,7 +4,7 @@ use mathlib.Core.Bool.{true, false}
 use borrow.Author.Needs.{needs}
 use borrow.Author.Tests.{not-true, not-false}
 use Rattle.quantity.specs.Sums.{listOf}
-use Rattle.operator.specs.MeterWithin.{withinQuota}
+use Rattle.meter.specs.MeterWithin.{withinQuota}
 use Rattle.run.specs.Calls.{Call, choicesMiscounted, amountTooLarge}
 use Rattle.run.specs.Runs.{mostOperators, runUnusable}
 use Rattle.run.specs.Steps.{callOf, countedIn}

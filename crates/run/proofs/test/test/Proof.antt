@@ -4,8 +4,8 @@ use mathlib.Core.Bool.{Bool, true, false}
 use Prim.Native.Nat.{ℕ}
 use native.Mathlib.Omega.{arith}
 use borrow.Author.Tests.{not-true, not-false}
-use Rattle.operator.specs.Declarations.{declarationInRange}
-use Rattle.operator.specs.MeterWithin.{countedOf}
+use Rattle.flow.specs.Declarations.{declarationInRange}
+use Rattle.meter.specs.MeterWithin.{countedOf}
 use Rattle.sheet.specs.Bodies.{part}
 use Rattle.run.specs.Runs.{meterIn, meterWords}
 use Rattle.run.proofs.UsableRun.{UsableRun}

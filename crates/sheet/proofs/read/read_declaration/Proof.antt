@@ -5,8 +5,8 @@ use borrow.Author.Tests.{le-leb, lt-leb}
 use native.Mathlib.Omega.{arith}
 use denote.Ref.{now}
 use lib.ListN.{getD}
-use Rattle.operator.specs.Declarations.{declarationInRange}
-use Rattle.operator.specs.declared.Declaration.{Declaration}
+use Rattle.flow.specs.Declarations.{declarationInRange}
+use Rattle.flow.specs.declared.Declaration.{Declaration}
 use Rattle.sheet.specs.Bodies.{declarationIn, declarationFits}
 use Rattle.sheet.specs.declared.read.ReadDeclaration.{ReadDeclaration}
 use Rattle.sheet.proofs.ReadLaws.{fits-value, no-value}

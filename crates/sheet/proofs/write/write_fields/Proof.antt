@@ -13,7 +13,7 @@ use lib.Seq.{sets}
 use Rattle.quantity.specs.Choice.{both}
 use Rattle.quantity.specs.Ranges.{inRange, wantedDelayRange}
 use Rattle.quantity.proofs.Laws.{pick-true, pick-false}
-use Rattle.operator.specs.Declarations.{declarationInRange}
+use Rattle.flow.specs.Declarations.{declarationInRange}
 use Rattle.sheet.specs.declared.write.WrittenPlaces.{WrittenPlaces}
 use Rattle.sheet.specs.Numbers.{bytesOf}
 use Rattle.sheet.specs.Paths.{Line}

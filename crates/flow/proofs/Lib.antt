@@ -1,0 +1,5 @@
+pub mod Laws
+pub mod Blocks
+mod Windows
+mod Reached
+pub mod Keeping

@@ -1,0 +1,4 @@
+pub mod Flows
+pub mod Classes
+pub mod Declarations
+pub mod Keeping

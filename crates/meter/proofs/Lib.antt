@@ -1,0 +1,6 @@
+pub mod MeterLaws
+pub mod Metering
+mod UsableMeter
+pub mod MeterWithinLaws
+mod MeterAnswers
+pub mod ReferenceMeters

@@ -1,0 +1,72 @@
+-- Each way out by what the tests before it told: the stored words, then the declaration's ranges.
+use mathlib.Core.Path.{_≡_, sym, ap, _∙_}
+use mathlib.Core.Bool.{true, false}
+use Prim.Native.Nat.{ℕ}
+use native.Mathlib.Omega.{arith}
+use borrow.Author.Tests.{not-true, not-false}
+use Rattle.quantity.specs.Sums.{total}
+use Rattle.quantity.proofs.Laws.{picked-true, picked-false, pick-false}
+use Rattle.words.specs.Stored.{wordAt}
+use Rattle.flow.specs.Declarations.{declarationInRange}
+use Rattle.meter.specs.Meter.{meterWordCount, meterUnusable}
+use Rattle.meter.specs.declared.Counted.{Counted}
+use Rattle.meter.proofs.MeterWithinLaws.{counted-unusable, counted-outside, counted-next}
+use borrow.Author.Needs.{needs}
+use Rattle.meter.proofs.counted_before.Statement.{statement}
+use Rattle.meter.proofs.counted_before.Tie as tie
+
+-- where words were found, the meter can be used, and their sum was found
+usable : (c : tie.After-units) → meterUnusable (c .before .before .before .before .args .state) (c .before .before .before .before .args .words .now) ≡ false
+usable c =
+    picked-false _ _ _ (sym (c .units .given .1) ∙ c .before .before .stored-in .ensures)
+    (λ e. let never : _≡_ {A = ℕ} 0 1 = cc in omega arith)
+
+summed : (c : tie.After-units) → c .units .given .0 .0 ≡ total (wordAt (c .before .before .before .before .args .words .now)) meterWordCount
+summed c =
+    let found = sym (c .units .given .1) ∙ c .before .before .stored-in .ensures ∙ pick-false _ _ _ (usable c) in
+    cc
+
+-- past the second test the declaration is in range
+ranged : (c : tie.Else1) → declarationInRange (c .before .before .before .before .before .before .before .before .args .state .declaration) ≡ true
+ranged c = sym (c .before .in-range .ensures) ∙ not-false _ (c .if1 .left)
+
+stored-in-requires : tie.Need-stored-in-requires
+stored-in-requires c κs = search needs
+
+enum-told : tie.Need-enum-told
+enum-told c = search needs
+
+enum-known-units : tie.Need-enum-known-units
+enum-known-units c = search needs
+
+in-range-requires : tie.Need-in-range-requires
+in-range-requires c κs = search needs
+
+returns : tie.Need-returns
+returns c = counted-outside _ _ (usable (c .before .before .before .before)) (sym (c .before .in-range .ensures) ∙ not-true _ (c .if1 .taken))
+
+counts-with-requires : tie.Need-counts-with-requires
+counts-with-requires c κs = (usable (c .before .before .before .before), ranged c, summed (c .before .before .before .before))
+
+returns-2 : tie.Need-returns-2
+returns-2 c =
+    counted-unusable _ _
+    (picked-true _ _ _ (sym (c .enum-told .given .1) ∙ c .before .before .stored-in .ensures) (λ e. let never : _≡_ {A = ℕ} 0 1 = cc in omega arith))
+
+returns-3 : tie.Need-returns-3
+returns-3 c =
+    let known = c .before in
+    ap (λ (n : ℕ). Counted.Before record { 0 = n }) (c .counts-with .ensures) ∙ sym (counted-next _ _ (usable (known .before .before .before .before)) (ranged known))
+
+pub counted-before-spec : {M : Type 1} → statement M
+counted-before-spec =
+    tie.close
+    (tie.spec
+    stored-in-requires
+    enum-told
+    enum-known-units
+    in-range-requires
+    returns
+    counts-with-requires
+    returns-2
+    returns-3)

@@ -1,0 +1,95 @@
+-- Each test that fails makes the meter unusable; where all pass, it is usable, and the sum is the scan's.
+use mathlib.Core.Path.{_≡_, sym, ap, ap₂, _∙_}
+use mathlib.Core.Bool.{Bool, true}
+use Prim.Native.Nat.{ℕ}
+use native.Mathlib.Omega.{arith}
+use borrow.Author.Tests.{not-true, not-false}
+use Rattle.quantity.specs.Sums.{total, every}
+use Rattle.quantity.proofs.Laws.{pick-true, pick-false}
+use Rattle.words.specs.Stored.{wordAt, storedFits, wordFits}
+use Rattle.meter.specs.Meter.{meterWordCount, usesBlock, meterWordsUsed}
+use Rattle.words.specs.declared.Scanned.{Scanned}
+use Rattle.meter.specs.declared.Stored.{Stored}
+use Rattle.words.proofs.ScanLaws.{scan-fits, scan-units}
+use Rattle.meter.proofs.UsableMeter.{meter-usable, wrong-length, no-slot-left, block-misfit, word-misfit}
+use borrow.Author.Needs.{needs}
+use Rattle.meter.proofs.stored_in.Statement.{statement}
+use Rattle.meter.proofs.stored_in.Tie as tie
+
+-- what the callees answer, of the state and the words that came in
+block-tested : (c : tie.After-stored-fits) →
+    let state = c .before .before .before .before .before .before .before .args .state in
+    storedFits (usesBlock (state .declaration .kind)) (state .block .0) ≡ c .stored-fits .result
+block-tested c =
+    let state = c .before .before .before .before .before .before .before .args .state in
+    sym (c .stored-fits .ensures ∙ ap (λ (used : Bool). storedFits used (state .block .0)) (c .before .uses-block .ensures))
+
+words-tested : (c : tie.After-scan) →
+    let start = c .before .before .before .before .before .before .before .before .before .before in
+    let state = start .args .state in
+    every (wordFits (meterWordsUsed (state .declaration .kind) (state .declaration .interval .0)) (start .args .words .now)) meterWordCount ≡ c .scan .result .fits
+words-tested c =
+    let words = c .before .before .before .before .before .before .before .before .before .before .args .words .now in
+    let sized = c .before .before .before .before .before .before .before .before .if1 .left in
+    sym (ap (λ (r : Scanned). r .fits) (c .scan .ensures) ∙ scan-fits _ words (omega (arith, sized)) ∙ ap₂ (λ (used count : ℕ). every (wordFits used words) count) (c .before .words-used .ensures) sized)
+
+words-summed : (c : tie.After-scan) →
+    let words = c .before .before .before .before .before .before .before .before .before .before .args .words .now in
+    c .scan .result .fits ≡ true → c .scan .result .units ≡ total (wordAt words) meterWordCount
+words-summed c fits =
+    let words = c .before .before .before .before .before .before .before .before .before .before .args .words .now in
+    let sized = c .before .before .before .before .before .before .before .before .if1 .left in
+    ap (λ (r : Scanned). r .units) (c .scan .ensures)
+    ∙ scan-units _ words (omega (arith, sized)) (sym (ap (λ (r : Scanned). r .fits) (c .scan .ensures)) ∙ fits)
+    ∙ ap (total (wordAt words)) sized
+
+returns : tie.Need-returns
+returns c = sym (pick-true _ _ _ (wrong-length _ _ (c .if1 .taken)))
+
+returns-2 : tie.Need-returns-2
+returns-2 c = sym (pick-true _ _ _ (no-slot-left _ _ (c .if2 .taken)))
+
+uses-block-requires : tie.Need-uses-block-requires
+uses-block-requires c κs = search needs
+
+stored-fits-requires : tie.Need-stored-fits-requires
+stored-fits-requires c κs = search needs
+
+returns-3 : tie.Need-returns-3
+returns-3 c = sym (pick-true _ _ _ (block-misfit _ _ (block-tested (c .before) ∙ not-true _ (c .if3 .taken))))
+
+words-used-requires : tie.Need-words-used-requires
+words-used-requires c κs = search needs
+
+scan-requires : tie.Need-scan-requires
+scan-requires c κs = search needs
+
+returns-4 : tie.Need-returns-4
+returns-4 c = sym (pick-true _ _ _ (word-misfit _ _ (words-tested (c .before .before) ∙ not-true _ (c .if4 .taken))))
+
+returns-5 : tie.Need-returns-5
+returns-5 c =
+    ap Stored.Words (words-summed (c .before .before) (not-false _ (c .if4 .left)))
+    ∙ sym
+    (pick-false _ _ _
+    (meter-usable _ _
+    record {
+      sized = c .before .before .before .before .before .before .before .before .before .before .if1 .left;
+      slot-left = c .before .before .before .before .before .before .before .before .if2 .left;
+      block-fits = block-tested (c .before .before .before .before .before) ∙ not-false _ (c .before .before .before .before .if3 .left);
+      words-fit = words-tested (c .before .before) ∙ not-false _ (c .if4 .left);
+    }))
+
+pub stored-in-spec : {M : Type 1} → statement M
+stored-in-spec =
+    tie.close
+    (tie.spec
+    returns
+    returns-2
+    uses-block-requires
+    stored-fits-requires
+    returns-3
+    words-used-requires
+    scan-requires
+    returns-4
+    returns-5)

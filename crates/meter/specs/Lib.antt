@@ -1,0 +1,3 @@
+pub mod Meter
+pub mod MeterWithin
+pub mod Metering

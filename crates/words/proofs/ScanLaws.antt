@@ -1,0 +1,154 @@
+-- Words in two parts: those used fit if each is small, the rest if each is 0, and then the used ones make the sum of all.
+use mathlib.Core.Path.{_≡_, refl, ap, ap₂, sym, _∙_}
+use mathlib.Core.Bool.{Bool, true, false}
+use mathlib.Core.List.{List}
+use Prim.Native.Nat.{ℕ, zero, suc, _+_, _-_, _≤_, _<_}
+use native.Mathlib.Nat.{zero-add, add-zero, add-suc}
+use native.Mathlib.Decide.{decLt}
+use native.Mathlib.Omega.{arith}
+use lib.ListN.{length, take, drop, length-drop}
+use lib.Seq.{length-take-le, getD-take, getD-drop}
+use lib.Dec.{leb, eqb}
+use borrow.Author.Tests.{lt-ltb, le-ltb, le-leb, lt-leb, eqb-true, ne-eqb}
+use Rattle.quantity.specs.Choice.{pick, both}
+use Rattle.quantity.specs.Sums.{total, every}
+use Rattle.quantity.specs.Limits.{largestAmount}
+use Rattle.quantity.proofs.Sums.{total-le, total-suc, total-same, every-holds, every-same, both-true, both-assoc}
+use Rattle.quantity.proofs.Laws.{pick-true, pick-false}
+use Rattle.words.specs.Stored.{wordAt, storedFits, wordFits}
+use Rattle.words.specs.Scanning.{mostScanned, allFit, noneScanned, scannedOf}
+use Rattle.words.specs.declared.Scanned.{Scanned}
+
+every-parts : (test : ℕ → Bool) (n k : ℕ) → every test (n + k) ≡ both (every test n) (every (λ j. test (n + j)) k)
+unfolding every
+every-parts test n zero = ap (every test) (add-zero n) ∙ both-true-end (every test n)
+  where
+    both-true-end : (a : Bool) → a ≡ both a true
+    both-true-end true = refl
+    both-true-end false = refl
+every-parts test n (suc k) =
+    ap (every test) (add-suc n k) ∙ ap (λ (t : Bool). both t (test (n + k))) (every-parts test n k) ∙ both-assoc (every test n) (every (λ j. test (n + j)) k) (test (n + k))
+
+total-parts : (f : ℕ → ℕ) (n k : ℕ) → total f (n + k) ≡ total f n + total (λ j. f (n + j)) k
+unfolding total
+total-parts f n zero = ap (total f) (add-zero n) ∙ sym (add-zero (total f n))
+total-parts f n (suc k) = ap (total f) (add-suc n k) ∙ (let shorter = total-parts f n k in omega arith)
+
+sum-clear : (f : ℕ → ℕ) (n : ℕ) → eqb (total f n) 0 ≡ every (λ j. eqb (f j) 0) n
+unfolding total every
+sum-clear f zero = refl
+sum-clear f (suc n) = sum-zero (total f n) (f n) ∙ ap (λ (t : Bool). both t (eqb (f n) 0)) (sum-clear f n)
+  where
+    sum-zero : (a b : ℕ) → eqb (a + b) 0 ≡ both (eqb a 0) (eqb b 0)
+    sum-zero zero b = ap (λ (n : ℕ). eqb n 0) (zero-add b)
+    sum-zero (suc a) b = ne-eqb (suc a + b) 0 (λ e. omega arith) ∙ ap (λ (t : Bool). both t (eqb b 0)) (sym (ne-eqb (suc a) 0 (λ e. omega arith)))
+
+module _ (words : List ℕ) where
+  -- none is used
+  pub unused-fits : every (λ j. eqb (wordAt words j) 0) (length words) ≡ every (wordFits 0 words) (length words)
+  unfolding wordFits storedFits
+  unused-fits = every-same (λ j. eqb (wordAt words j) 0) (wordFits 0 words) (length words) (λ j less. ap (λ (t : Bool). pick t (leb (wordAt words j) largestAmount) (eqb (wordAt words j) 0)) (sym (le-ltb j 0 (omega arith))))
+
+  pub unused-units : every (λ j. eqb (wordAt words j) 0) (length words) ≡ true → 0 ≡ total (wordAt words) (length words)
+  unused-units clear = sym (eqb-true (total (wordAt words) (length words)) 0 (sum-clear (wordAt words) (length words) ∙ clear))
+
+-- words whose sum is within the limit are
+pub words-small : (words : List ℕ) → total (wordAt words) (length words) ≤ largestAmount → every (λ j. leb (wordAt words j) largestAmount) (length words) ≡ true
+words-small words within =
+    every-holds (λ j. leb (wordAt words j) largestAmount) (length words)
+    (λ j less. le-leb (wordAt words j) largestAmount (omega (arith, within, total-le (wordAt words) {n = suc j} {m = length words} less, total-suc (wordAt words) j)))
+
+-- the first `end` words are used, and those behind them are not
+module _ (words : List ℕ) (used end : ℕ) (below : end ≤ used) (within : end ≤ length words) (all : end < used → end ≡ length words) where
+  abbrev first : List ℕ
+  first = take (end - 0) words
+
+  abbrev behind : List ℕ
+  behind = take (length words - end) (drop end words)
+
+  abbrev rest : ℕ
+  rest = length words - end
+
+  first-length : length first ≡ end
+  first-length = let long = length-take-le (end - 0) words (omega arith) in omega arith
+
+  behind-length : length behind ≡ rest
+  behind-length = length-take-le rest (drop end words) (omega (arith, length-drop end words))
+
+  first-word : (j : ℕ) → j < end → wordAt first j ≡ wordAt words j
+  first-word j less = getD-take (end - 0) words j 0 (omega (arith, less))
+
+  behind-word : (j : ℕ) → j < rest → wordAt behind j ≡ wordAt words (end + j)
+  behind-word j less = getD-take rest (drop end words) j 0 less ∙ getD-drop end words j 0
+
+  whole : end + rest ≡ length words
+  whole = omega arith
+
+  none-used : (j : ℕ) → j < rest → used ≤ end + j
+  none-used j less = elim (decLt end used) [
+    | yes fewer ↦ let none = all fewer in omega arith
+    | no enough ↦ omega arith
+  ]
+
+  abbrev small : Bool
+  small = every (λ j. leb (wordAt first j) largestAmount) (length first)
+
+  abbrev clear : Bool
+  clear = eqb (total (wordAt behind) (length behind)) 0
+
+  first-fits : small ≡ every (wordFits used words) end
+  unfolding wordFits storedFits
+  first-fits =
+      ap (every (λ j. leb (wordAt first j) largestAmount)) first-length
+      ∙ every-same (λ j. leb (wordAt first j) largestAmount) (wordFits used words) end
+      (λ j less. ap (λ (w : ℕ). leb w largestAmount) (first-word j less)
+      ∙ ap (λ (t : Bool). pick t (leb (wordAt words j) largestAmount) (eqb (wordAt words j) 0)) (sym (lt-ltb j used (omega arith))))
+
+  behind-fits : clear ≡ every (λ j. wordFits used words (end + j)) rest
+  unfolding wordFits storedFits
+  behind-fits =
+      sum-clear (wordAt behind) (length behind)
+      ∙ ap (every (λ j. eqb (wordAt behind j) 0)) behind-length
+      ∙ every-same (λ j. eqb (wordAt behind j) 0) (λ j. wordFits used words (end + j)) rest
+      (λ j less. ap (λ (w : ℕ). eqb w 0) (behind-word j less)
+      ∙ ap (λ (t : Bool). pick t (leb (wordAt words (end + j)) largestAmount) (eqb (wordAt words (end + j)) 0)) (sym (le-ltb (end + j) used (none-used j less))))
+
+  pub scanned-fits : both small clear ≡ every (wordFits used words) (length words)
+  scanned-fits = ap₂ both first-fits behind-fits ∙ sym (every-parts (wordFits used words) end rest) ∙ ap (every (wordFits used words)) whole
+
+  pub scanned-units : both small clear ≡ true → total (wordAt first) (length first) ≡ total (wordAt words) (length words)
+  scanned-units fits =
+      let none = eqb-true (total (wordAt behind) (length behind)) 0 (both-true small clear fits .1) in
+      let behind-total = ap (total (wordAt behind)) behind-length ∙ total-same (wordAt behind) (λ j. wordAt words (end + j)) rest behind-word in
+      ap (total (wordAt first)) first-length ∙ total-same (wordAt first) (wordAt words) end first-word
+      ∙ (let parts = total-parts (wordAt words) end rest in let same = ap (total (wordAt words)) whole in omega arith)
+
+module _ (used : ℕ) (words : List ℕ) where
+  -- more words than are scanned at once
+  pub too-many : mostScanned < length words → noneScanned ≡ scannedOf used words
+  unfolding scannedOf allFit
+  too-many above = sym (pick-false _ _ _ (ap (λ (t : Bool). both t (every (wordFits used words) (length words))) (lt-leb (length words) mostScanned above)))
+
+  -- of no more than that, each word's test decides
+  module _ (few : length words ≤ mostScanned) where
+    tested : allFit used words ≡ every (wordFits used words) (length words)
+    unfolding allFit
+    tested = ap (λ (t : Bool). both t (every (wordFits used words) (length words))) (le-leb (length words) mostScanned few)
+
+    pub misfit : every (wordFits used words) (length words) ≡ false → noneScanned ≡ scannedOf used words
+    unfolding scannedOf
+    misfit none = sym (pick-false _ _ _ (tested ∙ none))
+
+    pub all-fit : every (wordFits used words) (length words) ≡ true → record { fits = true; units = total (wordAt words) (length words) } ≡ scannedOf used words
+    unfolding scannedOf
+    all-fit fits = sym (pick-true _ _ _ (tested ∙ fits))
+
+    pub scan-fits : scannedOf used words .fits ≡ every (wordFits used words) (length words)
+    scan-fits = answered (every (wordFits used words) (length words)) refl
+      where
+        answered : (fits : Bool) → every (wordFits used words) (length words) ≡ fits → scannedOf used words .fits ≡ fits
+        answered true fits = ap (λ (r : Scanned). r .fits) (sym (all-fit fits))
+        answered false none = ap (λ (r : Scanned). r .fits) (sym (misfit none))
+
+    pub scan-units : scannedOf used words .fits ≡ true → scannedOf used words .units ≡ total (wordAt words) (length words)
+    scan-units fits = ap (λ (r : Scanned). r .units) (sym (all-fit (sym scan-fits ∙ fits)))
