@@ -13,7 +13,7 @@ use quantity::Quota;
 use quantity::Rate;
 use quantity::WantedDelay;
 use sheet::House;
-use sheet::Place;
+use sheet::LinkedOperator;
 use text::decimal::Decimal;
 use text::decimal::Decimals;
 use text::decimal::decimal_at;
@@ -27,7 +27,7 @@ pub enum Said {
     Hexadecimal,
     Declaration(Declaration),
     Wanted(WantedDelay),
-    Place(Place),
+    LinkedOperator(LinkedOperator),
     House(House),
     Wrong(Fault),
 }
@@ -68,19 +68,19 @@ pub(crate) fn read_line(line: &[u8]) -> Said {
 
 fn read_operator(line: &[u8]) -> Said {
     if has_word(line, b"limiter") {
-        return read_place(OperatorWord::Limiter, number_and_link(line, 8));
+        return read_linked(OperatorWord::Limiter, number_and_link(line, 8));
     }
     if has_word(line, b"compactor") {
-        return read_place(OperatorWord::Compactor, number_and_link(line, 10));
+        return read_linked(OperatorWord::Compactor, number_and_link(line, 10));
     }
     if has_word(line, b"expander") {
-        return read_place(OperatorWord::Expander, number_and_link(line, 9));
+        return read_linked(OperatorWord::Expander, number_and_link(line, 9));
     }
     if has_word(line, b"filter") {
-        return read_place(OperatorWord::Filter, number_and_link(line, 7));
+        return read_linked(OperatorWord::Filter, number_and_link(line, 7));
     }
     if has_word(line, b"delayer") {
-        return read_place(OperatorWord::Delayer, number_and_link(line, 8));
+        return read_linked(OperatorWord::Delayer, number_and_link(line, 8));
     }
     Said::Wrong(Fault::UnknownWord)
 }
@@ -133,7 +133,7 @@ fn read_wanted(numbers: Numbers) -> Said {
 }
 
 // `limiter R link k`, and so for each operator.
-fn read_place(word: OperatorWord, numbers: Numbers) -> Said {
+fn read_linked(word: OperatorWord, numbers: Numbers) -> Said {
     match numbers {
         Numbers::Wrong(why) => Said::Wrong(why),
         Numbers::Given { first, second } => {
@@ -145,7 +145,7 @@ fn read_place(word: OperatorWord, numbers: Numbers) -> Said {
             if !link.in_range() {
                 return Said::Wrong(Fault::LinkOutOfRange);
             }
-            Said::Place(Place { operator, link })
+            Said::LinkedOperator(LinkedOperator { operator, link })
         }
     }
 }

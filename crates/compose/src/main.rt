@@ -14,8 +14,8 @@ use flow::Declaration;
 use quantity::WantedDelay;
 use sheet::Form;
 use sheet::House;
-use sheet::Path;
-use sheet::Place;
+use sheet::LinkedOperator;
+use sheet::PathValue;
 use sheet::no_path;
 use sheet::write::Written;
 use sheet::write::write;
@@ -27,7 +27,7 @@ mod profile;
 
 // The path so far, which of its lines were there, whether it is complete, as a house profile is, whether its bytes are wanted in hexadecimal, and whether a line was wrong.
 struct Draft {
-    path: Path,
+    path: PathValue,
     declared: bool,
     delay_given: bool,
     complete: bool,
@@ -88,7 +88,7 @@ fn take(draft: Draft, lines: u64, said: Said) -> Draft {
         Said::Hexadecimal => take_hexadecimal(draft, lines),
         Said::Declaration(declaration) => take_declaration(draft, lines, declaration),
         Said::Wanted(wanted) => take_wanted(draft, lines, wanted),
-        Said::Place(place) => take_place(draft, lines, place),
+        Said::LinkedOperator(linked) => take_linked(draft, lines, linked),
         Said::House(house) => take_house(draft, lines, house),
     }
 }
@@ -130,7 +130,7 @@ fn take_wanted(draft: Draft, lines: u64, wanted: WantedDelay) -> Draft {
     next
 }
 
-fn take_place(draft: Draft, lines: u64, place: Place) -> Draft {
+fn take_linked(draft: Draft, lines: u64, linked: LinkedOperator) -> Draft {
     if !draft.declared {
         return fail(draft, lines, Fault::DeclarationMissing);
     }
@@ -145,7 +145,7 @@ fn take_place(draft: Draft, lines: u64, place: Place) -> Draft {
         return fail(draft, lines, Fault::LineTooMany);
     }
     let mut path = draft.path;
-    path.places[count] = place;
+    path.operators[count] = linked;
     path.count = count + 1;
     let mut next = draft;
     next.path = path;
@@ -160,13 +160,13 @@ fn take_house(draft: Draft, lines: u64, house: House) -> Draft {
     let empty = draft.path;
     let declaration = empty.declaration;
     let wanted = empty.wanted;
-    let places = empty.places;
-    let path = Path {
+    let operators = empty.operators;
+    let path = PathValue {
         form: Form::House(house),
         declaration,
         wanted,
         count: 0,
-        places,
+        operators,
     };
     Draft {
         path,
@@ -188,7 +188,7 @@ fn end_text(draft: Draft, lines: u64) {
     }
 }
 
-fn write_path(path: Path, in_hexadecimal: bool) {
+fn write_path(path: PathValue, in_hexadecimal: bool) {
     let mut sheet = [0u8; 256];
     match write(path, &mut sheet) {
         Written::Refused(why) => refused(why),

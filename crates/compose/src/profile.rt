@@ -51,9 +51,9 @@ fn read_numbers(line: &[u8], profile: u8, from: usize) -> Said {
                 interval: Interval(numbers[2]),
                 quota: Quota(numbers[3]),
                 rate: Rate(numbers[4]),
-                own: Packet(numbers[5]),
-                longest: Packet(numbers[6]),
-                carrying: Rate(numbers[7]),
+                own_packet: Packet(numbers[5]),
+                longest_packet: Packet(numbers[6]),
+                link_rate: Rate(numbers[7]),
             })
         }
     }
@@ -172,19 +172,19 @@ fn fault_of(house: House) -> Fault {
 // Profile 0 uses none of the numbers that are left.
 fn rate_fault(house: House) -> Fault {
     let rate = house.rate;
-    let own = house.own;
-    let longest = house.longest;
-    let carrying = house.carrying;
+    let own_packet = house.own_packet;
+    let longest_packet = house.longest_packet;
+    let link_rate = house.link_rate;
     if !rate.in_range() {
         return Fault::RateOutOfRange;
     }
-    if !own.in_range() {
+    if !own_packet.in_range() {
         return Fault::PacketOutOfRange;
     }
-    if !longest.in_range() {
+    if !longest_packet.in_range() {
         return Fault::PacketOutOfRange;
     }
-    if !carrying.in_range() {
+    if !link_rate.in_range() {
         return Fault::LinkRateOutOfRange;
     }
     Fault::DelayerTooLong

@@ -6,7 +6,7 @@ use crate::print::text;
 use figures::Figure;
 use operator::Operator;
 use quantity::Units;
-use sheet::Path;
+use sheet::PathValue;
 use sheet::read::Verdict;
 
 pub fn list(sheet: &[u8]) {
@@ -40,13 +40,13 @@ fn sum(figures: [Figure; 16]) -> Units {
     capacity
 }
 
-fn lines(path: Path, figures: [Figure; 16]) {
-    let places = path.places;
+fn lines(path: PathValue, figures: [Figure; 16]) {
+    let operators = path.operators;
     let count = path.count;
     let mut k = 0;
     while k < 16 && k < count {
-        let place = places[k];
-        let operator = place.operator;
+        let linked = operators[k];
+        let operator = linked.operator;
         let figure = figures[k];
         line(k, operator, figure);
         k += 1;

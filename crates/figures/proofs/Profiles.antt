@@ -22,11 +22,11 @@ use Rattle.flow.specs.Declarations.{classOf}
 use Rattle.operator.specs.Operators.{limiter, compactor, expander, filter, delayer}
 use Rattle.operator.specs.declared.Operator.{Operator}
 use Rattle.flow.proofs.Laws.{blocks-met-whole}
-use Rattle.sheet.specs.declared.Place.{Place}
+use Rattle.sheet.specs.declared.LinkedOperator.{LinkedOperator}
 use Rattle.sheet.specs.declared.House.{House}
-use Rattle.sheet.specs.House.{delayerSlots, houseInRange, hopLength, hopOperator, housePlace, houseLine}
-use Rattle.sheet.specs.Paths.{Line, noPlace}
-use Rattle.sheet.proofs.HouseLaws.{HouseWithin, house-within, which-profile, length-housePlaces, house-some}
+use Rattle.sheet.specs.House.{delayerSlots, houseInRange, hopLength, hopOperator, houseOperator, housePath}
+use Rattle.sheet.specs.Paths.{Path, noLinkedOperator}
+use Rattle.sheet.proofs.HouseLaws.{HouseWithin, house-within, which-profile, length-houseOperators, house-some}
 use Rattle.figures.specs.Progress.{Progress, start, behind, progressAt}
 use Rattle.figures.specs.Figures.{partCapacity, partDelay, capacity, ownDelay, pairs, isFramed, framedAfterFilter, largestChangedQuota, changedQuota, figureTooLarge, rateTooLow}
 use Rattle.figures.specs.Answers.{operatorAt, before, pairedAt, delayAt, pathDelay, operatorCases, operatorsCases}
@@ -114,17 +114,17 @@ module _ (m Q R e : ℕ) (small : Q ≤ 65535) (slow : R ≤ 65535) (paired : Bo
 -- Along a path.
 
 -- before operator k: the progress, the sum of the delays so far, and the tests of the operators before it, with `low` for 8
-record Reached (line : Line) (low : ℕ → Bool) (k : ℕ) (p : Progress) (delay : ℕ) : Type 0 where
-  here : before line k ≡ p
-  delays : total (delayAt line) k ≡ delay
-  tested : (i : ℕ) → i < k → Stands (before line i) (operatorAt line i) (low i)
+record Reached (path : Path) (low : ℕ → Bool) (k : ℕ) (p : Progress) (delay : ℕ) : Type 0 where
+  here : before path k ≡ p
+  delays : total (delayAt path) k ≡ delay
+  tested : (i : ℕ) → i < k → Stands (before path i) (operatorAt path i) (low i)
 
-reached-start : (line : Line) (low : ℕ → Bool) → Reached line low 0 (start (classOf (line .declaration))) 0
+reached-start : (path : Path) (low : ℕ → Bool) → Reached path low 0 (start (classOf (path .declaration))) 0
 unfolding before progressAt total
-reached-start line low = record { here = refl; delays = refl; tested = λ i less. absurd (not-suc-le-zero less) }
+reached-start path low = record { here = refl; delays = refl; tested = λ i less. absurd (not-suc-le-zero less) }
 
-reached-next : {line : Line} {low : ℕ → Bool} {k delay own sum : ℕ} {p q : Progress} {op : Operator} {eight : Bool}
-    → Reached line low k p delay → operatorAt line k ≡ op → Makes p op (pairedAt line k) q own eight → low k ≡ eight → delay + own ≡ sum → Reached line low (suc k) q sum
+reached-next : {path : Path} {low : ℕ → Bool} {k delay own sum : ℕ} {p q : Progress} {op : Operator} {eight : Bool}
+    → Reached path low k p delay → operatorAt path k ≡ op → Makes p op (pairedAt path k) q own eight → low k ≡ eight → delay + own ≡ sum → Reached path low (suc k) q sum
 unfolding before progressAt total delayAt
 reached-next reached known made flag sums =
     let here = reached .here in
@@ -138,21 +138,21 @@ reached-next reached known made flag sums =
 -- The hops.
 
 -- operator i of hop j
-operator-at : (h : House) (len : ℕ) → hopLength h ≡ len → (k j i : ℕ) → k ≡ j * len + i → j < h .hops .0 → i < len → operatorAt (houseLine h) k ≡ hopOperator h i
-unfolding operatorAt houseLine housePlace
+operator-at : (h : House) (len : ℕ) → hopLength h ≡ len → (k j i : ℕ) → k ≡ j * len + i → j < h .hops .0 → i < len → operatorAt (housePath h) k ≡ hopOperator h i
+unfolding operatorAt housePath houseOperator
 operator-at h len long k j i e hop less =
     let rest : k % hopLength h ≡ i = rw (long, e, mul-add-mod-self-right) (mod-eq-of-lt less) in
-    ap (λ (place : Place). place .operator) (getD-listOf noPlace (housePlace h) (h .hops .0 * hopLength h) k (rw long (omega (arith, suc-mul j len, mul-le-mul-right len hop))))
+    ap (λ (linked : LinkedOperator). linked .operator) (getD-listOf noLinkedOperator (houseOperator h) (h .hops .0 * hopLength h) k (rw long (omega (arith, suc-mul j len, mul-le-mul-right len hop))))
     ∙ ap (hopOperator h) rest
 
 -- the whole path, from what is reached behind its last hop
-module _ (h : House) {low : ℕ → Bool} {len delay : ℕ} {p : Progress} (long : hopLength h ≡ len) (reached : Reached (houseLine h) low (h .hops .0 * len) p delay) where
-  whole-delay : pathDelay (houseLine h) ≡ delay
+module _ (h : House) {low : ℕ → Bool} {len delay : ℕ} {p : Progress} (long : hopLength h ≡ len) (reached : Reached (housePath h) low (h .hops .0 * len) p delay) where
+  whole-delay : pathDelay (housePath h) ≡ delay
   unfolding pathDelay
-  whole-delay = rw (length-housePlaces h, long) (reached .delays)
+  whole-delay = rw (length-houseOperators h, long) (reached .delays)
 
-  whole-tests : (k : ℕ) → k < length (houseLine h .places) → Stands (before (houseLine h) k) (operatorAt (houseLine h) k) (low k)
-  whole-tests k less = reached .tested k (rw (length-housePlaces h, long) at less)
+  whole-tests : (k : ℕ) → k < length (housePath h .operators) → Stands (before (housePath h) k) (operatorAt (housePath h) k) (low k)
+  whole-tests k less = reached .tested k (rw (length-houseOperators h, long) at less)
 
 -- hop hops − 1 is the last
 some-hop : (h : House) → HouseWithin h → suc (h .hops .0 - 1) ≡ h .hops .0
@@ -166,31 +166,31 @@ rateLow h = ltb (h .interval .0 * h .rate .0) (h .quota .0)
 
 -- smooth (m, Q) before operator k, and 8 nowhere
 abbrev Framed : House → ℕ → ℕ → Type 0
-Framed h k delay = Reached (houseLine h) (λ i. false) k (start (smooth (h .interval .0) (h .quota .0))) delay
+Framed h k delay = Reached (housePath h) (λ i. false) k (start (smooth (h .interval .0) (h .quota .0))) delay
 
 module _ (h : House) (within : HouseWithin h) (first : h .profile ≡ 0) where
   framed-length : hopLength h ≡ 2
   unfolding hopLength
   framed-length = rw (eq-eqb (h .profile) 0 first)
 
-  framed-at : (k j i : ℕ) → k ≡ j * 2 + i → j < h .hops .0 → i < 2 → operatorAt (houseLine h) k ≡ pick (eqb i 0) (compactor (h .interval .0)) (expander (h .interval .0))
+  framed-at : (k j i : ℕ) → k ≡ j * 2 + i → j < h .hops .0 → i < 2 → operatorAt (housePath h) k ≡ pick (eqb i 0) (compactor (h .interval .0)) (expander (h .interval .0))
   unfolding hopOperator
   framed-at k j i e hop less = rw (operator-at h 2 framed-length k j i e hop less, eq-eqb (h .profile) 0 first)
 
   -- every expander but the last makes a pair
-  paired : (j : ℕ) → suc j < h .hops .0 → pairedAt (houseLine h) (suc (j * 2)) ≡ true
+  paired : (j : ℕ) → suc j < h .hops .0 → pairedAt (housePath h) (suc (j * 2)) ≡ true
   unfolding pairedAt pairs
   paired j more =
       let here = framed-at (suc (j * 2)) j 1 (omega arith) (le-of-lt more) (omega arith) in
       let next = framed-at (suc (j * 2) + 1) (suc j) 0 (omega arith) more (omega arith) in
-      rw (length-housePlaces h, framed-length, lt-ltb (suc (j * 2) + 1) (h .hops .0 * 2) (omega arith), here, next) (eq-eqb (h .interval .0) (h .interval .0) refl)
+      rw (length-houseOperators h, framed-length, lt-ltb (suc (j * 2) + 1) (h .hops .0 * 2) (omega arith), here, next) (eq-eqb (h .interval .0) (h .interval .0) refl)
 
-  unpaired : (j : ℕ) → suc j ≡ h .hops .0 → pairedAt (houseLine h) (suc (j * 2)) ≡ false
+  unpaired : (j : ℕ) → suc j ≡ h .hops .0 → pairedAt (housePath h) (suc (j * 2)) ≡ false
   unfolding pairedAt
-  unpaired j last = rw (length-housePlaces h, framed-length, le-ltb (suc (j * 2) + 1) (h .hops .0 * 2) (omega arith))
+  unpaired j last = rw (length-houseOperators h, framed-length, le-ltb (suc (j * 2) + 1) (h .hops .0 * 2) (omega arith))
 
   framed-hop : (j : ℕ) {delay sum : ℕ} → j < h .hops .0 → Framed h (j * 2) delay
-      → delay + h .interval .0 + pick (pairedAt (houseLine h) (suc (j * 2))) 0 (h .interval .0) ≡ sum → Framed h (suc j * 2) sum
+      → delay + h .interval .0 + pick (pairedAt (housePath h) (suc (j * 2))) 0 (h .interval .0) ≡ sum → Framed h (suc j * 2) sum
   framed-hop j hop reached sums =
       let m = h .interval .0 in
       let Q = h .quota .0 in
@@ -201,8 +201,8 @@ module _ (h : House) (within : HouseWithin h) (first : h .profile ≡ 0) where
       (reached-next compacted (framed-at (suc (j * 2)) j 1 (omega arith) hop (omega arith)) (makes-expander (uniform m Q) m Q _ (uniform-same m Q large) small) refl sums)
 
   framed-hops : (j : ℕ) → j < h .hops .0 → Framed h (j * 2) (j * h .interval .0)
-  unfolding houseLine
-  framed-hops zero hop = rw (zero-mul (h .interval .0)) (reached-start (houseLine h) (λ i. false))
+  unfolding housePath
+  framed-hops zero hop = rw (zero-mul (h .interval .0)) (reached-start (housePath h) (λ i. false))
   framed-hops (suc j) hop = framed-hop j (le-of-lt hop) (framed-hops j (le-of-lt hop)) (rw (paired j hop) (omega arith))
 
   framed-path : Framed h (h .hops .0 * 2) ((h .hops .0 + 1) * h .interval .0)
@@ -215,7 +215,7 @@ module _ (h : House) (within : HouseWithin h) (first : h .profile ≡ 0) where
 
 -- smooth (m, q) before operator k, and 8 at the first operator where Q is above m·R
 abbrev Limited : House → ℕ → ℕ → ℕ → Type 0
-Limited h k q delay = Reached (houseLine h) (λ i. pick (eqb i 0) (rateLow h) false) k (start (smooth (h .interval .0) q)) delay
+Limited h k q delay = Reached (housePath h) (λ i. pick (eqb i 0) (rateLow h) false) k (start (smooth (h .interval .0) q)) delay
 
 module _ (h : House) (within : HouseWithin h) (second : h .profile ≡ 1) where
   limited-length : hopLength h ≡ 3
@@ -223,21 +223,21 @@ module _ (h : House) (within : HouseWithin h) (second : h .profile ≡ 1) where
   limited-length = rw (ne-eqb (h .profile) 0 (λ e. omega arith), eq-eqb (h .profile) 1 second)
 
   limited-at : (k j i : ℕ) → k ≡ j * 3 + i → j < h .hops .0 → i < 3
-      → operatorAt (houseLine h) k ≡ pick (eqb i 0) (limiter (h .rate .0)) (pick (eqb i 1) (compactor (h .interval .0)) (expander (h .interval .0)))
+      → operatorAt (housePath h) k ≡ pick (eqb i 0) (limiter (h .rate .0)) (pick (eqb i 1) (compactor (h .interval .0)) (expander (h .interval .0)))
   unfolding hopOperator
   limited-at k j i e hop less = rw (operator-at h 3 limited-length k j i e hop less, ne-eqb (h .profile) 0 (λ e. omega arith), eq-eqb (h .profile) 1 second)
 
   -- no expander makes a pair: a limiter follows, or nothing
-  limiter-next : (j : ℕ) → suc j < h .hops .0 → pairs (operatorAt (houseLine h) (suc (suc (j * 3)))) (operatorAt (houseLine h) (suc (suc (j * 3)) + 1)) ≡ false
+  limiter-next : (j : ℕ) → suc j < h .hops .0 → pairs (operatorAt (housePath h) (suc (suc (j * 3)))) (operatorAt (housePath h) (suc (suc (j * 3)) + 1)) ≡ false
   unfolding pairs
   limiter-next j more = rw (limited-at (suc (suc (j * 3))) j 2 (omega arith) (le-of-lt more) (omega arith), limited-at (suc (suc (j * 3)) + 1) (suc j) 0 (omega arith) more (omega arith))
 
-  never-paired : (j : ℕ) → j < h .hops .0 → pairedAt (houseLine h) (suc (suc (j * 3))) ≡ false
+  never-paired : (j : ℕ) → j < h .hops .0 → pairedAt (housePath h) (suc (suc (j * 3))) ≡ false
   unfolding pairedAt
   never-paired j hop =
       ⊎-elim
-      (λ last. rw (length-housePlaces h, limited-length, le-ltb (suc (suc (j * 3)) + 1) (h .hops .0 * 3) (omega arith)))
-      (λ more. neither (ltb (suc (suc (j * 3)) + 1) (length (houseLine h .places))) (limiter-next j more))
+      (λ last. rw (length-houseOperators h, limited-length, le-ltb (suc (suc (j * 3)) + 1) (h .hops .0 * 3) (omega arith)))
+      (λ more. neither (ltb (suc (suc (j * 3)) + 1) (length (housePath h .operators))) (limiter-next j more))
       (eq-or-lt-of-le hop)
 
   few : h .interval .0 * h .rate .0 ≤ largestChangedQuota
@@ -259,8 +259,8 @@ module _ (h : House) (within : HouseWithin h) (second : h .profile ≡ 1) where
       (reached-next compacted (limited-at (suc (suc (j * 3))) j 2 (omega arith) hop (omega arith)) (makes-expander (uniform m (m * R)) m (m * R) _ (uniform-same m (m * R) large) few) (later-passes (suc (j * 3))) (rw (never-paired j hop) sums))
 
   limited-hops : (j : ℕ) → j < h .hops .0 → Limited h (suc j * 3) (h .interval .0 * h .rate .0) (roundUp (2 * h .quota .0) (h .rate .0) + (4 * j + 2) * h .interval .0)
-  unfolding houseLine
-  limited-hops zero hop = limited-hop 0 (h .quota .0) hop (reached-start (houseLine h) _) (omega arith) refl (omega arith)
+  unfolding housePath
+  limited-hops zero hop = limited-hop 0 (h .quota .0) hop (reached-start (housePath h) _) (omega arith) refl (omega arith)
   limited-hops (suc j) hop =
       let m = h .interval .0 in
       let R = h .rate .0 in
@@ -280,7 +280,7 @@ module _ (h : House) (within : HouseWithin h) (second : h .profile ≡ 1) where
 
 -- 8 at every filter where Q is above m·R
 abbrev Filtered : House → ℕ → Progress → ℕ → Type 0
-Filtered h k p delay = Reached (houseLine h) (λ i. pick (eqb (i % 2) 0) (rateLow h) false) k p delay
+Filtered h k p delay = Reached (housePath h) (λ i. pick (eqb (i % 2) 0) (rateLow h) false) k p delay
 
 module _ (h : House) (within : HouseWithin h) (third : h .profile ≡ 2) where
   filtered-length : hopLength h ≡ 2
@@ -290,7 +290,7 @@ module _ (h : House) (within : HouseWithin h) (third : h .profile ≡ 2) where
   slow : h .rate .0 ≤ 65535
   slow = within .rate (λ first. omega arith) .1
 
-  filtered-at : (k j i : ℕ) → k ≡ j * 2 + i → j < h .hops .0 → i < 2 → operatorAt (houseLine h) k ≡ pick (eqb i 0) (filter (h .rate .0)) (delayer (delayerSlots h))
+  filtered-at : (k j i : ℕ) → k ≡ j * 2 + i → j < h .hops .0 → i < 2 → operatorAt (housePath h) k ≡ pick (eqb i 0) (filter (h .rate .0)) (delayer (delayerSlots h))
   unfolding hopOperator
   filtered-at k j i e hop less = rw (operator-at h 2 filtered-length k j i e hop less, ne-eqb (h .profile) 0 (λ e. omega arith), ne-eqb (h .profile) 1 (λ e. omega arith))
 
@@ -298,7 +298,7 @@ module _ (h : House) (within : HouseWithin h) (third : h .profile ≡ 2) where
   short j hop = omega (arith, mul-le-mul {n₁ = j} {m₁ = delayerSlots h} {n₂ = 5} {m₂ = 64} (omega arith) (within .packets third .slots .1))
 
   filtered-hop : (j : ℕ) {p : Progress} {delay own sum : ℕ} → j < h .hops .0 → Filtered h (j * 2) p delay
-      → Makes p (filter (h .rate .0)) (pairedAt (houseLine h) (j * 2)) (inPart (h .interval .0) (h .quota .0) (h .rate .0) (j * delayerSlots h)) own (rateLow h)
+      → Makes p (filter (h .rate .0)) (pairedAt (housePath h) (j * 2)) (inPart (h .interval .0) (h .quota .0) (h .rate .0) (j * delayerSlots h)) own (rateLow h)
       → delay + own + delayerSlots h ≡ sum → Filtered h (suc j * 2) (inPart (h .interval .0) (h .quota .0) (h .rate .0) (suc j * delayerSlots h)) sum
   filtered-hop j hop reached made sums =
       let m = h .interval .0 in
@@ -312,9 +312,9 @@ module _ (h : House) (within : HouseWithin h) (third : h .profile ≡ 2) where
 
   filtered-hops : (j : ℕ) → j < h .hops .0
       → Filtered h (suc j * 2) (inPart (h .interval .0) (h .quota .0) (h .rate .0) (suc j * delayerSlots h)) (roundUp (2 * h .quota .0) (h .rate .0) + suc j * delayerSlots h)
-  unfolding houseLine
+  unfolding housePath
   filtered-hops zero hop =
-      filtered-hop 0 hop (reached-start (houseLine h) _)
+      filtered-hop 0 hop (reached-start (housePath h) _)
       (first-filter (h .interval .0) (h .quota .0) (h .rate .0) (0 * delayerSlots h) (within .quota .1) slow _ (zero-mul (delayerSlots h)))
       (omega arith)
   filtered-hops (suc j) hop =
@@ -328,46 +328,46 @@ module _ (h : House) (within : HouseWithin h) (third : h .profile ≡ 2) where
 -- The laws of the profiles.
 
 -- the first n operators pass, where each does
-none-of-all : (line : Line) (n : ℕ) → ((k : ℕ) → k < n → Stands (before line k) (operatorAt line k) false) → NoneStands (operatorsCases line n)
+none-of-all : (path : Path) (n : ℕ) → ((k : ℕ) → k < n → Stands (before path k) (operatorAt path k) false) → NoneStands (operatorsCases path n)
 unfolding operatorsCases
-none-of-all line zero each = tt
-none-of-all line (suc n) each =
+none-of-all path zero each = tt
+none-of-all path (suc n) each =
     let here = each n (le-refl (suc n)) in
-    none-of-both (operatorsCases line n) (operatorCases line n) (none-of-all line n (λ k less. each k (omega arith))) (here .placed, (here .sized, (here .rated, tt)))
+    none-of-both (operatorsCases path n) (operatorCases path n) (none-of-all path n (λ k less. each k (omega arith))) (here .placed, (here .sized, (here .rated, tt)))
 
 module _ (h : House) (inside : houseInRange h ≡ true) where
   within : HouseWithin h
   within = house-within h inside
 
-  pub profile-0-delay : h .profile ≡ 0 → pathDelay (houseLine h) ≡ (h .hops .0 + 1) * h .interval .0
+  pub profile-0-delay : h .profile ≡ 0 → pathDelay (housePath h) ≡ (h .hops .0 + 1) * h .interval .0
   profile-0-delay first = whole-delay h (framed-length h within first) (framed-path h within first)
 
-  pub profile-1-delay : h .profile ≡ 1 → pathDelay (houseLine h) ≡ roundUp (2 * h .quota .0) (h .rate .0) + (4 * h .hops .0 - 2) * h .interval .0
+  pub profile-1-delay : h .profile ≡ 1 → pathDelay (housePath h) ≡ roundUp (2 * h .quota .0) (h .rate .0) + (4 * h .hops .0 - 2) * h .interval .0
   profile-1-delay second = whole-delay h (limited-length h within second) (limited-path h within second)
 
-  pub profile-2-delay : h .profile ≡ 2 → pathDelay (houseLine h) ≡ roundUp (2 * h .quota .0) (h .rate .0) + h .hops .0 * delayerSlots h
+  pub profile-2-delay : h .profile ≡ 2 → pathDelay (housePath h) ≡ roundUp (2 * h .quota .0) (h .rate .0) + h .hops .0 * delayerSlots h
   profile-2-delay third = whole-delay h (filtered-length h within third) (filtered-path h within third)
 
   -- profile 0 goes through 6 to 8 whatever its numbers are
-  pub profile-0-refusals : h .profile ≡ 0 → (k : ℕ) → k < length (houseLine h .places) → Stands (before (houseLine h) k) (operatorAt (houseLine h) k) false
+  pub profile-0-refusals : h .profile ≡ 0 → (k : ℕ) → k < length (housePath h .operators) → Stands (before (housePath h) k) (operatorAt (housePath h) k) false
   profile-0-refusals first = whole-tests h (framed-length h within first) (framed-path h within first)
 
   -- in profile 1 the first limiter alone can have too low a rate
-  pub profile-1-refusals : h .profile ≡ 1 → (k : ℕ) → k < length (houseLine h .places)
-      → Stands (before (houseLine h) k) (operatorAt (houseLine h) k) (pick (eqb k 0) (rateLow h) false)
+  pub profile-1-refusals : h .profile ≡ 1 → (k : ℕ) → k < length (housePath h .operators)
+      → Stands (before (housePath h) k) (operatorAt (housePath h) k) (pick (eqb k 0) (rateLow h) false)
   profile-1-refusals second = whole-tests h (limited-length h within second) (limited-path h within second)
 
   -- in profile 2 every filter has, or none
-  pub profile-2-refusals : h .profile ≡ 2 → (k : ℕ) → k < length (houseLine h .places)
-      → Stands (before (houseLine h) k) (operatorAt (houseLine h) k) (pick (eqb (k % 2) 0) (rateLow h) false)
+  pub profile-2-refusals : h .profile ≡ 2 → (k : ℕ) → k < length (housePath h .operators)
+      → Stands (before (housePath h) k) (operatorAt (housePath h) k) (pick (eqb (k % 2) 0) (rateLow h) false)
   profile-2-refusals third = whole-tests h (filtered-length h within third) (filtered-path h within third)
 
   -- so none of 6 to 8 stands exactly where the profile is 0, or Q at most m·R
-  passes : {low : ℕ → Bool} → ((k : ℕ) → k < length (houseLine h .places) → Stands (before (houseLine h) k) (operatorAt (houseLine h) k) (low k)) → ((k : ℕ) → low k ≡ false)
-      → NoneStands (operatorsCases (houseLine h) (length (houseLine h .places)))
-  passes each never = none-of-all (houseLine h) (length (houseLine h .places)) (λ k less. rw (never k) at (each k less))
+  passes : {low : ℕ → Bool} → ((k : ℕ) → k < length (housePath h .operators) → Stands (before (housePath h) k) (operatorAt (housePath h) k) (low k)) → ((k : ℕ) → low k ≡ false)
+      → NoneStands (operatorsCases (housePath h) (length (housePath h .operators)))
+  passes each never = none-of-all (housePath h) (length (housePath h .operators)) (λ k less. rw (never k) at (each k less))
 
-  pub profile-passes : (h .profile ≡ 0) ⊎ (h .quota .0 ≤ h .interval .0 * h .rate .0) → NoneStands (operatorsCases (houseLine h) (length (houseLine h .places)))
+  pub profile-passes : (h .profile ≡ 0) ⊎ (h .quota .0 ≤ h .interval .0 * h .rate .0) → NoneStands (operatorsCases (housePath h) (length (housePath h .operators)))
   profile-passes (inl first) = passes (profile-0-refusals first) (λ k. refl)
   profile-passes (inr enough) =
       let rated = le-ltb (h .interval .0 * h .rate .0) (h .quota .0) enough in
@@ -375,11 +375,11 @@ module _ (h : House) (inside : houseInRange h ≡ true) where
       (⊎-elim (λ second. passes (profile-1-refusals second) (λ k. neither (eqb k 0) rated)) (λ third. passes (profile-2-refusals third) (λ k. neither (eqb (k % 2) 0) rated)))
       (which-profile h (within .profile))
 
-  pub passing-profile : NoneStands (operatorsCases (houseLine h) (length (houseLine h .places))) → (h .profile ≡ 0) ⊎ (h .quota .0 ≤ h .interval .0 * h .rate .0)
+  pub passing-profile : NoneStands (operatorsCases (housePath h) (length (housePath h .operators))) → (h .profile ≡ 0) ⊎ (h .quota .0 ≤ h .interval .0 * h .rate .0)
   passing-profile none =
       let some = house-some h inside in
-      let rated = none-at (houseLine h) (length (houseLine h .places)) none 0 some .1 .1 .0 in
-      let enough : rateTooLow (before (houseLine h) 0) (operatorAt (houseLine h) 0) ≡ rateLow h → h .quota .0 ≤ h .interval .0 * h .rate .0 = λ e. ltb-false _ _ (sym e ∙ rated) in
+      let rated = none-at (housePath h) (length (housePath h .operators)) none 0 some .1 .1 .0 in
+      let enough : rateTooLow (before (housePath h) 0) (operatorAt (housePath h) 0) ≡ rateLow h → h .quota .0 ≤ h .interval .0 * h .rate .0 = λ e. ltb-false _ _ (sym e ∙ rated) in
       ⊎-elim inl
       (⊎-elim (λ second. inr (enough (profile-1-refusals second 0 some .rated))) (λ third. inr (enough (profile-2-refusals third 0 some .rated))))
       (which-profile h (within .profile))

@@ -17,76 +17,76 @@ use Rattle.flow.specs.Classes.{Keeps}
 use Rattle.flow.specs.Declarations.{classOf}
 use Rattle.operator.specs.Operators.{numberInRange}
 use Rattle.sheet.specs.declared.read.Verdict.{Verdict}
-use Rattle.sheet.specs.Paths.{Line}
+use Rattle.sheet.specs.Paths.{Path}
 use Rattle.sheet.specs.Forms.{noPath}
-use Rattle.sheet.specs.Sheets.{sheetCases, pathIn, lineIn, lineInRange}
-use Rattle.sheet.proofs.Accepted.{sheet-line, never-accepted}
+use Rattle.sheet.specs.Sheets.{sheetCases, valueIn, pathIn, pathInRange}
+use Rattle.sheet.proofs.Accepted.{sheet-path, never-accepted}
 use Rattle.figures.specs.declared.PathFigures.{PathFigures}
-use Rattle.figures.specs.Answers.{operatorAt, before, capacityAt, pathDelay, operatorsCases, lineCases, figureIn, figuresOf}
+use Rattle.figures.specs.Answers.{operatorAt, before, capacityAt, pathDelay, operatorsCases, pathCases, figureIn, figuresOf}
 use Rattle.figures.specs.Figures.{capacity, changedQuota, largestChangedQuota, figureTooLarge}
 use Rattle.figures.specs.Along.{AllFit, Promised}
 use Rattle.figures.proofs.Reached.{none-at, large-interval, reached-end, reached, passed-at, stepped}
 
 -- a path of numbers in their ranges that refusals 6 to 9 let pass
-pub promised : (line : Line) → lineInRange line ≡ true → NoneStands (lineCases line)
-    → (r : Flow) (choices : ℕ → Flow) → Keeps (classOf (line .declaration)) r → AllFit line r choices → Promised line r choices
+pub promised : (path : Path) → pathInRange path ≡ true → NoneStands (pathCases path)
+    → (r : Flow) (choices : ℕ → Flow) → Keeps (classOf (path .declaration)) r → AllFit path r choices → Promised path r choices
 unfolding capacityAt
-promised line inside none r choices kept fits =
+promised path inside none r choices kept fits =
     record {
-      class-kept = λ k h. reached line inside none r choices kept fits k h .known .kept;
-      held-within = λ k less. stepped line inside none r choices kept fits k less .held;
-      beside-within = λ k less. stepped line inside none r choices kept fits k less .beside;
-      in-time = reached-end line r choices (reached line inside none r choices kept fits (length (line .places)) (le-refl _));
+      class-kept = λ k h. reached path inside none r choices kept fits k h .known .kept;
+      held-within = λ k less. stepped path inside none r choices kept fits k less .held;
+      beside-within = λ k less. stepped path inside none r choices kept fits k less .beside;
+      in-time = reached-end path r choices (reached path inside none r choices kept fits (length (path .operators)) (le-refl _));
     }
 
 module _ (sheet : List ℕ) where
   abbrev answered : PathFigures
   answered =
-      record { verdict = Verdict.Accepted; path = pathIn sheet; figures = listOf (figureIn (lineIn sheet)) 16; delay = record { 0 = pathDelay (lineIn sheet) } }
+      record { verdict = Verdict.Accepted; path = valueIn sheet; figures = listOf (figureIn (pathIn sheet)) 16; delay = record { 0 = pathDelay (pathIn sheet) } }
 
   abbrev refused-for : Refusal → PathFigures
   refused-for why =
       record { verdict = Verdict.Refused why; path = noPath; figures = replicate 16 (record { capacity = record { 0 = 0 }; delay = record { 0 = 0 } }); delay = record { 0 = 0 } }
 
   -- no refusal stands against an accepted sheet or its path
-  accepted-stands : figuresOf sheet .verdict ≡ Verdict.Accepted → NoneStands (sheetCases sheet ++ lineCases (lineIn sheet))
+  accepted-stands : figuresOf sheet .verdict ≡ Verdict.Accepted → NoneStands (sheetCases sheet ++ pathCases (pathIn sheet))
   unfolding figuresOf
   accepted-stands =
-      none-where-result refused-for answered (λ (answer : PathFigures). answer .verdict ≡ Verdict.Accepted) never-accepted (sheetCases sheet ++ lineCases (lineIn sheet))
+      none-where-result refused-for answered (λ (answer : PathFigures). answer .verdict ≡ Verdict.Accepted) never-accepted (sheetCases sheet ++ pathCases (pathIn sheet))
 
   accepted-answer : figuresOf sheet .verdict ≡ Verdict.Accepted → figuresOf sheet ≡ answered
   unfolding figuresOf
-  accepted-answer accepted = firstOf-none refused-for answered (sheetCases sheet ++ lineCases (lineIn sheet)) (accepted-stands accepted)
+  accepted-answer accepted = firstOf-none refused-for answered (sheetCases sheet ++ pathCases (pathIn sheet)) (accepted-stands accepted)
 
 -- the theorem of the figures: of every accepted sheet, every flow that keeps the declaration and all choices that fit
 pub figures-promised : (sheet : List ℕ) → figuresOf sheet .verdict ≡ Verdict.Accepted
-    → (r : Flow) (choices : ℕ → Flow) → Keeps (classOf (lineIn sheet .declaration)) r → AllFit (lineIn sheet) r choices → Promised (lineIn sheet) r choices
+    → (r : Flow) (choices : ℕ → Flow) → Keeps (classOf (pathIn sheet .declaration)) r → AllFit (pathIn sheet) r choices → Promised (pathIn sheet) r choices
 figures-promised sheet accepted =
-    let (of-sheet, of-line) = none-of-each (sheetCases sheet) (lineCases (lineIn sheet)) (accepted-stands sheet accepted) in
-    promised (lineIn sheet) (sheet-line sheet of-sheet .inside) of-line
+    let (of-sheet, of-path) = none-of-each (sheetCases sheet) (pathCases (pathIn sheet)) (accepted-stands sheet accepted) in
+    promised (pathIn sheet) (sheet-path sheet of-sheet .inside) of-path
 
 -- the path and the delay that the figures answer are those of the theorem
 pub accepted-figures : (sheet : List ℕ) → figuresOf sheet .verdict ≡ Verdict.Accepted
-    → (figuresOf sheet .path ≡ pathIn sheet) × (figuresOf sheet .delay .0 ≡ pathDelay (lineIn sheet)) × (figuresOf sheet .figures ≡ listOf (figureIn (lineIn sheet)) 16)
+    → (figuresOf sheet .path ≡ valueIn sheet) × (figuresOf sheet .delay .0 ≡ pathDelay (pathIn sheet)) × (figuresOf sheet .figures ≡ listOf (figureIn (pathIn sheet)) 16)
 accepted-figures sheet accepted = rw (accepted-answer sheet accepted) (refl, refl, refl)
 
 -- a declaration in range counts over at least one slot
-pub interval-large : (line : Line) → lineInRange line ≡ true → 1 ≤ line .declaration .interval .0
+pub interval-large : (path : Path) → pathInRange path ≡ true → 1 ≤ path .declaration .interval .0
 interval-large = large-interval
 
 -- a path of numbers in their ranges that refusals 6 to 9 let pass: each operator's number is in its range, and its capacity at most the largest amount
-module _ (line : Line) (inside : lineInRange line ≡ true) (none : NoneStands (lineCases line)) (k : ℕ) (less : k < length (line .places)) where
-  pub operator-inside : numberInRange (operatorAt line k) ≡ true
-  operator-inside = passed-at line inside none k less .inside
+module _ (path : Path) (inside : pathInRange path ≡ true) (none : NoneStands (pathCases path)) (k : ℕ) (less : k < length (path .operators)) where
+  pub operator-inside : numberInRange (operatorAt path k) ≡ true
+  operator-inside = passed-at path inside none k less .inside
 
-  pub operator-capacity-le : capacityAt line k ≤ largestAmount
+  pub operator-capacity-le : capacityAt path k ≤ largestAmount
   unfolding capacityAt figureTooLarge
   operator-capacity-le =
-      let (operators, wanted) = none-of-each (operatorsCases line (length (line .places))) _ none in
-      let stands = none-at line (length (line .places)) operators k less in
-      ltb-false largestAmount (capacity (before line k) (operatorAt line k))
-      (either-false (ltb largestChangedQuota (changedQuota (before line k) (operatorAt line k))) (ltb largestAmount (capacity (before line k) (operatorAt line k))) (stands .1 .0) .1)
+      let (operators, wanted) = none-of-each (operatorsCases path (length (path .operators))) _ none in
+      let stands = none-at path (length (path .operators)) operators k less in
+      ltb-false largestAmount (capacity (before path k) (operatorAt path k))
+      (either-false (ltb largestChangedQuota (changedQuota (before path k) (operatorAt path k))) (ltb largestAmount (capacity (before path k) (operatorAt path k))) (stands .1 .0) .1)
 
 -- no refusal stands against an accepted sheet's fields, nor against its path
-pub accepted-none : (sheet : List ℕ) → figuresOf sheet .verdict ≡ Verdict.Accepted → NoneStands (sheetCases sheet) × NoneStands (lineCases (lineIn sheet))
-accepted-none sheet accepted = none-of-each (sheetCases sheet) (lineCases (lineIn sheet)) (accepted-stands sheet accepted)
+pub accepted-none : (sheet : List ℕ) → figuresOf sheet .verdict ≡ Verdict.Accepted → NoneStands (sheetCases sheet) × NoneStands (pathCases (pathIn sheet))
+accepted-none sheet accepted = none-of-each (sheetCases sheet) (pathCases (pathIn sheet)) (accepted-stands sheet accepted)

@@ -7,7 +7,7 @@ use Rattle.quantity.specs.Ranges.{inRange}
 use Rattle.quantity.specs.Rounding.{roundUp}
 use Rattle.quantity.specs.Divisors.{euclid, gcd}
 use Rattle.quantity.specs.Sums.{total, every, listOf}
-use Rattle.quantity.specs.Refusals.{numberOf, placeOf, firstOf}
+use Rattle.quantity.specs.Refusals.{refusalNumber, refusalPlace, firstOf}
 use Rattle.operator.specs.Held.{keeps}
 use Rattle.operator.specs.Compactor.{compactorLeast, compactorAfter}
 use Rattle.operator.specs.Filter.{besideAfter, filterLeast, filterGreatest, filterAfter}
@@ -22,18 +22,18 @@ use Rattle.operator.specs.Single
 use Rattle.flow.specs.declared.Kind.{Kind}
 use Rattle.operator.specs.declared.Operator.{Operator}
 use Rattle.operator.specs.declared.single.Stepped.{Stepped}
-use Rattle.sheet.specs.Paths.{Line}
+use Rattle.sheet.specs.Paths.{Path}
 use Rattle.figures.specs.Progress.{behind, progressAt}
 use Rattle.figures.specs.Figures.{partCapacity, partDelay, capacity, ownDelay, pairs, isFramed, framedAfterFilter, changedQuota, figureTooLarge, rateTooLow}
-use Rattle.figures.specs.Answers.{operatorAt, before, pairedAt, capacityAt, delayAt, pathDelay, operatorsCases, lineCases}
+use Rattle.figures.specs.Answers.{operatorAt, before, pairedAt, capacityAt, delayAt, pathDelay, operatorsCases, pathCases}
 
 -- a path of smooth (m, Q), its delay wanted and its operators, all on link 0
-abbrev pub path : ℕ → ℕ → ℕ → List Operator → Line
+abbrev pub path : ℕ → ℕ → ℕ → List Operator → Path
 path m Q wanted operators =
     record {
       declaration = record { kind = Kind.Smooth; interval = record { 0 = m }; quota = record { 0 = Q } };
       wanted = wanted;
-      places = map (λ operator. record { operator = operator; link = record { 0 = 0 } }) operators;
+      operators = map (λ operator. record { operator = operator; link = record { 0 = 0 } }) operators;
     }
 
 -- what a line of the table says: a refusal's number and place; or the capacities, the delays and the path's delay
@@ -42,15 +42,15 @@ pub data Outcome : Type 0 where
   figures : List ℕ → List ℕ → ℕ → Outcome
   output : List ℕ → Outcome
 
-abbrev pub outcome : Line → Outcome
-outcome line =
-    firstOf (lineCases line) (λ why. refused (numberOf why) (placeOf why))
-    (figures (listOf (capacityAt line) (length (line .places))) (listOf (delayAt line) (length (line .places))) (pathDelay line))
+abbrev pub outcome : Path → Outcome
+outcome path =
+    firstOf (pathCases path) (λ why. refused (refusalNumber why) (refusalPlace why))
+    (figures (listOf (capacityAt path) (length (path .operators))) (listOf (delayAt path) (length (path .operators))) (pathDelay path))
 
 -- a new filter 2's first step, of input 5
 abbrev pub stepOutcome : Stepped → Outcome
 stepOutcome (Stepped.Sent s next) = output (s .0 ∷ [])
-stepOutcome (Stepped.Refused why) = refused (numberOf why) (placeOf why)
+stepOutcome (Stepped.Refused why) = refused (refusalNumber why) (refusalPlace why)
 
 abbrev pub filtered : ℕ → Outcome
 filtered choice =
@@ -92,5 +92,5 @@ expected =
     ∷ []
 
 pub reference-paths : computed ≡ expected
-unfolding computed expected frames roundUp total every listOf inRange keeps compactorLeast compactorAfter besideAfter filterLeast filterGreatest filterAfter ofAge olderThan staysOf delayerLeast delayerAfter leastOutput greatestOutput heldAfter numberInRange outputOn heldOn burst mostIn euclid gcd blocksMet changedTo slower Single.stepOf Single.sent Single.heldNext Single.choiceAbove Single.leavesTooMuch Single.stateNext Single.heldIn Single.usesHeld Single.usesBeside Single.wordsUsed storedFits wordFits Single.storedUnusable Single.unusable behind progressAt partCapacity partDelay capacity ownDelay pairs isFramed framedAfterFilter changedQuota figureTooLarge rateTooLow operatorAt before pairedAt capacityAt delayAt pathDelay operatorsCases
+unfolding computed expected frames roundUp total every listOf inRange keeps compactorLeast compactorAfter besideAfter filterLeast filterGreatest filterAfter ofAge olderThan staysOf delayerLeast delayerAfter leastOutput greatestOutput heldAfter numberInRange outputOn heldOn burst mostIn euclid gcd blocksMet changedTo slower Single.stepOf Single.sent Single.holdsNext Single.choiceAbove Single.leavesTooMuch Single.stateNext Single.holds Single.usesHeld Single.usesBeside Single.wordsUsed storedFits wordFits Single.storedUnusable Single.unusable behind progressAt partCapacity partDelay capacity ownDelay pairs isFramed framedAfterFilter changedQuota figureTooLarge rateTooLow operatorAt before pairedAt capacityAt delayAt pathDelay operatorsCases
 reference-paths = refl

@@ -6,7 +6,7 @@ use Rattle.flow.specs.Flows.{Flow, InTime}
 use Rattle.operator.specs.OnFlows.{heldOn, outputOn, Fitting}
 use Rattle.flow.specs.Classes.{Keeps}
 use Rattle.operator.specs.declared.Operator.{Operator}
-use Rattle.sheet.specs.Paths.{Line}
+use Rattle.sheet.specs.Paths.{Path}
 use Rattle.figures.specs.Figures.{isFramed}
 use Rattle.figures.specs.Answers.{operatorAt, before, capacityAt, pathDelay}
 
@@ -20,17 +20,17 @@ unfoldable pub flowOfClass : (ℕ → Operator) → Flow → (ℕ → Flow) → 
 flowOfClass operators r choices zero = r
 flowOfClass operators r choices (suc k) = pick (isFramed (operators k)) (flowInto operators r choices (suc k)) (flowOfClass operators r choices k)
 
-module _ (line : Line) (r : Flow) (choices : ℕ → Flow) where
+module _ (path : Path) (r : Flow) (choices : ℕ → Flow) where
   -- every choice of every operator fits
   abbrev pub AllFit : Type 0
-  AllFit = (k : ℕ) → k < length (line .places) → Fitting (operatorAt line k) (flowInto (operatorAt line) r choices k) (choices k)
+  AllFit = (k : ℕ) → k < length (path .operators) → Fitting (operatorAt path k) (flowInto (operatorAt path) r choices k) (choices k)
 
   -- what the figures promise
   pub record Promised : Type 0 where
     -- every flow between operators keeps the class that the figures give it
-    pub class-kept : (k : ℕ) → k ≤ length (line .places) → Keeps (before line k .class) (flowOfClass (operatorAt line) r choices k)
+    pub class-kept : (k : ℕ) → k ≤ length (path .operators) → Keeps (before path k .class) (flowOfClass (operatorAt path) r choices k)
     -- no operator holds more than its capacity at any slot's end, nor a filter's h
-    pub held-within : (k : ℕ) → k < length (line .places) → (n : ℕ) → heldOn (operatorAt line k) (flowInto (operatorAt line) r choices k) (choices k) n .b ≤ capacityAt line k
-    pub beside-within : (k : ℕ) → k < length (line .places) → (n : ℕ) → heldOn (operatorAt line k) (flowInto (operatorAt line) r choices k) (choices k) n .h ≤ capacityAt line k
+    pub held-within : (k : ℕ) → k < length (path .operators) → (n : ℕ) → heldOn (operatorAt path k) (flowInto (operatorAt path) r choices k) (choices k) n .b ≤ capacityAt path k
+    pub beside-within : (k : ℕ) → k < length (path .operators) → (n : ℕ) → heldOn (operatorAt path k) (flowInto (operatorAt path) r choices k) (choices k) n .h ≤ capacityAt path k
     -- what entered by the end of slot i has left the last operator by the end of slot i + delay
-    pub in-time : InTime (pathDelay line) r (flowInto (operatorAt line) r choices (length (line .places)))
+    pub in-time : InTime (pathDelay path) r (flowInto (operatorAt path) r choices (length (path .operators)))

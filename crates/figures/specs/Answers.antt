@@ -11,10 +11,10 @@ use Rattle.quantity.specs.declared.refusal.Refusal.{Refusal}
 use Rattle.quantity.specs.declared.refusal.Refusal.the-variants.{FramedAfterFilter, FigureTooLarge, RateTooLow, DelayAboveWanted}
 use Rattle.flow.specs.Declarations.{classOf}
 use Rattle.operator.specs.declared.Operator.{Operator}
-use Rattle.sheet.specs.Paths.{Line, noPlace}
+use Rattle.sheet.specs.Paths.{Path, noLinkedOperator}
 use Rattle.sheet.specs.Forms.{noPath}
-use Rattle.sheet.specs.Sheets.{sheetCases, pathIn, lineIn}
-use Rattle.sheet.specs.declared.Path.{Path}
+use Rattle.sheet.specs.Sheets.{sheetCases, valueIn, pathIn}
+use Rattle.sheet.specs.declared.PathValue.{PathValue}
 use Rattle.sheet.specs.declared.read.Verdict.{Verdict}
 use Rattle.figures.specs.declared.Figure.{Figure}
 use Rattle.figures.specs.declared.PathFigures.{PathFigures}
@@ -22,67 +22,67 @@ use Rattle.figures.specs.Progress.{Progress, progressAt}
 use Rattle.figures.specs.Figures.{capacity, ownDelay, pairs, framedAfterFilter, figureTooLarge, rateTooLow}
 
 -- operator k of a path
-unfoldable pub operatorAt : Line → ℕ → Operator
-operatorAt line k = getD (line .places) k noPlace .operator
+unfoldable pub operatorAt : Path → ℕ → Operator
+operatorAt path k = getD (path .operators) k noLinkedOperator .operator
 
 -- the progress before operator k
-unfoldable pub before : Line → ℕ → Progress
-before line k = progressAt (classOf (line .declaration)) (operatorAt line) k
+unfoldable pub before : Path → ℕ → Progress
+before path k = progressAt (classOf (path .declaration)) (operatorAt path) k
 
 -- operator k is an expander whose next operator, if there is one, is a compactor of its interval
-unfoldable pub pairedAt : Line → ℕ → Bool
-pairedAt line k = pick (ltb (k + 1) (length (line .places))) (pairs (operatorAt line k) (operatorAt line (k + 1))) false
+unfoldable pub pairedAt : Path → ℕ → Bool
+pairedAt path k = pick (ltb (k + 1) (length (path .operators))) (pairs (operatorAt path k) (operatorAt path (k + 1))) false
 
 -- the capacity of operator k
-unfoldable pub capacityAt : Line → ℕ → ℕ
-capacityAt line k = capacity (before line k) (operatorAt line k)
+unfoldable pub capacityAt : Path → ℕ → ℕ
+capacityAt path k = capacity (before path k) (operatorAt path k)
 
 -- its own delay
-unfoldable pub delayAt : Line → ℕ → ℕ
-delayAt line k = ownDelay (before line k) (operatorAt line k) (pairedAt line k)
+unfoldable pub delayAt : Path → ℕ → ℕ
+delayAt path k = ownDelay (before path k) (operatorAt path k) (pairedAt path k)
 
 -- the path's delay is the sum
-unfoldable pub pathDelay : Line → ℕ
-pathDelay line = total (delayAt line) (length (line .places))
+unfoldable pub pathDelay : Path → ℕ
+pathDelay path = total (delayAt path) (length (path .operators))
 
 -- operator k goes through 6, 7 and 8
-abbrev pub operatorCases : Line → ℕ → List Case
-operatorCases line k =
-    (framedAfterFilter (before line k) (operatorAt line k) ⇒ FramedAfterFilter k)
-    ∷ (figureTooLarge (before line k) (operatorAt line k) ⇒ FigureTooLarge k)
-    ∷ (rateTooLow (before line k) (operatorAt line k) ⇒ RateTooLow k)
+abbrev pub operatorCases : Path → ℕ → List Case
+operatorCases path k =
+    (framedAfterFilter (before path k) (operatorAt path k) ⇒ FramedAfterFilter k)
+    ∷ (figureTooLarge (before path k) (operatorAt path k) ⇒ FigureTooLarge k)
+    ∷ (rateTooLow (before path k) (operatorAt path k) ⇒ RateTooLow k)
     ∷ []
 
 -- the first n operators, left to right
-unfoldable pub operatorsCases : Line → ℕ → List Case
-operatorsCases line zero = []
-operatorsCases line (suc n) = operatorsCases line n ++ operatorCases line n
+unfoldable pub operatorsCases : Path → ℕ → List Case
+operatorsCases path zero = []
+operatorsCases path (suc n) = operatorsCases path n ++ operatorCases path n
 
 -- then 9: the path's delay is above the delay wanted
-abbrev pub lineCases : Line → List Case
-lineCases line = operatorsCases line (length (line .places)) ++ ((ltb (line .wanted) (pathDelay line) ⇒ DelayAboveWanted) ∷ [])
+abbrev pub pathCases : Path → List Case
+pathCases path = operatorsCases path (length (path .operators)) ++ ((ltb (path .wanted) (pathDelay path) ⇒ DelayAboveWanted) ∷ [])
 
-unfoldable pub figureAt : Line → ℕ → Figure
-figureAt line k = record { capacity = record { 0 = capacityAt line k }; delay = record { 0 = delayAt line k } }
+unfoldable pub figureAt : Path → ℕ → Figure
+figureAt path k = record { capacity = record { 0 = capacityAt path k }; delay = record { 0 = delayAt path k } }
 
 unfoldable pub noFigure : Figure
 noFigure = record { capacity = record { 0 = 0 }; delay = record { 0 = 0 } }
 
 -- the figure at each of the sixteen places: none behind the path's operators
-unfoldable pub figureIn : Line → ℕ → Figure
+unfoldable pub figureIn : Path → ℕ → Figure
 unfolding figureAt noFigure
-figureIn line k = pick (ltb k (length (line .places))) (figureAt line k) noFigure
+figureIn path k = pick (ltb k (length (path .operators))) (figureAt path k) noFigure
 
 unfoldable pub refusedFigures : Refusal → PathFigures
 unfolding noFigure
 refusedFigures why = record { verdict = Verdict.Refused why; path = noPath; figures = replicate 16 noFigure; delay = record { 0 = 0 } }
 
 -- the path that was read, and the figures of the path that it stands for
-unfoldable pub acceptedFigures : Path → Line → PathFigures
-acceptedFigures path line =
-    record { verdict = Verdict.Accepted; path = path; figures = listOf (figureIn line) 16; delay = record { 0 = pathDelay line } }
+unfoldable pub acceptedFigures : PathValue → Path → PathFigures
+acceptedFigures value path =
+    record { verdict = Verdict.Accepted; path = value; figures = listOf (figureIn path) 16; delay = record { 0 = pathDelay path } }
 
 -- what the figures of a sheet are: 2 to 5 of its fields, then 6 to 9 of its path
 unfoldable pub figuresOf : List ℕ → PathFigures
 unfolding refusedFigures acceptedFigures
-figuresOf sheet = firstOf (sheetCases sheet ++ lineCases (lineIn sheet)) refusedFigures (acceptedFigures (pathIn sheet) (lineIn sheet))
+figuresOf sheet = firstOf (sheetCases sheet ++ pathCases (pathIn sheet)) refusedFigures (acceptedFigures (valueIn sheet) (pathIn sheet))

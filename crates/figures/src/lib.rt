@@ -8,7 +8,7 @@ use crate::each::plan;
 use quantity::Slots;
 use quantity::Units;
 use quantity::refusal::Refusal;
-use sheet::Path;
+use sheet::PathValue;
 use sheet::no_path;
 use sheet::read::Verdict;
 use sheet::read::read;
@@ -29,7 +29,7 @@ pub struct Figure {
 // The path that was read, the figures of its operators and its delay. Beside a refusal they are the empty path and 0.
 pub struct PathFigures {
     pub verdict: Verdict,
-    pub path: Path,
+    pub path: PathValue,
     pub figures: [Figure; 16],
     pub delay: Slots,
 }
@@ -57,7 +57,7 @@ fn refused(why: Refusal) -> PathFigures
 }
 
 // Where the next operator stands; behind the sixteenth place there is none, and it is that place itself.
-fn next_place(k: usize) -> usize
+fn next_operator(k: usize) -> usize
     requires { ⌜ k < 16 ⌝ }
     ensures { λ r. ⌜ (r < 16) × (k + 1 < 16 → r ≡ k + 1) ⌝ }
 {
@@ -88,9 +88,9 @@ pub fn figures(sheet: &[u8]) -> PathFigures
     let mut delay = Slots(0);
     let mut k = 0;
     while k < count {
-        let place = path.places[k];
-        let operator = place.operator;
-        let following = path.places[next_place(k)];
+        let linked = path.operators[k];
+        let operator = linked.operator;
+        let following = path.operators[next_operator(k)];
         let follower = following.operator;
         let next = k + 1;
         match plan(

@@ -13,11 +13,11 @@ use Rattle.quantity.specs.Ranges.{inRange, pathNumberRange}
 use Rattle.quantity.proofs.Laws.{le-largest}
 use Rattle.quantity.proofs.Sums.{every-at, every-holds, every-fails}
 use Rattle.quantity.proofs.Refusals.{NoneStands, none-of-both, none-of-each, none-where-result, firstOf-none}
-use Rattle.sheet.specs.Paths.{Line, linkAt}
-use Rattle.sheet.specs.Sheets.{sheetCases, pathIn, lineIn}
+use Rattle.sheet.specs.Paths.{Path, linkAt}
+use Rattle.sheet.specs.Sheets.{sheetCases, valueIn, pathIn}
 use Rattle.sheet.specs.declared.read.Verdict.{Verdict}
-use Rattle.sheet.proofs.Accepted.{sheet-line, never-accepted}
-use Rattle.figures.specs.Answers.{lineCases, figuresOf, refusedFigures, acceptedFigures}
+use Rattle.sheet.proofs.Accepted.{sheet-path, never-accepted}
+use Rattle.figures.specs.Answers.{pathCases, figuresOf, refusedFigures, acceptedFigures}
 use Rattle.figures.specs.declared.PathFigures.{PathFigures}
 use Rattle.figures.proofs.Promise.{accepted-none}
 use Rattle.ledger.specs.declared.Record.{Record}
@@ -29,46 +29,46 @@ use Rattle.ledger.specs.Admission.{rateOf, namesLink, ledgerFull, linkSh
 use Rattle.ledger.specs.Admissible.{Admissible}
 use Rattle.ledger.proofs.UsableLedger.{usable-ledger}
 use Rattle.ledger.proofs.Numbers.{not-among}
-use Rattle.ledger.proofs.Admitting.{line-link}
+use Rattle.ledger.proofs.Admitting.{path-link}
 
 -- the link of an operator is named, and a named link is an operator's
-named-at : (line : Line) (k : ℕ) → k < length (line .places) → namesLink line (linkAt line k) ≡ true
+named-at : (path : Path) (k : ℕ) → k < length (path .operators) → namesLink path (linkAt path k) ≡ true
 unfolding namesLink
-named-at line k less = ap not (every-fails _ (length (line .places)) k less (ap not (eq-eqb (linkAt line k) (linkAt line k) refl)))
+named-at path k less = ap not (every-fails _ (length (path .operators)) k less (ap not (eq-eqb (linkAt path k) (linkAt path k) refl)))
 
 module _ (ledger : Ledger) (records : List Record) (number : ℕ) (sheet : List ℕ) where
-  abbrev path : Line
-  path = lineIn sheet
+  abbrev value : Path
+  value = pathIn sheet
 
   -- 12 does not stand where each operator's link carries the path, and only there
   abbrev Carried : Type 0
-  Carried = (k : ℕ) → k < length (path .places) → reserved records (ledger .count) (linkAt path k) + rateOf path ≤ capacityOf ledger (linkAt path k)
+  Carried = (k : ℕ) → k < length (value .operators) → reserved records (ledger .count) (linkAt value k) + rateOf value ≤ capacityOf ledger (linkAt value k)
 
   abbrev beyond : ℕ → Bool
-  beyond link = ltb (capacityOf ledger link) (reserved records (ledger .count) link + rateOf path)
+  beyond link = ltb (capacityOf ledger link) (reserved records (ledger .count) link + rateOf value)
 
   none-beyond : (t : Bool) → not (both t false) ≡ true
   none-beyond true = refl
   none-beyond false = refl
 
-  not-short : Carried → linkShort ledger records path ≡ false
+  not-short : Carried → linkShort ledger records value ≡ false
   unfolding linkShort namesLink
   not-short carried = ap not (every-holds _ linkCount (λ link less. by-test link (beyond link) refl))
     where
-      by-test : (link : ℕ) (t : Bool) → beyond link ≡ t → not (both (namesLink path link) t) ≡ true
+      by-test : (link : ℕ) (t : Bool) → beyond link ≡ t → not (both (namesLink value link) t) ≡ true
       by-test link true e =
-          let unnamed = every-holds (λ k. not (eqb (linkAt path k) link)) (length (path .places))
-          (λ k less. ap not (ne-eqb (linkAt path k) link (λ same. let fits = carried k less in let past = ltb-true (capacityOf ledger link) _ e in omega (arith, subst (λ (l : ℕ). reserved records (ledger .count) l + rateOf path ≤ capacityOf ledger l) same fits, past)))) in
+          let unnamed = every-holds (λ k. not (eqb (linkAt value k) link)) (length (value .operators))
+          (λ k less. ap not (ne-eqb (linkAt value k) link (λ same. let fits = carried k less in let past = ltb-true (capacityOf ledger link) _ e in omega (arith, subst (λ (l : ℕ). reserved records (ledger .count) l + rateOf value ≤ capacityOf ledger l) same fits, past)))) in
           ap (λ (t : Bool). not (both t true)) (ap not unnamed)
-      by-test link false e = none-beyond (namesLink path link)
+      by-test link false e = none-beyond (namesLink value link)
 
-  carried-where : NoneStands (sheetCases sheet) → linkShort ledger records path ≡ false → Carried
+  carried-where : NoneStands (sheetCases sheet) → linkShort ledger records value ≡ false → Carried
   unfolding linkShort
   carried-where planned enough k less =
-      let link = linkAt path k in
-      let each = every-at _ linkCount (not-false _ enough) link (line-link path (sheet-line sheet planned .inside) k) in
-      let fits : not (both true (beyond link)) ≡ true = ap (λ (t : Bool). not (both t (beyond link))) (sym (named-at path k less)) ∙ each in
-      ltb-false (capacityOf ledger link) (reserved records (ledger .count) link + rateOf path) (not-true (beyond link) fits)
+      let link = linkAt value k in
+      let each = every-at _ linkCount (not-false _ enough) link (path-link value (sheet-path sheet planned .inside) k) in
+      let fits : not (both true (beyond link)) ≡ true = ap (λ (t : Bool). not (both t (beyond link))) (sym (named-at value k less)) ∙ each in
+      ltb-false (capacityOf ledger link) (reserved records (ledger .count) link + rateOf value) (not-true (beyond link) fits)
 
   new-where : stands records (ledger .count) number ≡ false → (j : ℕ) → j < ledger .count → numberAt records j ≡ number → ⊥
   unfolding stands among
@@ -77,14 +77,14 @@ module _ (ledger : Ledger) (records : List Record) (number : ℕ) (sheet : List 
   admissible : NoneStands (admissionCases ledger records number sheet) → Admissible ledger records number sheet
   unfolding ledgerFull figuresOf refusedFigures acceptedFigures
   admissible none =
-      let (planned, standing) = none-of-each (sheetCases sheet ++ lineCases path) (standingCases ledger records number path) (none .1 .1) in
+      let (planned, standing) = none-of-each (sheetCases sheet ++ pathCases value) (standingCases ledger records number value) (none .1 .1) in
       record {
         numbered = le-largest pathNumberRange number (not-false _ (none .0));
         usable = none .1 .0;
-        planned = ap (λ (f : PathFigures). f .verdict) (firstOf-none refusedFigures (acceptedFigures (pathIn sheet) path) (sheetCases sheet ++ lineCases path) planned);
+        planned = ap (λ (f : PathFigures). f .verdict) (firstOf-none refusedFigures (acceptedFigures (valueIn sheet) value) (sheetCases sheet ++ pathCases value) planned);
         new = new-where (standing .0);
         room = let other = eqb-false (ledger .count) recordCount (standing .1 .0) in let few = usable-ledger ledger records (none .1 .0) .few in omega arith;
-        carried = carried-where (none-of-each (sheetCases sheet) (lineCases path) planned .0) (standing .1 .1 .0);
+        carried = carried-where (none-of-each (sheetCases sheet) (pathCases value) planned .0) (standing .1 .1 .0);
       }
 
   none-where : Admissible ledger records number sheet → NoneStands (admissionCases ledger records number sheet)
@@ -94,7 +94,7 @@ module _ (ledger : Ledger) (records : List Record) (number : ℕ) (sheet : List 
         ap not (ap₂ both (le-leb 0 number (omega arith)) (le-leb number 65535 (a .numbered))),
         (
           a .usable,
-          none-of-both (sheetCases sheet ++ lineCases path) (standingCases ledger records number path) (none-of-both (sheetCases sheet) (lineCases path) fields figures)
+          none-of-both (sheetCases sheet ++ pathCases value) (standingCases ledger records number value) (none-of-both (sheetCases sheet) (pathCases value) fields figures)
               (not-among (numberAt records) number (ledger .count) (a .new), (ne-eqb (ledger .count) recordCount (λ same. let room = a .room in omega arith), (not-short (a .carried), tt))),
         ),
       )
@@ -102,6 +102,6 @@ module _ (ledger : Ledger) (records : List Record) (number : ℕ) (sheet : List 
   pub admitted-iff : (admissionOf ledger records number sheet .verdict ≡ Verdict.Accepted) ↔ Admissible ledger records number sheet
   unfolding admissionOf refusedAdmission acceptedAdmission
   admitted-iff = (
-    (λ accepted. admissible (none-where-result (refusedAdmission ledger) (acceptedAdmission ledger path) (λ (a : Admission). a .verdict ≡ Verdict.Accepted) (λ why. never-accepted why) (admissionCases ledger records number sheet) accepted)),
-    (λ a. ap (λ (r : Admission). r .verdict) (firstOf-none (refusedAdmission ledger) (acceptedAdmission ledger path) (admissionCases ledger records number sheet) (none-where a))),
+    (λ accepted. admissible (none-where-result (refusedAdmission ledger) (acceptedAdmission ledger value) (λ (a : Admission). a .verdict ≡ Verdict.Accepted) (λ why. never-accepted why) (admissionCases ledger records number sheet) accepted)),
+    (λ a. ap (λ (r : Admission). r .verdict) (firstOf-none (refusedAdmission ledger) (acceptedAdmission ledger value) (admissionCases ledger records number sheet) (none-where a))),
   )

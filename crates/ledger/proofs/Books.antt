@@ -14,8 +14,8 @@ use Rattle.quantity.specs.Refusals.{Case, firstOf}
 use Rattle.quantity.specs.declared.refusal.Refusal.{Refusal}
 use Rattle.quantity.specs.declared.LinkCapacity.{LinkCapacity}
 use Rattle.quantity.proofs.Sums.{every-holds, getD-listOf, every-same}
-use Rattle.sheet.specs.Paths.{Line}
-use Rattle.sheet.specs.Sheets.{lineIn}
+use Rattle.sheet.specs.Paths.{Path}
+use Rattle.sheet.specs.Sheets.{pathIn}
 use Rattle.ledger.specs.declared.Record.{Record}
 use Rattle.ledger.specs.declared.Ledger.{Ledger}
 use Rattle.ledger.specs.Records.{numberAt, stands, reserved, among, allDiffer}
@@ -59,10 +59,10 @@ module _ (capacities : List ℕ) where
     unfolding stands
     stands-same number = stands-in entries (recordCount - length entries) number
 
-    pub short-same : (line : Line) → linkShort (ledgerOf entries) (recordsIn entries) line ≡ shortIn capacities entries line
+    pub short-same : (path : Path) → linkShort (ledgerOf entries) (recordsIn entries) path ≡ shortIn capacities entries path
     unfolding linkShort shortIn
-    short-same line =
-        ap not (every-same _ _ linkCount (λ link less. ap not (ap (both (namesLink line link)) (ap₂ ltb (capacity-of entries link less) (ap (λ (total : ℕ). total + rateOf line) (reserved-same link less))))))
+    short-same path =
+        ap not (every-same _ _ linkCount (λ link less. ap not (ap (both (namesLink path link)) (ap₂ ltb (capacity-of entries link less) (ap (λ (total : ℕ). total + rateOf path) (reserved-same link less))))))
 
     numbers-differ : Sound entries → allDiffer (numberAt (recordsIn entries)) (length entries) ≡ true
     unfolding allDiffer among
@@ -91,6 +91,6 @@ module _ (capacities : List ℕ) where
 
     pub cases-same : SoundAccount entries → {A : Type 0} (refused : Refusal → A) (result : A) (call : Call) → firstOf (bookCases call) refused result ≡ firstOf (callCases capacities entries call) refused result
     unfolding ledgerFull
-    cases-same account refused result (admit number sheet) = rw (ledger-usable (ledgerOf entries) (recordsIn entries) (usable-same account), stands-same number, short-same (lineIn sheet))
+    cases-same account refused result (admit number sheet) = rw (ledger-usable (ledgerOf entries) (recordsIn entries) (usable-same account), stands-same number, short-same (pathIn sheet))
     cases-same account refused result (release number) = rw (ledger-usable (ledgerOf entries) (recordsIn entries) (usable-same account), stands-same number)
     cases-same account refused result (spare link) = rw (ledger-usable (ledgerOf entries) (recordsIn entries) (usable-same account))

@@ -71,7 +71,7 @@ module _ {A : Type 0} (range : Range) (within : ℕ → A) (outside : A) (value 
 
 -- so of a path's number
 module _ (number : ℕ) {answer : CheckedPathNumber} (answered : answer ≡ checkedPathNumber number) where
-  pub number-inside : {path : PathNumber} → answer ≡ CheckedPathNumber.InRange path → (inRange pathNumberRange number ≡ true) × (path .0 ≡ number)
+  pub number-inside : {value : PathNumber} → answer ≡ CheckedPathNumber.InRange value → (inRange pathNumberRange number ≡ true) × (value .0 ≡ number)
   number-inside told = let (inside, same) = checked-inside pathNumberRange _ _ _ answered told (λ e. let never : _≡_ {A = ℕ} 0 1 = cc in omega arith) in (inside, (cc))
 
   pub number-outside : answer ≡ CheckedPathNumber.OutOfRange → inRange pathNumberRange number ≡ false

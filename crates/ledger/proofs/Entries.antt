@@ -33,7 +33,7 @@ unfolding reserved reservedOn
 reserved-on [] rest link less = total-zero (λ j. share (recordAt (recordsOf [] rest) j) link)
 reserved-on (entry ∷ entries) rest link less =
     total-first (λ j. share (recordAt (recordsOf (entry ∷ entries) rest) j) link) (length entries)
-    ∙ ap₂ _+_ (share-named (entry .number) (entry .line) link less) (reserved-on entries rest link less)
+    ∙ ap₂ _+_ (share-named (entry .number) (entry .path) link less) (reserved-on entries rest link less)
 
 pub stands-in : (entries : Account) (rest number : ℕ) → among (numberAt (recordsOf entries rest)) (length entries) number ≡ standsIn number entries
 unfolding standsIn recordOf
@@ -55,7 +55,7 @@ pub append-record : (entries : Account) (entry : Entry) (rest : ℕ) → set (re
 append-record [] entry rest = refl
 append-record (first ∷ entries) entry rest = ap (λ records. recordOfEntry first ∷ records) (append-record entries entry rest)
 
-pub append-reserved : (entries : Account) (entry : Entry) (link : ℕ) → reservedOn link (entries ++ (entry ∷ [])) ≡ reservedOn link entries + rateOn link (entry .line)
+pub append-reserved : (entries : Account) (entry : Entry) (link : ℕ) → reservedOn link (entries ++ (entry ∷ [])) ≡ reservedOn link entries + rateOn link (entry .path)
 unfolding reservedOn
 append-reserved [] entry link = omega arith
 append-reserved (first ∷ entries) entry link = omega (arith, append-reserved entries entry link)
@@ -114,7 +114,7 @@ remove-reserved [] number link = omega arith
 remove-reserved (entry ∷ entries) number link = by-test (eqb (entry .number) number) (remove-reserved entries number link)
   where
     by-test : (t : Bool) → reservedOn link (without number entries) ≤ reservedOn link entries
-        → reservedOn link (pick t entries (entry ∷ without number entries)) ≤ rateOn link (entry .line) + reservedOn link entries
+        → reservedOn link (pick t entries (entry ∷ without number entries)) ≤ rateOn link (entry .path) + reservedOn link entries
     by-test true others = omega arith
     by-test false others = omega (arith, others)
 
@@ -133,7 +133,7 @@ remove-stands (entry ∷ entries) number other absent =
 
 pub record SoundEntry (entry : Entry) (behind : Account) : Type 0 where
   pub numbered : inRange pathNumberRange (entry .number) ≡ true
-  pub rated : inRange rateRange (rateOf (entry .line)) ≡ true
+  pub rated : inRange rateRange (rateOf (entry .path)) ≡ true
   pub alone : standsIn (entry .number) behind ≡ false
 
 abbrev pub Sound : Account → Type 0
@@ -169,7 +169,7 @@ pub records-fit : (entries : Account) (rest j : ℕ) → Sound entries → recor
 unfolding recordFits recordInRange recordClear recordOf
 records-fit [] rest j sound = rw (le-ltb j 0 (omega arith), clear-at rest j)
 records-fit (entry ∷ entries) rest zero (here, sound) =
-    rw (lt-ltb 0 (suc (length entries)) (omega arith), here .numbered, here .rated) (links-inside (entry .line))
+    rw (lt-ltb 0 (suc (length entries)) (omega arith), here .numbered, here .rated) (links-inside (entry .path))
 records-fit (entry ∷ entries) rest (suc j) (here, sound) =
     ap (λ (t : Bool). pick t (recordInRange (recordAt (recordsOf entries rest) j)) (recordClear (recordAt (recordsOf entries rest) j))) (leb·suc-suc (suc j) (length entries)) ∙ records-fit entries rest j sound
 

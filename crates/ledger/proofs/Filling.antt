@@ -26,9 +26,9 @@ use Rattle.quantity.specs.Choice.{pick}
 use Rattle.quantity.proofs.Laws.{pick-true}
 use Rattle.ledger.specs.declared.Record.{Record}
 use Rattle.ledger.specs.Records.{noRecord}
-use Rattle.ledger.specs.Steps.{heldOf, filled}
+use Rattle.ledger.specs.Steps.{loadedOf, filled}
 use Rattle.ledger.proofs.Record as T
-use Rattle.ledger.proofs.records.Held as N
+use Rattle.ledger.proofs.records.Loaded as N
 
 pub filled-none : (records : List Record) (with : Record) → records ≡ filled records 0 with
 unfolding filled
@@ -64,12 +64,12 @@ passed-over : {A : Type 0} (t : Bool) (a b : A) → T (not t) → b ≡ pick t a
 passed-over true a b h = absurd h
 passed-over false a b h = refl
 
-pub held-all : (records : List Record) → length records ≡ 64 → record { sized = true; records = records } ≡ heldOf records
-unfolding heldOf
+pub held-all : (records : List Record) → length records ≡ 64 → record { sized = true; records = records } ≡ loadedOf records
+unfolding loadedOf
 held-all records e = sym (pick-true (eqb (length records) 64) _ _ (eq-eqb (length records) 64 e))
 
-pub held-none : (records : List Record) → T (not (eqb (length records) 64)) → record { sized = false; records = replicate 64 noRecord } ≡ heldOf records
-unfolding heldOf
+pub held-none : (records : List Record) → T (not (eqb (length records) 64)) → record { sized = false; records = replicate 64 noRecord } ≡ loadedOf records
+unfolding loadedOf
 held-none records h = passed-over (eqb (length records) 64) _ _ h
 
 module _ {M : Type 1} {𝓤 : URA M} where

@@ -9,14 +9,14 @@ use lib.ListN.{length, replicate}
 use lib.Dec.{eqb}
 use borrow.Author.Tests.{not-false, eqb-true}
 use Rattle.quantity.specs.Ranges.{inRange, pathNumberRange}
-use Rattle.quantity.specs.Refusals.{Case, _⇒_, numberOf}
+use Rattle.quantity.specs.Refusals.{Case, _⇒_, refusalNumber}
 use Rattle.quantity.specs.declared.refusal.Refusal.{Refusal}
 use Rattle.quantity.specs.declared.refusal.Refusal.the-variants.{Unusable, PathNumberWrong, LedgerFull, LinkShort}
 use Rattle.quantity.proofs.Refusals.{NoneStands, FirstIs, none-or-first, none-where-result, firstOf-none, first-answered, first-of-each}
-use Rattle.sheet.specs.Sheets.{sheetCases, lineIn}
+use Rattle.sheet.specs.Sheets.{sheetCases, pathIn}
 use Rattle.sheet.specs.declared.read.Verdict.{Verdict}
 use Rattle.sheet.proofs.Accepted.{never-accepted}
-use Rattle.figures.specs.Answers.{lineCases}
+use Rattle.figures.specs.Answers.{pathCases}
 use Rattle.ledger.specs.declared.Record.{Record}
 use Rattle.ledger.specs.declared.Ledger.{Ledger}
 use Rattle.ledger.specs.declared.opening.Opened.{Opened}
@@ -64,11 +64,11 @@ led-new capacities lent accepted =
 not-refused : (a : Answer) (why : Refusal) → a .verdict ≡ Verdict.Accepted → a .verdict ≡ Verdict.Refused why → ⊥
 not-refused a why accepted refused = never-accepted why (sym refused ∙ accepted)
 
-verdict-number : (why other : Refusal) → Verdict.Refused why ≡ Verdict.Refused other → numberOf why ≡ numberOf other
+verdict-number : (why other : Refusal) → Verdict.Refused why ≡ Verdict.Refused other → refusalNumber why ≡ refusalNumber other
 verdict-number why other e = ap number e
   where
     number : Verdict → ℕ
-    number (Verdict.Refused w) = numberOf w
+    number (Verdict.Refused w) = refusalNumber w
     number Verdict.Accepted = 0
 
 module _ (capacities : List ℕ) (entries : Account) where
@@ -79,7 +79,7 @@ module _ (capacities : List ℕ) (entries : Account) where
   granted-accepted (spare link) = refl
 
   -- the first refusal of a call that answers one
-  first-of-answer : (call : Call) (why : Refusal) → accountAnswer capacities entries call .verdict ≡ Verdict.Refused why → (other : Refusal) × (FirstIs (callCases capacities entries call) other × (numberOf other ≡ numberOf why))
+  first-of-answer : (call : Call) (why : Refusal) → accountAnswer capacities entries call .verdict ≡ Verdict.Refused why → (other : Refusal) × (FirstIs (callCases capacities entries call) other × (refusalNumber other ≡ refusalNumber why))
   unfolding accountAnswer
   first-of-answer call why refused =
       ⊎-elim
@@ -89,41 +89,41 @@ module _ (capacities : List ℕ) (entries : Account) where
 
   module _ (number : ℕ) (sheet : List ℕ) (why : Refusal) where
     abbrev standing : List Case
-    standing = (standsIn number entries ⇒ PathNumberWrong) ∷ (eqb (length entries) recordCount ⇒ LedgerFull) ∷ (shortIn capacities entries (lineIn sheet) ⇒ LinkShort) ∷ []
+    standing = (standsIn number entries ⇒ PathNumberWrong) ∷ (eqb (length entries) recordCount ⇒ LedgerFull) ∷ (shortIn capacities entries (pathIn sheet) ⇒ LinkShort) ∷ []
 
-    number-first : FirstIs (callCases capacities entries (admit number sheet)) why → numberOf why ≡ 1 → not (inRange pathNumberRange number) ≡ true
+    number-first : FirstIs (callCases capacities entries (admit number sheet)) why → refusalNumber why ≡ 1 → not (inRange pathNumberRange number) ≡ true
     number-first (inl (stands, same)) one = stands
-    number-first (inr (passed, later)) one = absurd (⊎-elim of-sheet of-ledger (first-of-each why (sheetCases sheet ++ lineCases (lineIn sheet)) standing later))
+    number-first (inr (passed, later)) one = absurd (⊎-elim of-sheet of-ledger (first-of-each why (sheetCases sheet ++ pathCases (pathIn sheet)) standing later))
       where
-        of-sheet : FirstIs (sheetCases sheet ++ lineCases (lineIn sheet)) why → ⊥
+        of-sheet : FirstIs (sheetCases sheet ++ pathCases (pathIn sheet)) why → ⊥
         of-sheet first = let (low, high) = sheet-refusal sheet why first in omega arith
 
         of-ledger : FirstIs standing why → ⊥
-        of-ledger (inl (stands, same)) = omega (arith, one, ap numberOf same)
-        of-ledger (inr (_, inl (stands, same))) = omega (arith, one, ap numberOf same)
-        of-ledger (inr (_, inr (_, inl (stands, same)))) = omega (arith, one, ap numberOf same)
+        of-ledger (inl (stands, same)) = omega (arith, one, ap refusalNumber same)
+        of-ledger (inr (_, inl (stands, same))) = omega (arith, one, ap refusalNumber same)
+        of-ledger (inr (_, inr (_, inl (stands, same)))) = omega (arith, one, ap refusalNumber same)
         of-ledger (inr (_, inr (_, inr (_, none)))) = none
 
-    full-first : FirstIs (callCases capacities entries (admit number sheet)) why → numberOf why ≡ 11 → length entries ≡ recordCount
-    full-first (inl (stands, same)) eleven = absurd (omega (arith, eleven, ap numberOf same))
-    full-first (inr (passed, later)) eleven = ⊎-elim (λ first. absurd (of-sheet first)) of-ledger (first-of-each why (sheetCases sheet ++ lineCases (lineIn sheet)) standing later)
+    full-first : FirstIs (callCases capacities entries (admit number sheet)) why → refusalNumber why ≡ 11 → length entries ≡ recordCount
+    full-first (inl (stands, same)) eleven = absurd (omega (arith, eleven, ap refusalNumber same))
+    full-first (inr (passed, later)) eleven = ⊎-elim (λ first. absurd (of-sheet first)) of-ledger (first-of-each why (sheetCases sheet ++ pathCases (pathIn sheet)) standing later)
       where
-        of-sheet : FirstIs (sheetCases sheet ++ lineCases (lineIn sheet)) why → ⊥
+        of-sheet : FirstIs (sheetCases sheet ++ pathCases (pathIn sheet)) why → ⊥
         of-sheet first = let (low, high) = sheet-refusal sheet why first in omega arith
 
         of-ledger : FirstIs standing why → length entries ≡ recordCount
-        of-ledger (inl (stands, same)) = absurd (omega (arith, eleven, ap numberOf same))
+        of-ledger (inl (stands, same)) = absurd (omega (arith, eleven, ap refusalNumber same))
         of-ledger (inr (_, inl (stands, same))) = eqb-true (length entries) recordCount stands
-        of-ledger (inr (_, inr (_, inl (stands, same)))) = absurd (omega (arith, eleven, ap numberOf same))
+        of-ledger (inr (_, inr (_, inl (stands, same)))) = absurd (omega (arith, eleven, ap refusalNumber same))
         of-ledger (inr (_, inr (_, inr (_, none)))) = absurd none
 
-  release-first : (number : ℕ) (why : Refusal) → FirstIs (callCases capacities entries (release number)) why → numberOf why ≡ 1 → not (inRange pathNumberRange number) ≡ true
+  release-first : (number : ℕ) (why : Refusal) → FirstIs (callCases capacities entries (release number)) why → refusalNumber why ≡ 1 → not (inRange pathNumberRange number) ≡ true
   release-first number why (inl (stands, same)) one = stands
-  release-first number why (inr (_, inl (stands, same))) one = absurd (omega (arith, one, ap numberOf same))
+  release-first number why (inr (_, inl (stands, same))) one = absurd (omega (arith, one, ap refusalNumber same))
   release-first number why (inr (_, inr (_, none))) one = absurd none
 
-  spare-first : (link : ℕ) (why : Refusal) → FirstIs (callCases capacities entries (spare link)) why → numberOf why ≡ 1 → ⊥
-  spare-first link why (inl (stands, same)) one = omega (arith, one, ap numberOf same)
+  spare-first : (link : ℕ) (why : Refusal) → FirstIs (callCases capacities entries (spare link)) why → refusalNumber why ≡ 1 → ⊥
+  spare-first link why (inl (stands, same)) one = omega (arith, one, ap refusalNumber same)
   spare-first link why (inr (_, none)) one = none
 
   unusable-number : (call : Call) → accountAnswer capacities entries call .verdict ≡ Verdict.Refused Unusable → numberWrong call ≡ true

@@ -14,9 +14,9 @@ use Rattle.quantity.specs.declared.refusal.Refusal.{Refusal}
 use Rattle.quantity.specs.declared.refusal.Refusal.the-variants.{Unusable, PathNumberWrong}
 use Rattle.quantity.proofs.Laws.{pick-true}
 use Rattle.quantity.proofs.Refusals.{NoneStands, FirstIs, firstOf-none, none-or-first, none-of-each, first-answered}
-use Rattle.sheet.specs.Sheets.{sheetCases, lineIn}
+use Rattle.sheet.specs.Sheets.{sheetCases, pathIn}
 use Rattle.sheet.specs.declared.read.Verdict.{Verdict}
-use Rattle.figures.specs.Answers.{lineCases}
+use Rattle.figures.specs.Answers.{pathCases}
 use Rattle.ledger.specs.declared.Record.{Record}
 use Rattle.ledger.specs.declared.Ledger.{Ledger}
 use Rattle.ledger.specs.declared.admission.Admitting.{Admitting}
@@ -28,24 +28,24 @@ use Rattle.ledger.specs.Opening.{openCases, newLedger, refusedOpening, o
 use Rattle.ledger.specs.Admission.{recordOf, ledgerFull, standingCases, admissionCases, refusedAdmission, acceptedAdmission, admissionOf, recordsAdmitted}
 use Rattle.ledger.specs.Release.{releaseCases, closedUp, refusedRelease, acceptedRelease, releasedOf, recordsReleased}
 use Rattle.ledger.specs.Spare.{refusedSpare, spareOf}
-use Rattle.ledger.specs.Steps.{heldOf, heldRecords, appended, filled, refusedClearing, clearingOf, refusedAdmitting, acceptedAdmitting, admittingOf, refusedReleasing, releasingOf}
+use Rattle.ledger.specs.Steps.{loadedOf, loadedRecords, appended, filled, refusedClearing, clearingOf, refusedAdmitting, acceptedAdmitting, admittingOf, refusedReleasing, releasingOf}
 use Rattle.ledger.proofs.UsableLedger.{usable-ledger, ledger-unusable}
 
 -- the value of 64 lent records stands for them
-held-all : (records : List Record) → eqb (length records) recordCount ≡ true → heldRecords (heldOf records) ≡ records
-unfolding heldOf heldRecords
+held-all : (records : List Record) → eqb (length records) recordCount ≡ true → loadedRecords (loadedOf records) ≡ records
+unfolding loadedOf loadedRecords
 held-all records all = rw all
 
 -- and any other for none
-held-none : (records : List Record) → eqb (length records) recordCount ≡ false → heldRecords (heldOf records) ≡ []
-unfolding heldOf heldRecords
+held-none : (records : List Record) → eqb (length records) recordCount ≡ false → loadedRecords (loadedOf records) ≡ []
+unfolding loadedOf loadedRecords
 held-none records other = rw other
 
 -- so an answer is the same from the value as from the records, if records of a wrong length have the answer of none
-pub from-held : {A : Type 0} (answer : List Record → A) (records : List Record) → (eqb (length records) recordCount ≡ false → answer [] ≡ answer records) → answer (heldRecords (heldOf records)) ≡ answer records
+pub from-held : {A : Type 0} (answer : List Record → A) (records : List Record) → (eqb (length records) recordCount ≡ false → answer [] ≡ answer records) → answer (loadedRecords (loadedOf records)) ≡ answer records
 from-held answer records alike = by-size (eqb (length records) recordCount) refl
   where
-    by-size : (t : Bool) → eqb (length records) recordCount ≡ t → answer (heldRecords (heldOf records)) ≡ answer records
+    by-size : (t : Bool) → eqb (length records) recordCount ≡ t → answer (loadedRecords (loadedOf records)) ≡ answer records
     by-size true e = ap answer (held-all records e)
     by-size false e = ap answer (held-none records e) ∙ alike e
 
@@ -73,18 +73,18 @@ unfolding closedUp
 closed-nowhere records last = refl
 
 module _ (ledger : Ledger) (records : List Record) (number : ℕ) (sheet : List ℕ) where
-  admitting-held : admittingOf ledger (heldRecords (heldOf records)) number sheet ≡ admittingOf ledger records number sheet
+  admitting-held : admittingOf ledger (loadedRecords (loadedOf records)) number sheet ≡ admittingOf ledger records number sheet
   unfolding admittingOf
   admitting-held = from-held (λ rs. admittingOf ledger rs number sheet) records (λ other. by-one [] (unusable-size ledger [] refl) ∙ sym (by-one records (unusable-size ledger records other)))
     where
       by-one : (rs : List Record) → ledgerUnusable ledger rs ≡ true → admittingOf ledger rs number sheet ≡ refusedAdmitting ledger Unusable
-      by-one rs = refused-by-one (refusedAdmitting ledger) (acceptedAdmitting ledger number (lineIn sheet)) (not (inRange pathNumberRange number)) (ledgerUnusable ledger rs) ((sheetCases sheet ++ lineCases (lineIn sheet)) ++ standingCases ledger rs number (lineIn sheet))
+      by-one rs = refused-by-one (refusedAdmitting ledger) (acceptedAdmitting ledger number (pathIn sheet)) (not (inRange pathNumberRange number)) (ledgerUnusable ledger rs) ((sheetCases sheet ++ pathCases (pathIn sheet)) ++ standingCases ledger rs number (pathIn sheet))
 
   -- what the admission decides: its answer, a place only where 64 records are lent, and with what is appended there the records of the call
   abbrev pub Admits : Admitting → Type 0
   Admits a = (a .admission ≡ admissionOf ledger records number sheet) × ((a .at < recordCount → length records ≡ recordCount) × (appended records (a .at) (a .entry) ≡ recordsAdmitted ledger records number sheet))
 
-  pub admitted : (a : Admitting) → a ≡ admittingOf ledger (heldRecords (heldOf records)) number sheet → Admits a
+  pub admitted : (a : Admitting) → a ≡ admittingOf ledger (loadedRecords (loadedOf records)) number sheet → Admits a
   unfolding admittingOf admissionOf recordsAdmitted refusedAdmitting acceptedAdmitting ledgerFull
   admitted a e = ⊎-elim taken left (none-or-first cases)
     where
@@ -93,26 +93,26 @@ module _ (ledger : Ledger) (records : List Record) (number : ℕ) (sheet : List 
 
       taken : NoneStands cases → Admits a
       taken none =
-          let is : a ≡ acceptedAdmitting ledger number (lineIn sheet) = e ∙ admitting-held ∙ firstOf-none (refusedAdmitting ledger) (acceptedAdmitting ledger number (lineIn sheet)) cases none in
+          let is : a ≡ acceptedAdmitting ledger number (pathIn sheet) = e ∙ admitting-held ∙ firstOf-none (refusedAdmitting ledger) (acceptedAdmitting ledger number (pathIn sheet)) cases none in
           let sound = usable-ledger ledger records (none .1 .0) in
-          let not-full = none-of-each (sheetCases sheet ++ lineCases (lineIn sheet)) (standingCases ledger records number (lineIn sheet)) (none .1 .1) .1 .1 .0 in
+          let not-full = none-of-each (sheetCases sheet ++ pathCases (pathIn sheet)) (standingCases ledger records number (pathIn sheet)) (none .1 .1) .1 .1 .0 in
           let room : ledger .count < recordCount = let other = eqb-false (ledger .count) recordCount not-full in let few = sound .few in omega arith in (
-            ap (λ x. x .admission) is ∙ sym (firstOf-none (refusedAdmission ledger) (acceptedAdmission ledger (lineIn sheet)) cases none),
+            ap (λ x. x .admission) is ∙ sym (firstOf-none (refusedAdmission ledger) (acceptedAdmission ledger (pathIn sheet)) cases none),
             (
               (λ less. sound .sized),
-              ap (λ x. appended records (x .at) (x .entry)) is ∙ appended-there records (ledger .count) (recordOf number (lineIn sheet)) room
-                  ∙ sym (firstOf-none (λ why. records) (set records (ledger .count) (recordOf number (lineIn sheet))) cases none),
+              ap (λ x. appended records (x .at) (x .entry)) is ∙ appended-there records (ledger .count) (recordOf number (pathIn sheet)) room
+                  ∙ sym (firstOf-none (λ why. records) (set records (ledger .count) (recordOf number (pathIn sheet))) cases none),
             ),
           )
 
       left : ((why : Refusal) × FirstIs cases why) → Admits a
       left (why, first) =
-          let is : a ≡ refusedAdmitting ledger why = e ∙ admitting-held ∙ first-answered (refusedAdmitting ledger) (acceptedAdmitting ledger number (lineIn sheet)) why cases first in (
-            ap (λ x. x .admission) is ∙ sym (first-answered (refusedAdmission ledger) (acceptedAdmission ledger (lineIn sheet)) why cases first),
+          let is : a ≡ refusedAdmitting ledger why = e ∙ admitting-held ∙ first-answered (refusedAdmitting ledger) (acceptedAdmitting ledger number (pathIn sheet)) why cases first in (
+            ap (λ x. x .admission) is ∙ sym (first-answered (refusedAdmission ledger) (acceptedAdmission ledger (pathIn sheet)) why cases first),
             (
               (λ less. absurd (let at = ap (λ (x : Admitting). x .at) is in omega (arith, at, less))),
               ap (λ x. appended records (x .at) (x .entry)) is ∙ appended-nowhere records noRecord
-                  ∙ sym (first-answered (λ why. records) (set records (ledger .count) (recordOf number (lineIn sheet))) why cases first),
+                  ∙ sym (first-answered (λ why. records) (set records (ledger .count) (recordOf number (pathIn sheet))) why cases first),
             ),
           )
 
@@ -123,7 +123,7 @@ module _ (ledger : Ledger) (records : List Record) (number : ℕ) where
   abbrev acceptedReleasing : Releasing
   acceptedReleasing = record { released = acceptedRelease ledger; at = place; last = noRecord }
 
-  releasing-held : releasingOf ledger (heldRecords (heldOf records)) number ≡ releasingOf ledger records number
+  releasing-held : releasingOf ledger (loadedRecords (loadedOf records)) number ≡ releasingOf ledger records number
   unfolding releasingOf
   releasing-held = from-held (λ rs. releasingOf ledger rs number) records (λ other. by-one [] (unusable-size ledger [] refl) ∙ sym (by-one records (unusable-size ledger records other)))
     where
@@ -136,7 +136,7 @@ module _ (ledger : Ledger) (records : List Record) (number : ℕ) where
   abbrev pub Releases : Releasing → Type 0
   Releases a = (a .released ≡ releasedOf ledger records number) × ((a .at < recordCount → length records ≡ recordCount) × (closedUp records (a .at) (a .last) ≡ recordsReleased ledger records number))
 
-  pub released : (a : Releasing) → a ≡ releasingOf ledger (heldRecords (heldOf records)) number → Releases a
+  pub released : (a : Releasing) → a ≡ releasingOf ledger (loadedRecords (loadedOf records)) number → Releases a
   unfolding releasingOf releasedOf recordsReleased refusedReleasing
   released a e = ⊎-elim taken left (none-or-first cases)
     where
@@ -164,7 +164,7 @@ module _ (ledger : Ledger) (records : List Record) (number : ℕ) where
           )
 
 -- what a spare rate is, from the value
-pub spare-held : (ledger : Ledger) (records : List Record) (link : ℕ) → spareOf ledger (heldRecords (heldOf records)) link ≡ spareOf ledger records link
+pub spare-held : (ledger : Ledger) (records : List Record) (link : ℕ) → spareOf ledger (loadedRecords (loadedOf records)) link ≡ spareOf ledger records link
 unfolding spareOf
 spare-held ledger records link =
     from-held (λ rs. spareOf ledger rs link) records

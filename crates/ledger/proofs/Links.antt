@@ -10,7 +10,7 @@ use borrow.Author.Tests.{le-leb}
 use Rattle.quantity.specs.Choice.{pick}
 use Rattle.quantity.specs.Ranges.{inRange}
 use Rattle.quantity.proofs.Sums.{total-suc}
-use Rattle.sheet.specs.Paths.{Line}
+use Rattle.sheet.specs.Paths.{Path}
 use Rattle.ledger.specs.Records.{hasLink, share}
 use Rattle.ledger.specs.Ledgers.{linkCount, linksRange}
 use Rattle.ledger.specs.Admission.{namesLink, bitsOf, linksOf, rateOf, recordOf}
@@ -50,15 +50,15 @@ one-iff : (t : Bool) → eqb (pick t 1 0) 1 ≡ t
 one-iff true = refl
 one-iff false = refl
 
-pub has-named : (line : Line) (link : ℕ) → link < linkCount → hasLink (linksOf line) link ≡ namesLink line link
+pub has-named : (path : Path) (link : ℕ) → link < linkCount → hasLink (linksOf path) link ≡ namesLink path link
 unfolding hasLink linksOf
-has-named line link less = ap (λ (k : ℕ). eqb k 1) (bit-at (namesLink line) linkCount link less) ∙ one-iff (namesLink line link)
+has-named path link less = ap (λ (k : ℕ). eqb k 1) (bit-at (namesLink path) linkCount link less) ∙ one-iff (namesLink path link)
 
-pub links-inside : (line : Line) → inRange linksRange (linksOf line) ≡ true
+pub links-inside : (path : Path) → inRange linksRange (linksOf path) ≡ true
 unfolding inRange linksOf
-links-inside line = rw (le-leb 0 (linksOf line) (omega arith)) (le-leb (linksOf line) 65535 (le-of-suc-le-suc (bits-below (namesLink line) linkCount)))
+links-inside path = rw (le-leb 0 (linksOf path) (omega arith)) (le-leb (linksOf path) 65535 (le-of-suc-le-suc (bits-below (namesLink path) linkCount)))
 
 -- so its share is the path's rate where the path names the link
-pub share-named : (number : ℕ) (line : Line) (link : ℕ) → link < linkCount → share (recordOf number line) link ≡ rateOn link line
+pub share-named : (number : ℕ) (path : Path) (link : ℕ) → link < linkCount → share (recordOf number path) link ≡ rateOn link path
 unfolding share recordOf rateOn
-share-named number line link less = ap (λ (t : Bool). pick t (rateOf line) 0) (has-named line link less)
+share-named number path link less = ap (λ (t : Bool). pick t (rateOf path) 0) (has-named path link less)

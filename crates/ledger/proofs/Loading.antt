@@ -27,13 +27,13 @@ use denote.Steps.{heard}
 use denote.Triple.Statement.{Triple}
 use denote.Triple.Call.{calls-at}
 use denote.Triple.Clauses.{ensured}
-use Rattle.ledger.specs.Steps.{heldOf}
+use Rattle.ledger.specs.Steps.{loadedOf}
 use Rattle.ledger.specs.declared.Record.{Record}
-use Rattle.ledger.specs.declared.records.Held.{Held}
+use Rattle.ledger.specs.declared.records.Loaded.{Loaded}
 use Rattle.ledger.proofs.Passing.{Load, to-load, goes-load, loaded}
 use Rattle.ledger.proofs.Shared.{Kept, lends-shared, shared-back}
 use Rattle.ledger.proofs.Record as T
-use Rattle.ledger.proofs.records.Held as D
+use Rattle.ledger.proofs.records.Loaded as D
 use Rattle.ledger.proofs.records.load as ld
 use Rattle.ledger.proofs.records.load.Symbol.{name as #load}
 
@@ -54,17 +54,17 @@ module _ {M : Type 1} (𝓤 : URA M) (H : Heap 𝓤) (A : Atoms 𝓤) (W : Given
 
   module _ {C : Calls 𝓤 H} (fm : FmC 𝓤 H (W .laws) C) (known : Triple 𝓤 (C #load) (Load 𝓤 H A at-mem run)) {Λ : Loops 𝓤 H} {E : Env 𝓤 H} {Q : Post 𝓤 H} {d : Place} {xs : List Operand} {rest : Body} where
     pub loads : {Γ : List (Item 𝓤)} (κ : Lft) (q : Share) (γ : GName) → Opds Go W (LoadAsks κ q γ ∷ Γ) E xs slice
-        → ((w : Val) (held : Held) → held ≡ heldOf ys → Sq W (‵ (D.the-row .own held (w ∷ [])) ∷ ‵ (flft κ q) ∷ Γ) (lands C Λ E d w rest Q))
+        → ((w : Val) (held : Loaded) → held ≡ loadedOf ys → Sq W (‵ (D.the-row .own held (w ∷ [])) ∷ ‵ (flft κ q) ∷ Γ) (lands C Λ E d w rest Q))
         → Sq W (‵ (flft κ q) ∷ ‵ (ShrSlice (named 0) κ T.the-row .own (lent γ) slice) ∷ Γ) (runs C Λ E (seq (call #load xs d) rest) Q)
     loads κ q γ operands k =
         use2 W (LoadAsks κ q γ) (goes-load 𝓤 H A W at-mem run κ q b o γ ys) $
         calls-at ! fm (Load 𝓤 H A at-mem run) known (to-load 𝓤 H A W at-mem run κ q b o γ ys) operands (λ w.
-        use1 W (later (some (λ (held : Held). ((‵ (flft κ q) ⊛ ‵ ftrue) ⊛ ‵ (D.the-row .own held (w ∷ []))) ⊛ raw (ensured 𝓤 H A ld.ended (ld.clauses 𝓤 H A at-mem run) (κ, tt) (lent γ, tt) tt held)))) (id⊢ 𝓤 _) $ await ! tt $ pick ! (λ held.
-        split ! $ move ! (1 ∷ []) $ use1 W (raw (fact 𝓤 (held ≡ heldOf ys))) (loaded 𝓤 H A W at-mem run κ q b o γ ys held) $ heard ! (held ≡ heldOf ys) (λ e.
+        use1 W (later (some (λ (held : Loaded). ((‵ (flft κ q) ⊛ ‵ ftrue) ⊛ ‵ (D.the-row .own held (w ∷ []))) ⊛ raw (ensured 𝓤 H A ld.ended (ld.clauses 𝓤 H A at-mem run) (κ, tt) (lent γ, tt) tt held)))) (id⊢ 𝓤 _) $ await ! tt $ pick ! (λ held.
+        split ! $ move ! (1 ∷ []) $ use1 W (raw (fact 𝓤 (held ≡ loadedOf ys))) (loaded 𝓤 H A W at-mem run κ q b o γ ys held) $ heard ! (held ≡ loadedOf ys) (λ e.
         split ! $ split ! $ move ! (1 ∷ []) $ drop ! $ move ! (1 ∷ []) $ k w held e)))
 
     pub loads-lent : {Γ : List (Item 𝓤)} (κ : Lft) (q : Share) (γ : GName) → ((ν : ℕ) (δ : GName) → Opds Go W (LoadAsks (ν ∷ []) fullShare δ ∷ LentOn κ q γ ν ∷ Γ) E xs slice)
-        → ((w : Val) (held : Held) → held ≡ heldOf ys → Sq W (‵ (D.the-row .own held (w ∷ [])) ∷ ‵ (MutSlice (named 0) κ T.the-row .own (lent γ) slice) ∷ ‵ (flft κ q) ∷ Γ) (lands C Λ E d w rest Q))
+        → ((w : Val) (held : Loaded) → held ≡ loadedOf ys → Sq W (‵ (D.the-row .own held (w ∷ [])) ∷ ‵ (MutSlice (named 0) κ T.the-row .own (lent γ) slice) ∷ ‵ (flft κ q) ∷ Γ) (lands C Λ E d w rest Q))
         → Sq W (‵ (flft κ q) ∷ ‵ (MutSlice (named 0) κ T.the-row .own (lent γ) slice) ∷ Γ) (runs C Λ E (seq (call #load xs d) rest) Q)
     loads-lent κ q γ operands k =
         lft-new ! tt (λ ν. move ! (2 ∷ 1 ∷ []) $

@@ -17,10 +17,10 @@ use Rattle.quantity.specs.declared.Rate.{Rate}
 use Rattle.quantity.specs.declared.LinkCapacity.{LinkCapacity}
 use Rattle.quantity.proofs.Laws.{pick-true, pick-false, either-second}
 use Rattle.quantity.proofs.Sums.{total-zero, total-next, every-next, listOf-ext, every-same, every-fails}
-use Rattle.sheet.specs.Paths.{noPlace}
+use Rattle.sheet.specs.Paths.{noLinkedOperator}
 use Rattle.sheet.specs.Forms.{inFull}
-use Rattle.sheet.specs.declared.Place.{Place}
-use Rattle.sheet.specs.declared.Path.{Path}
+use Rattle.sheet.specs.declared.LinkedOperator.{LinkedOperator}
+use Rattle.sheet.specs.declared.PathValue.{PathValue}
 use Rattle.ledger.specs.Ledgers.{linkCount}
 use Rattle.ledger.specs.Admission.{namesLink, bitsOf}
 use Rattle.ledger.specs.Steps.{namedBy, rateAt, shortOf}
@@ -57,52 +57,52 @@ either-last true = refl
 either-last false = refl
 
 -- one of the first k places is on the link
-abbrev pub namedBefore : List Place → ℕ → ℕ → Bool
-namedBefore places k link = not (every (λ j. not (eqb (getD places j noPlace .link .0) link)) k)
+abbrev pub namedBefore : List LinkedOperator → ℕ → ℕ → Bool
+namedBefore operators k link = not (every (λ j. not (eqb (getD operators j noLinkedOperator .link .0) link)) k)
 
-module _ (places : List Place) where
+module _ (operators : List LinkedOperator) where
   -- what is noted of the first k places
   pub record Noted (named : List Bool) (k : ℕ) : Type 0 where
     pub sized : length named ≡ linkCount
-    pub each : (link : ℕ) → link < linkCount → getD named link false ≡ namedBefore places k link
+    pub each : (link : ℕ) → link < linkCount → getD named link false ≡ namedBefore operators k link
 
   pub noted-first : Noted (replicate linkCount false) 0
   unfolding every
   noted-first = record { sized = length-replicate linkCount false; each = λ link less. getD-replicate linkCount link false false less }
 
-  named-next : (k link : ℕ) → namedBefore places (k + 1) link ≡ either (namedBefore places k link) (eqb (getD places k noPlace .link .0) link)
-  named-next k link = ap not (every-next _ k) ∙ not-both (every (λ j. not (eqb (getD places j noPlace .link .0) link)) k) (eqb (getD places k noPlace .link .0) link)
+  named-next : (k link : ℕ) → namedBefore operators (k + 1) link ≡ either (namedBefore operators k link) (eqb (getD operators k noLinkedOperator .link .0) link)
+  named-next k link = ap not (every-next _ k) ∙ not-both (every (λ j. not (eqb (getD operators j noLinkedOperator .link .0) link)) k) (eqb (getD operators k noLinkedOperator .link .0) link)
     where
       not-both : (a b : Bool) → not (both a (not b)) ≡ either (not a) b
       not-both true true = refl
       not-both true false = refl
       not-both false b = refl
 
-  pub noted-next : {named : List Bool} {k : ℕ} → Noted named k → getD places k noPlace .link .0 < linkCount → Noted (set named (getD places k noPlace .link .0) true) (k + 1)
+  pub noted-next : {named : List Bool} {k : ℕ} → Noted named k → getD operators k noLinkedOperator .link .0 < linkCount → Noted (set named (getD operators k noLinkedOperator .link .0) true) (k + 1)
   noted-next {named} {k} noted inside =
       record { sized = length-set named here true ∙ noted .sized; each = λ link less. rw (named-next k link) (by-test link less (eqb here link) refl) }
     where
       here : ℕ
-      here = getD places k noPlace .link .0
+      here = getD operators k noLinkedOperator .link .0
 
-      by-test : (link : ℕ) → link < linkCount → (t : Bool) → eqb here link ≡ t → getD (set named here true) link false ≡ either (namedBefore places k link) t
+      by-test : (link : ℕ) → link < linkCount → (t : Bool) → eqb here link ≡ t → getD (set named here true) link false ≡ either (namedBefore operators k link) t
       by-test link less true e =
-          rw (← eqb-true here link e) (getD-set-same named here true false (rw (noted .sized) inside) ∙ sym (either-second (namedBefore places k here) true refl))
+          rw (← eqb-true here link e) (getD-set-same named here true false (rw (noted .sized) inside) ∙ sym (either-second (namedBefore operators k here) true refl))
       by-test link less false e =
-          getD-set-other named here link true false (λ same. eqb-false here link e (sym same)) ∙ noted .each link less ∙ sym (either-last (namedBefore places k link))
+          getD-set-other named here link true false (λ same. eqb-false here link e (sym same)) ∙ noted .each link less ∙ sym (either-last (namedBefore operators k link))
 
 -- a path's links, once all its places are noted
-pub noted-all : (path : Path) → path .count ≤ length (path .places) → {named : List Bool} → Noted (path .places) named (path .count) → named ≡ namedBy path
+pub noted-all : (value : PathValue) → value .count ≤ length (value .operators) → {named : List Bool} → Noted (value .operators) named (value .count) → named ≡ namedBy value
 unfolding namedBy namesLink inFull
-noted-all path whole {named} noted =
-    let sized : length (take (path .count) (path .places)) ≡ path .count = length-take-le (path .count) (path .places) whole in
-    listOf-ext false (namesLink (inFull path)) linkCount named (noted .sized)
+noted-all value whole {named} noted =
+    let sized : length (take (value .count) (value .operators)) ≡ value .count = length-take-le (value .count) (value .operators) whole in
+    listOf-ext false (namesLink (inFull value)) linkCount named (noted .sized)
     (λ link less.
     noted .each link less
     ∙ ap not
     (sym
-    (ap (every (λ j. not (eqb (getD (take (path .count) (path .places)) j noPlace .link .0) link))) sized
-    ∙ every-same _ _ (path .count) (λ j before. ap (λ (place : Place). not (eqb (place .link .0) link)) (getD-take (path .count) (path .places) j noPlace before)))))
+    (ap (every (λ j. not (eqb (getD (take (value .count) (value .operators)) j noLinkedOperator .link .0) link))) sized
+    ∙ every-same _ _ (value .count) (λ j before. ap (λ (place : LinkedOperator). not (eqb (place .link .0) link)) (getD-take (value .count) (value .operators) j noLinkedOperator before)))))
 
 -- Short links.
 

@@ -18,8 +18,8 @@ use Rattle.quantity.proofs.Sums.{every-at}
 use Rattle.quantity.proofs.Refusals.{NoneStands, FirstIs, none-or-first, none-of-each, firstOf-none, firstOf-map, first-answered}
 use Rattle.quantity.specs.declared.refusal.Refusal.the-variants.{OutOfRange}
 use Rattle.sheet.specs.declared.read.Verdict.{Verdict}
-use Rattle.sheet.specs.Sheets.{sheetCases, lineIn}
-use Rattle.figures.specs.Answers.{lineCases}
+use Rattle.sheet.specs.Sheets.{sheetCases, pathIn}
+use Rattle.figures.specs.Answers.{pathCases}
 use Rattle.ledger.specs.declared.Record.{Record}
 use Rattle.ledger.specs.declared.Ledger.{Ledger}
 use Rattle.ledger.specs.declared.admission.Admission.{Admission}
@@ -68,8 +68,8 @@ module _ (capacities : List ℕ) (entries : Account) (account : SoundAccount cap
   pub answer-same : (call : Call) → answered (bookOf capacities entries) call ≡ accountAnswer capacities entries call
   unfolding answered accountAnswer granted admissionOf refusedAdmission acceptedAdmission releasedOf refusedRelease acceptedRelease spareOf refusedSpare
   answer-same (admit number sheet) =
-      firstOf-map of-admission (refusedAdmission ledger) (acceptedAdmission ledger (lineIn sheet)) (bookCases capacities entries (admit number sheet))
-      ∙ cases-same capacities entries account (λ why. of-admission (refusedAdmission ledger why)) (of-admission (acceptedAdmission ledger (lineIn sheet))) (admit number sheet)
+      firstOf-map of-admission (refusedAdmission ledger) (acceptedAdmission ledger (pathIn sheet)) (bookCases capacities entries (admit number sheet))
+      ∙ cases-same capacities entries account (λ why. of-admission (refusedAdmission ledger why)) (of-admission (acceptedAdmission ledger (pathIn sheet))) (admit number sheet)
   answer-same (release number) =
       firstOf-map of-release (refusedRelease ledger) (acceptedRelease ledger) (bookCases capacities entries (release number))
       ∙ cases-same capacities entries account (λ why. of-release (refusedRelease ledger why)) (of-release (acceptedRelease ledger)) (release number)
@@ -88,12 +88,12 @@ module _ (capacities : List ℕ) (entries : Account) (account : SoundAccount cap
 
   -- what is left where a call is taken
   abbrev admitted-entry : ℕ → List ℕ → Entry
-  admitted-entry number sheet = record { number = number; line = lineIn sheet }
+  admitted-entry number sheet = record { number = number; path = pathIn sheet }
 
   module _ (number : ℕ) (sheet : List ℕ) (none : NoneStands (callCases capacities entries (admit number sheet))) where
     room : length entries < recordCount
     room =
-        let not-full = none-of-each (sheetCases sheet ++ lineCases (lineIn sheet)) _ (none .1) .1 .1 .0 in
+        let not-full = none-of-each (sheetCases sheet ++ pathCases (pathIn sheet)) _ (none .1) .1 .1 .0 in
         let other = eqb-false (length entries) recordCount not-full in let few = account .few in omega arith
 
     one-more : length (entries ++ (admitted-entry number sheet ∷ [])) ≡ length entries + 1
@@ -105,37 +105,37 @@ module _ (capacities : List ℕ) (entries : Account) (account : SoundAccount cap
     admit-ledger : admissionOf ledger records number sheet .ledger ≡ ledgerOf capacities next
     unfolding admissionOf acceptedAdmission
     admit-ledger =
-        ap (λ (a : Admission). a .ledger) (taken (refusedAdmission ledger) (acceptedAdmission ledger (lineIn sheet)) (admit number sheet) none)
+        ap (λ (a : Admission). a .ledger) (taken (refusedAdmission ledger) (acceptedAdmission ledger (pathIn sheet)) (admit number sheet) none)
         ∙ ap (λ (n : ℕ). record { capacities = ledger .capacities; count = n }) (sym one-more)
 
     admit-records : recordsAdmitted ledger records number sheet ≡ recordsIn capacities next
     unfolding recordsAdmitted
     admit-records =
         let rest : recordCount - length entries ≡ suc (recordCount - length next) = let more = one-more in let least = room in omega arith in
-        taken (λ why. records) (set records (length entries) (recordOf number (lineIn sheet))) (admit number sheet) none
-        ∙ ap (λ (n : ℕ). set (recordsOf entries n) (length entries) (recordOf number (lineIn sheet))) rest
+        taken (λ why. records) (set records (length entries) (recordOf number (pathIn sheet))) (admit number sheet) none
+        ∙ ap (λ (n : ℕ). set (recordsOf entries n) (length entries) (recordOf number (pathIn sheet))) rest
         ∙ append-record entries (admitted-entry number sheet) (recordCount - length next)
 
     -- a link that the path names carries it
-    carried : (link : ℕ) → link < linkCount → reservedOn link entries + rateOn link (lineIn sheet) ≤ askedFor capacities link
+    carried : (link : ℕ) → link < linkCount → reservedOn link entries + rateOn link (pathIn sheet) ≤ askedFor capacities link
     unfolding shortIn rateOn
     carried link less =
-        let not-short = none-of-each (sheetCases sheet ++ lineCases (lineIn sheet)) _ (none .1) .1 .1 .1 .0 in
-        by-name (namesLink (lineIn sheet) link) (every-at _ linkCount (not-false _ not-short) link less)
+        let not-short = none-of-each (sheetCases sheet ++ pathCases (pathIn sheet)) _ (none .1) .1 .1 .1 .0 in
+        by-name (namesLink (pathIn sheet) link) (every-at _ linkCount (not-false _ not-short) link less)
       where
-        by-name : (t : Bool) → not (both t (ltb (askedFor capacities link) (reservedOn link entries + rateOf (lineIn sheet)))) ≡ true → reservedOn link entries + pick t (rateOf (lineIn sheet)) 0 ≤ askedFor capacities link
+        by-name : (t : Bool) → not (both t (ltb (askedFor capacities link) (reservedOn link entries + rateOf (pathIn sheet)))) ≡ true → reservedOn link entries + pick t (rateOf (pathIn sheet)) 0 ≤ askedFor capacities link
         by-name true fits = ltb-false _ _ (not-true _ fits)
         by-name false fits = omega (arith, account .within link less)
 
     admit-sound : SoundAccount capacities next
     admit-sound =
-        let (planned, standing) = none-of-each (sheetCases sheet ++ lineCases (lineIn sheet)) _ (none .1) in
+        let (planned, standing) = none-of-each (sheetCases sheet ++ pathCases (pathIn sheet)) _ (none .1) in
         record {
           inside = account .inside;
           few = let more = one-more in let least = room in omega arith;
           sound =
               append-sound entries (admitted-entry number sheet) (account .sound)
-              (record { numbered = not-false _ (none .0); rated = rate-inside sheet (none-of-each (sheetCases sheet) (lineCases (lineIn sheet)) planned .0); alone = stands-none number })
+              (record { numbered = not-false _ (none .0); rated = rate-inside sheet (none-of-each (sheetCases sheet) (pathCases (pathIn sheet)) planned .0); alone = stands-none number })
               (standing .0);
           within = λ link less. omega (arith, append-reserved entries (admitted-entry number sheet) link, carried link less);
         }
@@ -198,8 +198,8 @@ module _ (capacities : List ℕ) (entries : Account) (account : SoundAccount cap
   unfolding called admissionOf refusedAdmission recordsAdmitted releasedOf refusedRelease recordsReleased
   refused-same (admit number sheet) why first =
       ap₂ (λ (l : Ledger) (r : List Record). record { ledger = l; records = r })
-      (ap (λ (a : Admission). a .ledger) (turned-down (refusedAdmission ledger) (acceptedAdmission ledger (lineIn sheet)) (admit number sheet) why first))
-      (turned-down (λ why. records) (set records (length entries) (recordOf number (lineIn sheet))) (admit number sheet) why first)
+      (ap (λ (a : Admission). a .ledger) (turned-down (refusedAdmission ledger) (acceptedAdmission ledger (pathIn sheet)) (admit number sheet) why first))
+      (turned-down (λ why. records) (set records (length entries) (recordOf number (pathIn sheet))) (admit number sheet) why first)
   refused-same (release number) why first =
       ap₂ (λ (l : Ledger) (r : List Record). record { ledger = l; records = r })
       (ap (λ (a : Released). a .ledger) (turned-down (refusedRelease ledger) (acceptedRelease ledger) (release number) why first))

@@ -60,17 +60,17 @@ module _ (numbers : ℕ → ℕ) (number : ℕ) where
   place-among-next n = rw add-one (place-among-suc n)
 
   -- what a place below n, or n itself, shows
-  pub record Place (n at : ℕ) : Type 0 where
+  pub record LinkedOperator (n at : ℕ) : Type 0 where
     pub at-most : at ≤ n
     pub before : (k : ℕ) → k < at → numbers k ≡ number → ⊥
     pub here : at < n → numbers at ≡ number
 
-  pub place-is : (n : ℕ) → Place n (placeAmong numbers n number)
+  pub place-is : (n : ℕ) → LinkedOperator n (placeAmong numbers n number)
   place-is zero = rw place-among-zero (record { at-most = omega arith; before = λ k less. absurd (not-suc-le-zero less); here = λ less. absurd (not-suc-le-zero less) })
   place-is (suc n) = rw (place-among-suc n) (by-tests (ltb (placeAmong numbers n number) n) refl (eqb (numbers n) number) refl (place-is n))
     where
       by-tests : (sooner : Bool) → ltb (placeAmong numbers n number) n ≡ sooner → (met : Bool) → eqb (numbers n) number ≡ met
-          → Place n (placeAmong numbers n number) → Place (suc n) (pick sooner (placeAmong numbers n number) (pick met n (suc n)))
+          → LinkedOperator n (placeAmong numbers n number) → LinkedOperator (suc n) (pick sooner (placeAmong numbers n number) (pick met n (suc n)))
       by-tests true e met f was =
           record { at-most = omega (arith, was .at-most); before = was .before; here = λ less. was .here (ltb-true _ _ e) }
       by-tests false e true f was =
@@ -96,7 +96,7 @@ module _ (numbers : ℕ → ℕ) (number : ℕ) where
   at-place n = place-is n .here
 
   -- only one place shows that
-  pub place-of : (n at : ℕ) → Place n at → placeAmong numbers n number ≡ at
+  pub place-of : (n at : ℕ) → LinkedOperator n at → placeAmong numbers n number ≡ at
   place-of n at found =
       le-antisymm
       (elim (decLe (placeAmong numbers n number) at) [

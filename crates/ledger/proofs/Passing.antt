@@ -28,9 +28,9 @@ use denote.Triple.Statement.{Contract}
 use denote.Triple.Clauses.{ensured, lasts}
 use denote.Triple.Entry.{onEntry}
 use denote.Triple.Spec.{tripleOf}
-use Rattle.ledger.specs.Steps.{heldOf}
+use Rattle.ledger.specs.Steps.{loadedOf}
 use Rattle.ledger.specs.declared.Record.{Record}
-use Rattle.ledger.specs.declared.records.Held.{Held}
+use Rattle.ledger.specs.declared.records.Loaded.{Loaded}
 use Rattle.ledger.proofs.Record as T
 use Rattle.ledger.proofs.Record.Laws as T′
 use Rattle.ledger.proofs.records.load as ld
@@ -53,8 +53,8 @@ module _ {M : Type 1} (𝓤 : URA M) (H : Heap 𝓤) (A : Atoms 𝓤) (W : Given
   goes-load =
       qed W (‵ (flft κ q) ∷ ‵ (ShrSlice (named 0) κ T.the-row .own lent slice) ∷ []) ∵ nothing ! $ move ! (2 ∷ 0 ∷ []) $ fjoin ! $ nothing ! $ move ! (2 ∷ 0 ∷ []) $ join ! $ join ! $ frame ! $ done !
 
-  pub loaded : (held : Held) → ent 𝓤 (ensured 𝓤 H A ld.ended (ld.clauses 𝓤 H A at-mem run) (κ, tt) (lent, tt) tt held) (fact 𝓤 (held ≡ heldOf records))
-  loaded held = exE 𝓤 _ (λ ws. snd∗ 𝓤 (sem 𝓤 H A (lasts ld.ended (κ, tt) (lent, tt) ws)) (fact 𝓤 (held ≡ heldOf records)))
+  pub loaded : (held : Loaded) → ent 𝓤 (ensured 𝓤 H A ld.ended (ld.clauses 𝓤 H A at-mem run) (κ, tt) (lent, tt) tt held) (fact 𝓤 (held ≡ loadedOf records))
+  loaded held = exE 𝓤 _ (λ ws. snd∗ 𝓤 (sem 𝓤 H A (lasts ld.ended (κ, tt) (lent, tt) ws)) (fact 𝓤 (held ≡ loadedOf records)))
 
   pub goes-write : (at : ℕ) (entry : Record) → Is usize at (vint w64 at ∷ []) → Is T.the-row entry (LL.vals T.the-type T′.the-laws entry)
       → ent 𝓤 (sep 𝓤 (A .lft κ q) (sem 𝓤 H A (MutSlice (named 0) κ T.the-row .own lent slice)))

@@ -13,8 +13,8 @@ use Rattle.quantity.proofs.Sums.{both-true}
 use Rattle.quantity.proofs.Rounding.{round-up-enough, round-up-least}
 use Rattle.quantity.proofs.Refusals.{NoneStands}
 use Rattle.flow.specs.Declarations.{declarationInRange}
-use Rattle.sheet.specs.Sheets.{sheetCases, lineIn, lineInRange}
-use Rattle.sheet.proofs.Accepted.{sheet-line}
+use Rattle.sheet.specs.Sheets.{sheetCases, pathIn, pathInRange}
+use Rattle.sheet.proofs.Accepted.{sheet-path}
 use Rattle.ledger.specs.Admission.{rateOf}
 
 -- rounded up, a quotient of 1 or more is 1 or more, and no larger than what was divided
@@ -28,14 +28,14 @@ round-up-some x y large some = from (roundUp x y) (round-up-enough x y large)
 round-up-le : (x y : ℕ) → 1 ≤ y → roundUp x y ≤ x
 round-up-le x y large = round-up-least x y x large (le-mul-of-pos-right x large)
 
-pub rate-inside : (sheet : List ℕ) → NoneStands (sheetCases sheet) → inRange rateRange (rateOf (lineIn sheet)) ≡ true
-unfolding inRange rateOf lineInRange declarationInRange
+pub rate-inside : (sheet : List ℕ) → NoneStands (sheetCases sheet) → inRange rateRange (rateOf (pathIn sheet)) ≡ true
+unfolding inRange rateOf pathInRange declarationInRange
 rate-inside sheet none =
-    let declaration = lineIn sheet .declaration in
-    let (declared, others) = both-true (declarationInRange declaration) _ (sheet-line sheet none .inside) in
+    let declaration = pathIn sheet .declaration in
+    let (declared, others) = both-true (declarationInRange declaration) _ (sheet-path sheet none .inside) in
     let (interval, quota) = both-true (inRange intervalRange (declaration .interval .0)) (inRange quotaRange (declaration .quota .0)) declared in
     let large = least-le intervalRange (declaration .interval .0) interval in
     let some = least-le quotaRange (declaration .quota .0) quota in
     let most = le-largest quotaRange (declaration .quota .0) quota in
-    rw (le-leb 1 (rateOf (lineIn sheet)) (round-up-some (declaration .quota .0) (declaration .interval .0) large some))
-    (le-leb (rateOf (lineIn sheet)) 65535 (omega (arith, most, round-up-le (declaration .quota .0) (declaration .interval .0) large)))
+    rw (le-leb 1 (rateOf (pathIn sheet)) (round-up-some (declaration .quota .0) (declaration .interval .0) large some))
+    (le-leb (rateOf (pathIn sheet)) 65535 (omega (arith, most, round-up-le (declaration .quota .0) (declaration .interval .0) large)))

@@ -6,7 +6,7 @@ use Prim.Native.Nat.{ℕ}
 use lib.ListN.{replicate, set}
 use Rattle.quantity.specs.Sums.{total, every, listOf}
 use Rattle.quantity.specs.Ranges.{inRange}
-use Rattle.quantity.specs.Refusals.{numberOf, placeOf}
+use Rattle.quantity.specs.Refusals.{refusalNumber, refusalPlace}
 use Rattle.sheet.specs.declared.read.Verdict.{Verdict}
 use Rattle.ledger.specs.declared.Record.{Record}
 use Rattle.ledger.specs.declared.Ledger.{Ledger}
@@ -72,7 +72,7 @@ reference-ledgers = refl
 -- the number and the place of a refusal; 0 where there is none
 abbrev pub refusal : Verdict → List ℕ
 refusal Verdict.Accepted = []
-refusal (Verdict.Refused why) = numberOf why ∷ placeOf why ∷ []
+refusal (Verdict.Refused why) = refusalNumber why ∷ refusalPlace why ∷ []
 
 -- what a damaged ledger answers, and a sound one: a release of 17, one of 18, the spare rate of link 0, that of link 16
 pub asked : Ledger → List Record → List (List ℕ)

@@ -7,16 +7,16 @@ use Prim.Native.Nat.{ℕ, zero, suc, _+_, _≤_}
 use lib.ListN.{length}
 use lib.Dec.{eqb, lit≤}
 use Rattle.quantity.specs.Choice.{pick}
-use Rattle.quantity.specs.Refusals.{Case, numberOf}
+use Rattle.quantity.specs.Refusals.{Case, refusalNumber}
 use Rattle.quantity.specs.declared.refusal.Refusal.{Refusal}
 use Rattle.quantity.proofs.Refusals.{FirstIs}
-use Rattle.sheet.specs.Fields.{Format, declarationFormat, wantedFormat, placeFormat, houseFormat, fieldCases}
-use Rattle.sheet.specs.Paths.{Line}
-use Rattle.sheet.specs.Sheets.{furtherCases, fieldsCases, houseCases, inHouseForm, sheetCases, lineIn, placeLength}
-use Rattle.figures.specs.Answers.{operatorCases, operatorsCases, lineCases}
+use Rattle.sheet.specs.Fields.{Format, declarationFormat, wantedFormat, operatorFormat, houseFormat, fieldCases}
+use Rattle.sheet.specs.Paths.{Path}
+use Rattle.sheet.specs.Sheets.{furtherCases, fieldsCases, houseCases, inHouseForm, sheetCases, pathIn, operatorLength}
+use Rattle.figures.specs.Answers.{operatorCases, operatorsCases, pathCases}
 
 abbrev pub TwoToNine : Refusal → Type 0
-TwoToNine why = (2 ≤ numberOf why) × (numberOf why ≤ 9)
+TwoToNine why = (2 ≤ refusalNumber why) × (refusalNumber why ≤ 9)
 
 abbrev Each : List Case → Type 0
 Each [] = Unit {0}
@@ -41,12 +41,12 @@ of-further : (more at : ℕ) (sheet : List ℕ) → Each (furtherCases more at s
 unfolding furtherCases
 of-further zero at sheet = picked (eqb at (length sheet)) _ ((lit≤ tt, lit≤ tt), ((lit≤ tt, lit≤ tt), tt))
 of-further (suc more) at sheet =
-    picked (eqb at (length sheet)) _ (each-of-both (fieldCases sheet at placeFormat) (furtherCases more (at + placeLength) sheet) (of-field sheet at placeFormat) (of-further more (at + placeLength) sheet))
+    picked (eqb at (length sheet)) _ (each-of-both (fieldCases sheet at operatorFormat) (furtherCases more (at + operatorLength) sheet) (of-field sheet at operatorFormat) (of-further more (at + operatorLength) sheet))
 
-of-operators : (line : Line) (n : ℕ) → Each (operatorsCases line n)
+of-operators : (path : Path) (n : ℕ) → Each (operatorsCases path n)
 unfolding operatorsCases
-of-operators line zero = tt
-of-operators line (suc n) = each-of-both (operatorsCases line n) (operatorCases line n) (of-operators line n) ((lit≤ tt, lit≤ tt), ((lit≤ tt, lit≤ tt), ((lit≤ tt, lit≤ tt), tt)))
+of-operators path zero = tt
+of-operators path (suc n) = each-of-both (operatorsCases path n) (operatorCases path n) (of-operators path n) ((lit≤ tt, lit≤ tt), ((lit≤ tt, lit≤ tt), ((lit≤ tt, lit≤ tt), tt)))
 
 -- a sheet in either form
 of-sheet : (sheet : List ℕ) → Each (sheetCases sheet)
@@ -56,12 +56,12 @@ of-sheet sheet = by-form (inHouseForm sheet)
     by-form : (house : Bool) → Each (pick house (houseCases sheet) (fieldsCases sheet))
     by-form true = each-of-both (fieldCases sheet 0 houseFormat) (furtherCases 0 25 sheet) (of-field sheet 0 houseFormat) (of-further 0 25 sheet)
     by-form false =
-        each-of-both (fieldCases sheet 0 declarationFormat) (fieldCases sheet 10 wantedFormat ++ (fieldCases sheet 17 placeFormat ++ furtherCases 15 26 sheet)) (of-field sheet 0 declarationFormat)
-        (each-of-both (fieldCases sheet 10 wantedFormat) (fieldCases sheet 17 placeFormat ++ furtherCases 15 26 sheet) (of-field sheet 10 wantedFormat)
-        (each-of-both (fieldCases sheet 17 placeFormat) (furtherCases 15 26 sheet) (of-field sheet 17 placeFormat) (of-further 15 26 sheet)))
+        each-of-both (fieldCases sheet 0 declarationFormat) (fieldCases sheet 10 wantedFormat ++ (fieldCases sheet 17 operatorFormat ++ furtherCases 15 26 sheet)) (of-field sheet 0 declarationFormat)
+        (each-of-both (fieldCases sheet 10 wantedFormat) (fieldCases sheet 17 operatorFormat ++ furtherCases 15 26 sheet) (of-field sheet 10 wantedFormat)
+        (each-of-both (fieldCases sheet 17 operatorFormat) (furtherCases 15 26 sheet) (of-field sheet 17 operatorFormat) (of-further 15 26 sheet)))
 
-pub sheet-refusal : (sheet : List ℕ) (why : Refusal) → FirstIs (sheetCases sheet ++ lineCases (lineIn sheet)) why → TwoToNine why
+pub sheet-refusal : (sheet : List ℕ) (why : Refusal) → FirstIs (sheetCases sheet ++ pathCases (pathIn sheet)) why → TwoToNine why
 sheet-refusal sheet why =
-    first-of (sheetCases sheet ++ lineCases (lineIn sheet)) why
-    (each-of-both (sheetCases sheet) (lineCases (lineIn sheet)) (of-sheet sheet)
-    (each-of-both (operatorsCases (lineIn sheet) (length (lineIn sheet .places))) _ (of-operators (lineIn sheet) (length (lineIn sheet .places))) ((lit≤ tt, lit≤ tt), tt)))
+    first-of (sheetCases sheet ++ pathCases (pathIn sheet)) why
+    (each-of-both (sheetCases sheet) (pathCases (pathIn sheet)) (of-sheet sheet)
+    (each-of-both (operatorsCases (pathIn sheet) (length (pathIn sheet .operators))) _ (of-operators (pathIn sheet) (length (pathIn sheet .operators))) ((lit≤ tt, lit≤ tt), tt)))

@@ -14,10 +14,10 @@ use Rattle.quantity.proofs.Sums.{getD-listOf, length-listOf, every-same}
 use Rattle.ledger.specs.declared.Record.{Record}
 use Rattle.ledger.specs.declared.Ledger.{Ledger}
 use Rattle.ledger.specs.declared.test.Tested.{Tested}
-use Rattle.ledger.specs.declared.records.Held.{Held}
+use Rattle.ledger.specs.declared.records.Loaded.{Loaded}
 use Rattle.ledger.specs.Records.{numberAt, reserved, allDiffer}
 use Rattle.ledger.specs.Ledgers.{recordCount, linkCount, capacityOf, linkFits}
-use Rattle.ledger.specs.Steps.{heldRecords, rateAt, reservedRates, notTested, testedOf}
+use Rattle.ledger.specs.Steps.{loadedRecords, rateAt, reservedRates, notTested, testedOf}
 use Rattle.ledger.proofs.Numbers.{all-differ-in-front}
 use Rattle.ledger.proofs.UsableLedger.{UsableLedger, ledger-usable, ledger-unusable}
 
@@ -59,20 +59,20 @@ links-fit-reserved ledger records =
     (λ link less. ap (λ (sum : Rate). leb (sum .0) (capacityOf ledger link)) (getD-listOf (record { 0 = 0 }) (λ k. record { 0 = reserved records (ledger .count) k }) linkCount link less))
 
 -- The records that a value stands for: those lent, where there are 64.
-module _ (ledger : Ledger) (held : Held) where
-  pub tested-unsized : held .sized ≡ false → notTested ≡ testedOf ledger (heldRecords held)
-  unfolding heldRecords
+module _ (ledger : Ledger) (held : Loaded) where
+  pub tested-unsized : held .sized ≡ false → notTested ≡ testedOf ledger (loadedRecords held)
+  unfolding loadedRecords
   tested-unsized other =
-      tested-not ledger (heldRecords held)
+      tested-not ledger (loadedRecords held)
       (λ usable. let none : _≡_ {A = ℕ} 0 recordCount = rw (pick-false (held .sized) (held .records) [] other) at (usable .sized) in omega arith)
 
   module _ (sized : held .sized ≡ true) where
-    held-records : held .records ≡ heldRecords held
-    unfolding heldRecords
+    held-records : held .records ≡ loadedRecords held
+    unfolding loadedRecords
     held-records = sym (pick-true (held .sized) (held .records) [] sized)
 
-    pub tested-held-not : (UsableLedger ledger (held .records) → ⊥) → notTested ≡ testedOf ledger (heldRecords held)
+    pub tested-held-not : (UsableLedger ledger (held .records) → ⊥) → notTested ≡ testedOf ledger (loadedRecords held)
     tested-held-not fails = tested-not ledger (held .records) fails ∙ ap (testedOf ledger) held-records
 
-    pub tested-held : UsableLedger ledger (held .records) → tested ledger (held .records) ≡ testedOf ledger (heldRecords held)
+    pub tested-held : UsableLedger ledger (held .records) → tested ledger (held .records) ≡ testedOf ledger (loadedRecords held)
     tested-held passed = tested-usable ledger (held .records) passed ∙ ap (testedOf ledger) held-records

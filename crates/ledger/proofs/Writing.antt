@@ -42,8 +42,8 @@ use Rattle.ledger.proofs.records.append as ap
 abbrev pub Enough : List Record → ℕ → Record → Type 0
 Enough records count with = count ≤ length records
 
-abbrev pub AtPlace : List Record → ℕ → Record → Type 0
-AtPlace records at entry = at < 64 → length records ≡ 64
+abbrev pub AtOperator : List Record → ℕ → Record → Type 0
+AtOperator records at entry = at < 64 → length records ≡ 64
 
 module _ (Asks : List Record → ℕ → Record → Type 0) (Leaves : List Record → ℕ → Record → List Record) {M : Type 1} (𝓤 : URA M) (H : Heap 𝓤) (A : Atoms 𝓤) where
   abbrev clauses : Clauses 𝓤 ap.ended

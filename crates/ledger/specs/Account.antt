@@ -9,10 +9,10 @@ use Rattle.quantity.specs.Sums.{every}
 use Rattle.quantity.specs.Ranges.{inRange, linkRange, pathNumberRange}
 use Rattle.quantity.specs.Refusals.{Case, _⇒_, firstOf}
 use Rattle.quantity.specs.declared.refusal.Refusal.the-variants.{Unusable, OutOfRange, PathNumberWrong, LedgerFull, LinkShort}
-use Rattle.sheet.specs.Paths.{Line}
-use Rattle.sheet.specs.Sheets.{sheetCases, lineIn}
+use Rattle.sheet.specs.Paths.{Path}
+use Rattle.sheet.specs.Sheets.{sheetCases, pathIn}
 use Rattle.sheet.specs.declared.read.Verdict.{Verdict}
-use Rattle.figures.specs.Answers.{lineCases, pathDelay}
+use Rattle.figures.specs.Answers.{pathCases, pathDelay}
 use Rattle.ledger.specs.Ledgers.{recordCount, linkCount}
 use Rattle.ledger.specs.Opening.{askedFor}
 use Rattle.ledger.specs.Admission.{rateOf, namesLink}
@@ -21,20 +21,20 @@ use Rattle.ledger.specs.Calls.{Call, admit, release, spare, Answer, refu
 -- a path that was admitted
 pub record Entry : Type 0 where
   pub number : ℕ
-  pub line : Line
+  pub path : Path
 
 -- the paths admitted and not yet released, in order of admission
 abbrev pub Account : Type 0
 Account = List Entry
 
 -- what a path reserves on a link: its rate if it names the link
-unfoldable pub rateOn : ℕ → Line → ℕ
-rateOn link line = pick (namesLink line link) (rateOf line) 0
+unfoldable pub rateOn : ℕ → Path → ℕ
+rateOn link path = pick (namesLink path link) (rateOf path) 0
 
 -- the rates of these paths on a link
 unfoldable pub reservedOn : ℕ → Account → ℕ
 reservedOn link [] = 0
-reservedOn link (entry ∷ entries) = rateOn link (entry .line) + reservedOn link entries
+reservedOn link (entry ∷ entries) = rateOn link (entry .path) + reservedOn link entries
 
 -- 10: one of them has this number
 unfoldable pub standsIn : ℕ → Account → Bool
@@ -42,9 +42,9 @@ standsIn number [] = false
 standsIn number (entry ∷ entries) = either (eqb (entry .number) number) (standsIn number entries)
 
 -- 12: on a link that the path names these rates and its own would pass the capacity
-unfoldable pub shortIn : List ℕ → Account → Line → Bool
-shortIn capacities entries line =
-    not (every (λ link. not (both (namesLink line link) (ltb (askedFor capacities link) (reservedOn link entries + rateOf line)))) linkCount)
+unfoldable pub shortIn : List ℕ → Account → Path → Bool
+shortIn capacities entries path =
+    not (every (λ link. not (both (namesLink path link) (ltb (askedFor capacities link) (reservedOn link entries + rateOf path)))) linkCount)
 
 -- all but the path of a number
 unfoldable pub without : ℕ → Account → Account
@@ -55,17 +55,17 @@ without number (entry ∷ entries) = pick (eqb (entry .number) number) entries (
 abbrev pub callCases : List ℕ → Account → Call → List Case
 callCases capacities entries (admit number sheet) =
     (not (inRange pathNumberRange number) ⇒ Unusable)
-    ∷ (sheetCases sheet ++ lineCases (lineIn sheet))
+    ∷ (sheetCases sheet ++ pathCases (pathIn sheet))
     ++ ((standsIn number entries ⇒ PathNumberWrong)
     ∷ (eqb (length entries) recordCount ⇒ LedgerFull)
-    ∷ (shortIn capacities entries (lineIn sheet) ⇒ LinkShort)
+    ∷ (shortIn capacities entries (pathIn sheet) ⇒ LinkShort)
     ∷ [])
 callCases capacities entries (release number) = (not (inRange pathNumberRange number) ⇒ Unusable) ∷ (not (standsIn number entries) ⇒ PathNumberWrong) ∷ []
 callCases capacities entries (spare link) = (not (inRange linkRange link) ⇒ OutOfRange 0) ∷ []
 
 -- what is answered where none of these stands
 unfoldable pub granted : List ℕ → Account → Call → Answer
-granted capacities entries (admit number sheet) = record { verdict = Verdict.Accepted; rate = rateOf (lineIn sheet); delay = pathDelay (lineIn sheet) }
+granted capacities entries (admit number sheet) = record { verdict = Verdict.Accepted; rate = rateOf (pathIn sheet); delay = pathDelay (pathIn sheet) }
 granted capacities entries (release number) = record { verdict = Verdict.Accepted; rate = 0; delay = 0 }
 granted capacities entries (spare link) = record { verdict = Verdict.Accepted; rate = askedFor capacities link - reservedOn link entries; delay = 0 }
 
@@ -74,7 +74,7 @@ accountAnswer capacities entries call = firstOf (callCases capacities entries ca
 
 -- and which paths stand then
 unfoldable pub accountNext : Account → Call → Account
-accountNext entries (admit number sheet) = entries ++ (record { number = number; line = lineIn sheet } ∷ [])
+accountNext entries (admit number sheet) = entries ++ (record { number = number; path = pathIn sheet } ∷ [])
 accountNext entries (release number) = without number entries
 accountNext entries (spare link) = entries
 

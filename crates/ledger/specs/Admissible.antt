@@ -4,8 +4,8 @@ use mathlib.Core.Path.{_≡_}
 use mathlib.Core.Bool.{false}
 use mathlib.Core.List.{List}
 use lib.ListN.{length}
-use Rattle.sheet.specs.Paths.{Line, linkAt}
-use Rattle.sheet.specs.Sheets.{lineIn}
+use Rattle.sheet.specs.Paths.{Path, linkAt}
+use Rattle.sheet.specs.Sheets.{pathIn}
 use Rattle.sheet.specs.declared.read.Verdict.{Verdict}
 use Rattle.figures.specs.Answers.{figuresOf}
 use Rattle.ledger.specs.declared.Record.{Record}
@@ -15,8 +15,8 @@ use Rattle.ledger.specs.Ledgers.{recordCount, capacityOf, ledgerUnusable
 use Rattle.ledger.specs.Admission.{rateOf}
 
 module _ (ledger : Ledger) (records : List Record) (number : ℕ) (sheet : List ℕ) where
-  abbrev pub line : Line
-  line = lineIn sheet
+  abbrev pub path : Path
+  path = pathIn sheet
 
   -- each condition by the refusal that it keeps from standing
   pub record Admissible : Type 0 where
@@ -30,4 +30,4 @@ module _ (ledger : Ledger) (records : List Record) (number : ℕ) (sheet : List 
     -- 11: fewer than sixty-four paths stand
     pub room : ledger .count < recordCount
     -- 12: on the link of each operator the reserved total and the path's rate are within the capacity
-    pub carried : (k : ℕ) → k < length (line .places) → reserved records (ledger .count) (linkAt line k) + rateOf line ≤ capacityOf ledger (linkAt line k)
+    pub carried : (k : ℕ) → k < length (path .operators) → reserved records (ledger .count) (linkAt path k) + rateOf path ≤ capacityOf ledger (linkAt path k)

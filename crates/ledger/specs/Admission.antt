@@ -11,10 +11,10 @@ use Rattle.quantity.specs.Ranges.{inRange, pathNumberRange}
 use Rattle.quantity.specs.Refusals.{Case, _⇒_, firstOf}
 use Rattle.quantity.specs.declared.refusal.Refusal.{Refusal}
 use Rattle.quantity.specs.declared.refusal.Refusal.the-variants.{Unusable, PathNumberWrong, LedgerFull, LinkShort}
-use Rattle.sheet.specs.Paths.{Line, linkAt}
-use Rattle.sheet.specs.Sheets.{sheetCases, lineIn}
+use Rattle.sheet.specs.Paths.{Path, linkAt}
+use Rattle.sheet.specs.Sheets.{sheetCases, pathIn}
 use Rattle.sheet.specs.declared.read.Verdict.{Verdict}
-use Rattle.figures.specs.Answers.{lineCases, pathDelay}
+use Rattle.figures.specs.Answers.{pathCases, pathDelay}
 use Rattle.ledger.specs.declared.Record.{Record}
 use Rattle.ledger.specs.declared.Ledger.{Ledger}
 use Rattle.ledger.specs.declared.admission.Admission.{Admission}
@@ -22,62 +22,62 @@ use Rattle.ledger.specs.Records.{reserved, stands}
 use Rattle.ledger.specs.Ledgers.{recordCount, linkCount, capacityOf, ledgerUnusable}
 
 -- what a path reserves: ⌈Q/m⌉ of its declaration
-unfoldable pub rateOf : Line → ℕ
-rateOf line = roundUp (line .declaration .quota .0) (line .declaration .interval .0)
+unfoldable pub rateOf : Path → ℕ
+rateOf path = roundUp (path .declaration .quota .0) (path .declaration .interval .0)
 
 -- a path names a link if an operator of it is on the link, however many are
-unfoldable pub namesLink : Line → ℕ → Bool
-namesLink line link = not (every (λ k. not (eqb (linkAt line k) link)) (length (line .places)))
+unfoldable pub namesLink : Path → ℕ → Bool
+namesLink path link = not (every (λ k. not (eqb (linkAt path k) link)) (length (path .operators)))
 
 -- the first so many links as bits, bit i for link i
 unfoldable pub bitsOf : (ℕ → Bool) → ℕ → ℕ
 bitsOf named links = total (λ link. pick (named link) (2 ^ link) 0) links
 
 -- a path's links
-unfoldable pub linksOf : Line → ℕ
-linksOf line = bitsOf (namesLink line) linkCount
+unfoldable pub linksOf : Path → ℕ
+linksOf path = bitsOf (namesLink path) linkCount
 
-unfoldable pub recordOf : ℕ → Line → Record
-recordOf number line = record { number = record { 0 = number }; rate = record { 0 = rateOf line }; links = linksOf line }
+unfoldable pub recordOf : ℕ → Path → Record
+recordOf number path = record { number = record { 0 = number }; rate = record { 0 = rateOf path }; links = linksOf path }
 
 -- 11: sixty-four paths stand
 unfoldable pub ledgerFull : Ledger → Bool
 ledgerFull ledger = eqb (ledger .count) recordCount
 
 -- 12: the reserved total of a link that the path names would pass its capacity
-unfoldable pub linkShort : Ledger → List Record → Line → Bool
-linkShort ledger records line =
-    not (every (λ link. not (both (namesLink line link) (ltb (capacityOf ledger link) (reserved records (ledger .count) link + rateOf line)))) linkCount)
+unfoldable pub linkShort : Ledger → List Record → Path → Bool
+linkShort ledger records path =
+    not (every (λ link. not (both (namesLink path link) (ltb (capacityOf ledger link) (reserved records (ledger .count) link + rateOf path)))) linkCount)
 
 -- 10 to 12 of a path
-abbrev pub standingCases : Ledger → List Record → ℕ → Line → List Case
-standingCases ledger records number line =
-    (stands records (ledger .count) number ⇒ PathNumberWrong) ∷ (ledgerFull ledger ⇒ LedgerFull) ∷ (linkShort ledger records line ⇒ LinkShort) ∷ []
+abbrev pub standingCases : Ledger → List Record → ℕ → Path → List Case
+standingCases ledger records number path =
+    (stands records (ledger .count) number ⇒ PathNumberWrong) ∷ (ledgerFull ledger ⇒ LedgerFull) ∷ (linkShort ledger records path ⇒ LinkShort) ∷ []
 
 abbrev pub admissionCases : Ledger → List Record → ℕ → List ℕ → List Case
 admissionCases ledger records number sheet =
     (not (inRange pathNumberRange number) ⇒ Unusable)
     ∷ (ledgerUnusable ledger records ⇒ Unusable)
-    ∷ (sheetCases sheet ++ lineCases (lineIn sheet)) ++ standingCases ledger records number (lineIn sheet)
+    ∷ (sheetCases sheet ++ pathCases (pathIn sheet)) ++ standingCases ledger records number (pathIn sheet)
 
 unfoldable pub refusedAdmission : Ledger → Refusal → Admission
 refusedAdmission ledger why = record { verdict = Verdict.Refused why; ledger = ledger; rate = record { 0 = 0 }; delay = record { 0 = 0 } }
 
 -- one more path stands
-unfoldable pub acceptedAdmission : Ledger → Line → Admission
-acceptedAdmission ledger line =
+unfoldable pub acceptedAdmission : Ledger → Path → Admission
+acceptedAdmission ledger path =
     record {
       verdict = Verdict.Accepted;
       ledger = record { capacities = ledger .capacities; count = ledger .count + 1 };
-      rate = record { 0 = rateOf line };
-      delay = record { 0 = pathDelay line };
+      rate = record { 0 = rateOf path };
+      delay = record { 0 = pathDelay path };
     }
 
 -- what an admission answers; refused, the ledger is as it was
 unfoldable pub admissionOf : Ledger → List Record → ℕ → List ℕ → Admission
-admissionOf ledger records number sheet = firstOf (admissionCases ledger records number sheet) (refusedAdmission ledger) (acceptedAdmission ledger (lineIn sheet))
+admissionOf ledger records number sheet = firstOf (admissionCases ledger records number sheet) (refusedAdmission ledger) (acceptedAdmission ledger (pathIn sheet))
 
 -- and the records then: its own stands behind the others; refused, they are as they were
 unfoldable pub recordsAdmitted : Ledger → List Record → ℕ → List ℕ → List Record
 recordsAdmitted ledger records number sheet =
-    firstOf (admissionCases ledger records number sheet) (λ why. records) (set records (ledger .count) (recordOf number (lineIn sheet)))
+    firstOf (admissionCases ledger records number sheet) (λ why. records) (set records (ledger .count) (recordOf number (pathIn sheet)))

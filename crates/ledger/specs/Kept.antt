@@ -17,7 +17,7 @@ use Rattle.ledger.specs.Lists.{Book, opened, answered, called, calledAll
 
 -- the record of a path of the account
 abbrev pub recordOfEntry : Entry → Record
-recordOfEntry entry = recordOf (entry .number) (entry .line)
+recordOfEntry entry = recordOf (entry .number) (entry .path)
 
 module _ (capacities : List ℕ) (lent : List Record) (calls : List Call) where
   -- the ledger and its records after these calls, and their account

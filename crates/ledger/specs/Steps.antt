@@ -13,14 +13,14 @@ use Rattle.quantity.specs.declared.refusal.Refusal.{Refusal}
 use Rattle.quantity.specs.declared.Rate.{Rate}
 use Rattle.quantity.specs.declared.LinkCapacity.{LinkCapacity}
 use Rattle.flow.specs.Declarations.{declarationInRange}
-use Rattle.sheet.specs.Paths.{Line, noPlace}
+use Rattle.sheet.specs.Paths.{Path, noLinkedOperator}
 use Rattle.sheet.specs.Forms.{inFull}
-use Rattle.sheet.specs.Sheets.{lineIn}
-use Rattle.sheet.specs.declared.Path.{Path}
+use Rattle.sheet.specs.Sheets.{pathIn}
+use Rattle.sheet.specs.declared.PathValue.{PathValue}
 use Rattle.sheet.specs.declared.read.Verdict.{Verdict}
 use Rattle.ledger.specs.declared.Record.{Record}
 use Rattle.ledger.specs.declared.Ledger.{Ledger}
-use Rattle.ledger.specs.declared.records.Held.{Held}
+use Rattle.ledger.specs.declared.records.Loaded.{Loaded}
 use Rattle.ledger.specs.declared.test.Tested.{Tested}
 use Rattle.ledger.specs.declared.opening.Clearing.{Clearing}
 use Rattle.ledger.specs.declared.opening.Checked.{Checked}
@@ -34,12 +34,12 @@ use Rattle.ledger.specs.Release.{releaseCases, refusedRelease, acceptedR
 
 -- The lent records.
 
-unfoldable pub heldOf : List Record → Held
-heldOf records = pick (eqb (length records) recordCount) (record { sized = true; records = records }) (record { sized = false; records = replicate recordCount noRecord })
+unfoldable pub loadedOf : List Record → Loaded
+loadedOf records = pick (eqb (length records) recordCount) (record { sized = true; records = records }) (record { sized = false; records = replicate recordCount noRecord })
 
 -- the records that a value stands for: none where 64 were not lent
-unfoldable pub heldRecords : Held → List Record
-heldRecords held = pick (held .sized) (held .records) []
+unfoldable pub loadedRecords : Loaded → List Record
+loadedRecords held = pick (held .sized) (held .records) []
 
 unfoldable pub appended : List Record → ℕ → Record → List Record
 appended records at r = pick (ltb at recordCount) (set records at r) records
@@ -83,32 +83,32 @@ clearingOf capacities records =
     (record { opened = record { verdict = Verdict.Accepted; ledger = newLedger capacities }; count = recordCount; none = noRecord })
 
 -- the links of a path's operators, and whether a named link is short
-unfoldable pub namedBy : Path → List Bool
-namedBy path = listOf (namesLink (inFull path)) linkCount
+unfoldable pub namedBy : PathValue → List Bool
+namedBy value = listOf (namesLink (inFull value)) linkCount
 
 unfoldable pub shortOf : List LinkCapacity → List Rate → (ℕ → Bool) → Rate → Bool
 shortOf capacities reserved named rate =
     not (every (λ link. not (both (named link) (ltb (getD capacities link (record { 0 = 0 }) .0) (ratesSum (rateAt reserved link) rate .0)))) linkCount)
 
 -- what 10 to 12 are decided of: a count of records that are there, and a path value of numbers in their ranges
-abbrev pub Decidable : Ledger → Path → Type 0
-Decidable ledger path =
+abbrev pub Decidable : Ledger → PathValue → Type 0
+Decidable ledger value =
     (ledger .count ≤ recordCount)
-    × (declarationInRange (path .declaration) ≡ true)
-    × (path .count ≤ 16)
-    × ((k : ℕ) → k < 16 → getD (path .places) k noPlace .link .0 < linkCount)
+    × (declarationInRange (value .declaration) ≡ true)
+    × (value .count ≤ 16)
+    × ((k : ℕ) → k < 16 → getD (value .operators) k noLinkedOperator .link .0 < linkCount)
 
 -- an admission, and the record that it appends; 64 is no place
 unfoldable pub refusedAdmitting : Ledger → Refusal → Admitting
 refusedAdmitting ledger why = record { admission = refusedAdmission ledger why; at = recordCount; entry = noRecord }
 
-unfoldable pub acceptedAdmitting : Ledger → ℕ → Line → Admitting
-acceptedAdmitting ledger number line = record { admission = acceptedAdmission ledger line; at = ledger .count; entry = recordOf number line }
+unfoldable pub acceptedAdmitting : Ledger → ℕ → Path → Admitting
+acceptedAdmitting ledger number path = record { admission = acceptedAdmission ledger path; at = ledger .count; entry = recordOf number path }
 
 unfoldable pub admittingOf : Ledger → List Record → ℕ → List ℕ → Admitting
 unfolding refusedAdmitting acceptedAdmitting
 admittingOf ledger records number sheet =
-    firstOf (admissionCases ledger records number sheet) (refusedAdmitting ledger) (acceptedAdmitting ledger number (lineIn sheet))
+    firstOf (admissionCases ledger records number sheet) (refusedAdmitting ledger) (acceptedAdmitting ledger number (pathIn sheet))
 
 -- a release, the place that it closes up, and the clear record
 unfoldable pub refusedReleasing : Ledger → Refusal → Releasing

@@ -3,7 +3,7 @@
 use crate::Ledger;
 use crate::Record;
 use crate::no_record;
-use crate::records::Held;
+use crate::records::Loaded;
 use crate::records::append;
 use crate::records::load;
 use crate::test::Tested;
@@ -17,7 +17,7 @@ use quantity::PathNumber;
 use quantity::Rate;
 use quantity::Slots;
 use quantity::refusal::Refusal;
-use sheet::Path;
+use sheet::PathValue;
 use sheet::read::Verdict;
 ghost use mathlib.Core.Path.{_≡_};
 ghost use mathlib.Core.Bool.{false, true};
@@ -27,14 +27,14 @@ ghost use lib.ListN.{getD};
 ghost use Rattle.quantity.specs.Rounding.{roundUp};
 ghost use Rattle.quantity.specs.Refusals.{firstOf};
 ghost use Rattle.flow.specs.Declarations.{declarationInRange};
-ghost use Rattle.sheet.specs.Paths.{Line, noPlace};
-ghost use Rattle.sheet.specs.Forms.{valueIn};
-ghost use Rattle.sheet.specs.Sheets.{lineInRange};
+ghost use Rattle.sheet.specs.Paths.{Path, noLinkedOperator};
+ghost use Rattle.sheet.specs.Forms.{valueOfPath};
+ghost use Rattle.sheet.specs.Sheets.{pathInRange};
 ghost use Rattle.figures.specs.Answers.{pathDelay};
 ghost use Rattle.ledger.specs.declared.Record.{Record};
 ghost use Rattle.ledger.specs.Ledgers.{linkCount, ledgerUnusable};
 ghost use Rattle.ledger.specs.Admission.{standingCases, admissionOf, recordsAdmitted, bitsOf};
-ghost use Rattle.ledger.specs.Steps.{heldRecords, testedOf, namedBy, shortOf, Decidable, refusedAdmitting, acceptedAdmitting, admittingOf};
+ghost use Rattle.ledger.specs.Steps.{loadedRecords, testedOf, namedBy, shortOf, Decidable, refusedAdmitting, acceptedAdmitting, admittingOf};
 
 // What the path reserves, its delay, and the ledger with it. Beside a refusal they are 0, and the ledger is as it was.
 pub struct Admission {
@@ -63,8 +63,8 @@ pub fn admit(ledger: Ledger, records: &mut [Record], number: u32, sheet: &[u8]) 
     admitting.admission
 }
 
-fn decide(ledger: Ledger, held: Held, number: u32, sheet: &[u8]) -> Admitting
-    ensures { λ r. ⌜ r ≡ admittingOf ledger (heldRecords held) number (now (sheet .entry)) ⌝ }
+fn decide(ledger: Ledger, held: Loaded, number: u32, sheet: &[u8]) -> Admitting
+    ensures { λ r. ⌜ r ≡ admittingOf ledger (loadedRecords held) number (now (sheet .entry)) ⌝ }
 {
     match PathNumber::checked(number) {
         CheckedPathNumber::OutOfRange => refused(ledger, Refusal::Unusable),
@@ -92,11 +92,11 @@ fn decide_standing(
     ledger: Ledger,
     tested: Tested,
     number: PathNumber,
-    path: Path,
+    path: PathValue,
     delay: Slots,
 ) -> Admitting
     requires { ⌜ Decidable ledger path ⌝ }
-    ensures { λ r. ⌜ ((records : List Record) (line : Line) → ledgerUnusable ledger records ≡ false → tested ≡ testedOf ledger records → lineInRange line ≡ true → path ≡ valueIn (path .form) line → delay ≡ record { 0 = pathDelay line } → r ≡ firstOf (standingCases ledger records (number .0) line) (refusedAdmitting ledger) (acceptedAdmitting ledger (number .0) line)) ⌝ }
+    ensures { λ r. ⌜ ((records : List Record) (given : Path) → ledgerUnusable ledger records ≡ false → tested ≡ testedOf ledger records → pathInRange given ≡ true → path ≡ valueOfPath (path .form) given → delay ≡ record { 0 = pathDelay given } → r ≡ firstOf (standingCases ledger records (number .0) given) (refusedAdmitting ledger) (acceptedAdmitting ledger (number .0) given)) ⌝ }
 {
     let count = ledger.count;
     let numbers = tested.numbers;
@@ -145,15 +145,15 @@ fn reserved_by(declaration: Declaration) -> Rate
 }
 
 // The links that a path's operators are on.
-fn links_named(path: Path) -> [bool; 16]
-    requires { ⌜ (path .count ≤ 16) × ((k : ℕ) → k < 16 → getD (path .places) k noPlace .link .0 < linkCount) ⌝ }
+fn links_named(path: PathValue) -> [bool; 16]
+    requires { ⌜ (path .count ≤ 16) × ((k : ℕ) → k < 16 → getD (path .operators) k noLinkedOperator .link .0 < linkCount) ⌝ }
     ensures { λ r. ⌜ r ≡ namedBy path ⌝ }
 {
-    let places = path.places;
+    let operators = path.operators;
     let mut named = [false; 16];
     let mut k = 0;
     while k < path.count {
-        let place = places[k];
+        let place = operators[k];
         let link = place.link;
         named[link.0 as usize] = true;
         k += 1;

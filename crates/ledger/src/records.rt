@@ -6,17 +6,17 @@ use quantity::Rate;
 ghost use mathlib.Core.Path.{_≡_};
 ghost use Prim.Native.Nat.{_<_, _≤_};
 ghost use lib.ListN.{length};
-ghost use Rattle.ledger.specs.Steps.{heldOf, appended, filled};
+ghost use Rattle.ledger.specs.Steps.{loadedOf, appended, filled};
 ghost use Rattle.ledger.specs.Release.{closedUp};
 
 // The lent records by value, clear ones where there are not 64.
-pub struct Held {
+pub struct Loaded {
     pub sized: bool,
     pub records: [Record; 64],
 }
 
-pub(crate) fn load(records: &[Record]) -> Held
-    ensures { λ r. ⌜ r ≡ heldOf (now (records .entry)) ⌝ }
+pub(crate) fn load(records: &[Record]) -> Loaded
+    ensures { λ r. ⌜ r ≡ loadedOf (now (records .entry)) ⌝ }
 {
     let mut list = [Record {
         number: PathNumber(0),
@@ -24,7 +24,7 @@ pub(crate) fn load(records: &[Record]) -> Held
         links: 0,
     }; 64];
     if records.len() != crate::RECORDS {
-        return Held {
+        return Loaded {
             sized: false,
             records: list,
         };
@@ -34,7 +34,7 @@ pub(crate) fn load(records: &[Record]) -> Held
         list[j] = records[j];
         j += 1;
     }
-    Held {
+    Loaded {
         sized: true,
         records: list,
     }

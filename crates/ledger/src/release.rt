@@ -3,7 +3,7 @@
 use crate::Ledger;
 use crate::Record;
 use crate::no_record;
-use crate::records::Held;
+use crate::records::Loaded;
 use crate::records::close_up;
 use crate::records::load;
 use crate::test::find;
@@ -14,7 +14,7 @@ use quantity::refusal::Refusal;
 use sheet::read::Verdict;
 ghost use mathlib.Core.Path.{_≡_};
 ghost use Rattle.ledger.specs.Release.{releasedOf, recordsReleased};
-ghost use Rattle.ledger.specs.Steps.{heldRecords, refusedReleasing, releasingOf};
+ghost use Rattle.ledger.specs.Steps.{loadedRecords, refusedReleasing, releasingOf};
 
 // The ledger without the path. Beside a refusal it is as it was.
 pub struct Released {
@@ -41,8 +41,8 @@ pub fn release(ledger: Ledger, records: &mut [Record], number: u32) -> Released
     releasing.released
 }
 
-fn decide(ledger: Ledger, held: Held, number: u32) -> Releasing
-    ensures { λ r. ⌜ r ≡ releasingOf ledger (heldRecords held) number ⌝ }
+fn decide(ledger: Ledger, held: Loaded, number: u32) -> Releasing
+    ensures { λ r. ⌜ r ≡ releasingOf ledger (loadedRecords held) number ⌝ }
 {
     match PathNumber::checked(number) {
         CheckedPathNumber::OutOfRange => refused(ledger, Refusal::Unusable),

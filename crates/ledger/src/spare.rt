@@ -2,7 +2,7 @@
 
 use crate::Ledger;
 use crate::Record;
-use crate::records::Held;
+use crate::records::Loaded;
 use crate::records::load;
 use crate::test::test;
 use quantity::CheckedLink;
@@ -12,7 +12,7 @@ use quantity::refusal::Refusal;
 use sheet::read::Verdict;
 ghost use mathlib.Core.Path.{_≡_};
 ghost use Rattle.ledger.specs.Spare.{refusedSpare, spareOf};
-ghost use Rattle.ledger.specs.Steps.{heldRecords};
+ghost use Rattle.ledger.specs.Steps.{loadedRecords};
 
 // The rate that a link has to spare. Beside a refusal it is 0.
 pub struct Spare {
@@ -28,8 +28,8 @@ pub fn spare_rate(ledger: Ledger, records: &[Record], link: u32) -> Spare
     decide(ledger, held, link)
 }
 
-fn decide(ledger: Ledger, held: Held, link: u32) -> Spare
-    ensures { λ r. ⌜ r ≡ spareOf ledger (heldRecords held) link ⌝ }
+fn decide(ledger: Ledger, held: Loaded, link: u32) -> Spare
+    ensures { λ r. ⌜ r ≡ spareOf ledger (loadedRecords held) link ⌝ }
 {
     let tested = test(ledger, held);
     if !tested.usable {

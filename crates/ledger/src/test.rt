@@ -2,7 +2,7 @@
 
 use crate::Ledger;
 use crate::Record;
-use crate::records::Held;
+use crate::records::Loaded;
 use quantity::LinkCapacity;
 use quantity::Rate;
 ghost use mathlib.Core.Path.{_≡_};
@@ -14,7 +14,7 @@ ghost use Rattle.quantity.specs.Choice.{pick};
 ghost use Rattle.quantity.specs.Sums.{every, listOf};
 ghost use Rattle.ledger.specs.Records.{recordAt, numberAt, placeAmong, allDiffer};
 ghost use Rattle.ledger.specs.Ledgers.{linkCount, recordCount, recordInRange, recordClear, recordFits, capacitiesFit};
-ghost use Rattle.ledger.specs.Steps.{heldRecords, rateAt, charged, reservedRates, notTested, testedOf};
+ghost use Rattle.ledger.specs.Steps.{loadedRecords, rateAt, charged, reservedRates, notTested, testedOf};
 
 // Whether what is lent and stored can be used; then the records' numbers, and each link's reserved total.
 pub struct Tested {
@@ -23,8 +23,8 @@ pub struct Tested {
     pub reserved: [Rate; 16],
 }
 
-pub(crate) fn test(ledger: Ledger, held: Held) -> Tested
-    ensures { λ r. ⌜ r ≡ testedOf ledger (heldRecords held) ⌝ }
+pub(crate) fn test(ledger: Ledger, held: Loaded) -> Tested
+    ensures { λ r. ⌜ r ≡ testedOf ledger (loadedRecords held) ⌝ }
 {
     let count = ledger.count;
     if !held.sized {

@@ -5,7 +5,7 @@ use Prim.Native.Nat.{ℕ}
 use lib.ListN.{replicate}
 use Rattle.quantity.specs.Ranges.{inRange}
 use Rattle.quantity.specs.Sums.{total, every}
-use Rattle.quantity.specs.Refusals.{numberOf, placeOf}
+use Rattle.quantity.specs.Refusals.{refusalNumber, refusalPlace}
 use Rattle.flow.specs.Declarations.{declarationInRange}
 use Rattle.flow.specs.declared.Kind.{Kind}
 use Rattle.words.specs.Stored.{storedFits, wordFits}
@@ -24,7 +24,7 @@ pub data Outcome : Type 0 where
 
 abbrev pub meterOutcome : Metered → Outcome
 meterOutcome (Metered.Taken next) = taken (next .block .0) (next .slot .0)
-meterOutcome (Metered.Refused why) = refused (numberOf why) (placeOf why)
+meterOutcome (Metered.Refused why) = refused (refusalNumber why) (refusalPlace why)
 
 -- of 1,023, 1,024 and 1,025 words
 pub computed : List Outcome

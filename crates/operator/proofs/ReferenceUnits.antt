@@ -6,7 +6,7 @@ use lib.ListN.{replicate}
 use Rattle.quantity.specs.Limits.{largestAmount}
 use Rattle.quantity.specs.Ranges.{inRange}
 use Rattle.quantity.specs.Sums.{total, every}
-use Rattle.quantity.specs.Refusals.{numberOf, placeOf}
+use Rattle.quantity.specs.Refusals.{refusalNumber, refusalPlace}
 use Rattle.operator.specs.Held.{keeps}
 use Rattle.operator.specs.Limiter.{limiterLeast, limiterGreatest, limiterAfter}
 use Rattle.operator.specs.Expander.{expanderLeast, expanderGreatest, expanderAfter}
@@ -28,7 +28,7 @@ pub data Outcome : Type 0 where
 
 abbrev pub stepOutcome : Stepped → Outcome
 stepOutcome (Stepped.Sent s next) = sent (s .0) (next .held .0) (next .beside .0) (next .slot .0)
-stepOutcome (Stepped.Refused why) = refused (numberOf why) (placeOf why)
+stepOutcome (Stepped.Refused why) = refused (refusalNumber why) (refusalPlace why)
 
 pub computed : List Outcome
 computed =
@@ -45,5 +45,5 @@ pub expected : List Outcome
 expected = sent 19_327_352_814 0 0 1 ∷ refused 1 0 ∷ refused 1 0 ∷ sent 0 0 0 1 ∷ refused 1 0 ∷ []
 
 pub reference-units : computed ≡ expected
-unfolding computed expected total every inRange keeps limiterLeast limiterGreatest limiterAfter expanderLeast expanderGreatest expanderAfter leastOutput greatestOutput heldAfter numberInRange storedFits wordFits Single.stepOf Single.sent Single.heldNext Single.choiceAbove Single.leavesTooMuch Single.stateNext Single.heldIn Single.usesHeld Single.usesBeside Single.wordsUsed Single.storedUnusable Single.unusable
+unfolding computed expected total every inRange keeps limiterLeast limiterGreatest limiterAfter expanderLeast expanderGreatest expanderAfter leastOutput greatestOutput heldAfter numberInRange storedFits wordFits Single.stepOf Single.sent Single.holdsNext Single.choiceAbove Single.leavesTooMuch Single.stateNext Single.holds Single.usesHeld Single.usesBeside Single.wordsUsed Single.storedUnusable Single.unusable
 reference-units = refl

@@ -21,8 +21,8 @@ use Rattle.operator.specs.Delayer.{ofAge}
 use Rattle.operator.specs.Operators.{leastOutput, greatestOutput, numberInRange}
 use Rattle.operator.specs.Whole.{Whole}
 use Rattle.words.specs.Stored.{wordAt, storedFits, wordFits}
-use Rattle.operator.specs.Single.{wordCount, wordsUsed, usesHeld, usesBeside, heldIn, storedUnusable, unusable, boundsOf}
-use Rattle.operator.specs.Within.{storedOf, heldWith}
+use Rattle.operator.specs.Single.{wordCount, wordsUsed, usesHeld, usesBeside, holds, storedUnusable, unusable, boundsOf}
+use Rattle.operator.specs.Within.{storedOf, holdsWith}
 use Rattle.words.proofs.StoredLaws
 use Rattle.words.proofs.StoredLaws.{stored-le}
 use Rattle.operator.specs.declared.Operator.{Operator}
@@ -120,8 +120,8 @@ module _ (x : SingleOperator) (words : List ℕ) (stored : Usable x words) where
   pub beside-le : x .beside .0 ≤ largestAmount
   beside-le = stored-le _ _ (stored .beside-fits)
 
-  pub b-le : heldIn x words .b ≤ largestAmount
-  unfolding heldIn
+  pub b-le : holds x words .b ≤ largestAmount
+  unfolding holds
   b-le = pick-le (usesHeld (x .operator)) _ _ _ held-le (stored .sum-fits)
 
   fit : every (wordFits (wordsUsed (x .operator)) words) (length words) ≡ true
@@ -135,8 +135,8 @@ module _ (x : SingleOperator) (words : List ℕ) (stored : Usable x words) where
   total-used within = rw (stored .sized) at (StoredLaws.total-used (wordsUsed (x .operator)) words fit (rw (stored .sized) within))
 
   -- section 3's b is the field's units and the words' together, of which one is 0
-  pub b-sum : x .held .0 + total (wordAt words) wordCount ≡ heldIn x words .b
-  unfolding heldIn
+  pub b-sum : x .held .0 + total (wordAt words) wordCount ≡ holds x words .b
+  unfolding holds
   b-sum =
       only-one (usesHeld (x .operator)) (x .held .0) (total (wordAt words) wordCount) (stored .held-fits)
       (λ holds.
@@ -144,8 +144,8 @@ module _ (x : SingleOperator) (words : List ℕ) (stored : Usable x words) where
       total-used (omega arith) ∙ ap (total (wordAt words)) none ∙ total-zero (wordAt words))
 
   -- what is stored is whole: a delayer's b is the sum of the words that it uses
-  pub whole-stored : numberInRange (x .operator) ≡ true → Whole (x .operator) (heldIn x words)
-  unfolding heldIn
+  pub whole-stored : numberInRange (x .operator) ≡ true → Whole (x .operator) (holds x words)
+  unfolding holds
   whole-stored inside = whole-used (x .operator) (x .held .0) (x .beside .0) words (total-used (used-within (x .operator) inside))
 
 -- an older age is a past slot's
@@ -166,7 +166,7 @@ module _ (x : SingleOperator) (words : List ℕ) where
   unfolding storedOf
   stored-refused not-usable = rw (stored-unusable x words not-usable)
 
-  pub stored-found : Usable x words → (held : ℕ) → held ≡ heldIn x words .b → Stored.Holds (record { 0 = held }) ≡ storedOf x words
+  pub stored-found : Usable x words → (held : ℕ) → held ≡ holds x words .b → Stored.Holds (record { 0 = held }) ≡ storedOf x words
   unfolding storedOf
   stored-found stored held same = rw (stored-usable x words stored, same)
 
@@ -174,10 +174,10 @@ module _ (x : SingleOperator) (words : List ℕ) where
   holds-picked true b held e = let z : _≡_ {A = Bool} true false = cc in (z, (cc))
   holds-picked false b held e = let same : held ≡ record { 0 = b } = cc in (refl, ap (λ (u : Units). u .0) same)
 
-  pub stored-holds : {held : Units} → Stored.Holds held ≡ storedOf x words → Usable x words × (held .0 ≡ heldIn x words .b)
+  pub stored-holds : {held : Units} → Stored.Holds held ≡ storedOf x words → Usable x words × (held .0 ≡ holds x words .b)
   unfolding storedOf
   stored-holds {held} answered =
-      let (tested, same) = holds-picked (storedUnusable x words) (heldIn x words .b) held answered in
+      let (tested, same) = holds-picked (storedUnusable x words) (holds x words .b) held answered in
       (usable x words tested, same)
 
   unusable-picked : (t : Bool) (held : Units) → Stored.Unusable ≡ pick t Stored.Unusable (Stored.Holds held) → t ≡ true
@@ -200,8 +200,8 @@ module _ (most : ℕ) (x : SingleOperator) (words : List ℕ) (input : ℕ) wher
     bounds-outside outside = rw (passed, outside)
 
     pub bounds-outputs : numberInRange (x .operator) ≡ true → (l g : ℕ)
-        → l ≡ leastOutput (x .operator) (x .slot .0) (heldIn x words) input
-        → g ≡ greatestOutput (x .operator) (x .slot .0) (heldIn x words) input
+        → l ≡ leastOutput (x .operator) (x .slot .0) (holds x words) input
+        → g ≡ greatestOutput (x .operator) (x .slot .0) (holds x words) input
         → Bounds.Outputs (record { 0 = l }) (record { 0 = g }) ≡ boundsOf most x words input
     unfolding boundsOf
     bounds-outputs inside l g low-same high-same = rw (passed, inside, low-same, high-same)
@@ -221,7 +221,7 @@ module _ (most : ℕ) (x : SingleOperator) (words : List ℕ) (input : ℕ) wher
   none-unusable within stored = either-none _ _ (le-ltb most input within) (stored-usable x words stored)
 
 -- the least output, where what is held is given beside the words
-pub least-held : (x : SingleOperator) (words : List ℕ) (input held : ℕ) → held ≡ heldIn x words .b
-    → leastOutput (x .operator) (x .slot .0) (heldWith x words held) input ≡ leastOutput (x .operator) (x .slot .0) (heldIn x words) input
-unfolding heldIn
-least-held x words input held same = ap (λ (b : ℕ). leastOutput (x .operator) (x .slot .0) (heldWith x words b) input) same
+pub least-held : (x : SingleOperator) (words : List ℕ) (input held : ℕ) → held ≡ holds x words .b
+    → leastOutput (x .operator) (x .slot .0) (holdsWith x words held) input ≡ leastOutput (x .operator) (x .slot .0) (holds x words) input
+unfolding holds
+least-held x words input held same = ap (λ (b : ℕ). leastOutput (x .operator) (x .slot .0) (holdsWith x words b) input) same

@@ -24,7 +24,7 @@ use Rattle.operator.specs.Delayer.{delayerAfter}
 use Rattle.operator.specs.Operators.{leastOutput, greatestOutput, heldAfter, numberInRange}
 use Rattle.operator.specs.Whole.{Whole}
 use Rattle.words.specs.Stored.{wordAt, storedFits, wordFits}
-use Rattle.operator.specs.Single.{wordCount, wordsUsed, usesHeld, usesBeside, heldIn, heldNext, stateNext, wordsNext}
+use Rattle.operator.specs.Single.{wordCount, wordsUsed, usesHeld, usesBeside, holds, holdsNext, stateNext, wordsNext}
 use Rattle.operator.specs.declared.Operator.{Operator}
 use Rattle.operator.specs.declared.Operator.the-variants.{Limiter, Compactor, Expander, Filter, Delayer}
 use Rattle.operator.specs.declared.SingleOperator.{SingleOperator}
@@ -34,7 +34,7 @@ use Rattle.operator.proofs.SingleLaws.{Usable, no-words, used-within}
 -- the state and its words have b, h and past, and 0 in what the operator does not use
 pub record Stands (x : SingleOperator) (words : List ℕ) (y : Held) : Type 0 where
   pub sized : length words ≡ wordCount
-  pub same : heldIn x words ≡ y
+  pub same : holds x words ≡ y
   pub apart : usesHeld (x .operator) ≡ false → x .held .0 ≡ 0
   pub alone : usesBeside (x .operator) ≡ false → x .beside .0 ≡ 0
   pub unused : (a : ℕ) → wordsUsed (x .operator) ≤ a → wordAt words a ≡ 0
@@ -42,7 +42,7 @@ pub record Stands (x : SingleOperator) (words : List ℕ) (y : Held) : Type 0 wh
 -- a new operator, whose words are all 0, holds nothing
 pub stands-new : (op : Operator) (slot : Slots) (words : List ℕ) → length words ≡ wordCount → ((a : ℕ) → wordAt words a ≡ 0)
     → Stands (record { operator = op; slot = slot; held = record { 0 = 0 }; beside = record { 0 = 0 } }) words nothing
-unfolding heldIn
+unfolding holds
 stands-new op slot words size none =
     record {
       sized = size;
@@ -67,7 +67,7 @@ module _ (x : SingleOperator) (words : List ℕ) (y : Held) (stands : Stands x w
 
   -- the words' units are at most b: all of b of a delayer, none of any other operator
   words-le : total (wordAt words) wordCount ≤ y .b
-  unfolding heldIn
+  unfolding holds
   words-le = by-use (usesHeld (x .operator)) refl (ap (λ (z : Held). z .b) (stands .same))
     where
       by-use : (used : Bool) → usesHeld (x .operator) ≡ used → pick (usesHeld (x .operator)) (x .held .0) (total (wordAt words) wordCount) ≡ y .b
@@ -78,11 +78,11 @@ module _ (x : SingleOperator) (words : List ℕ) (y : Held) (stands : Stands x w
       by-use false e b-same = let all : total (wordAt words) wordCount ≡ y .b = rw e at b-same in omega arith
 
   field-le : usesHeld (x .operator) ≡ true → x .held .0 ≤ y .b
-  unfolding heldIn
+  unfolding holds
   field-le e = let b-same : x .held .0 ≡ y .b = rw e at (ap (λ (z : Held). z .b) (stands .same)) in omega arith
 
   beside-same : x .beside .0 ≡ y .h
-  unfolding heldIn
+  unfolding holds
   beside-same = ap (λ (z : Held). z .h) (stands .same)
 
   pub stands-usable : x .slot .0 ≤ lastSlot → y .b ≤ largestAmount → y .h ≤ largestAmount → Usable x words
@@ -146,8 +146,8 @@ module _ (x : SingleOperator) (words : List ℕ) (y : Held) (stands : Stands x w
   after = heldAfter (x .operator) y r s
 
   -- what state and words have once s is sent
-  next-held : heldNext x words r s ≡ after
-  unfolding heldNext after
+  next-held : holdsNext x words r s ≡ after
+  unfolding holdsNext after
   next-held = ap (λ (z : Held). heldAfter (x .operator) z r s) (stands .same)
 
   next-none : (a : ℕ) → wordsUsed (x .operator) ≤ a → after .past a ≡ 0
@@ -155,12 +155,12 @@ module _ (x : SingleOperator) (words : List ℕ) (y : Held) (stands : Stands x w
   next-none = past-none (x .operator) y r s
 
   pub stands-next : Stands (stateNext x words r s) (wordsNext x words r s) (heldAfter (x .operator) y r s)
-  unfolding stateNext wordsNext heldIn after
+  unfolding stateNext wordsNext holds after
   stands-next =
       let within = used-within (x .operator) inside in
       let each = word-past (x .operator) after within next-none in
       record {
-        sized = length-listOf (heldNext x words r s .past) wordCount;
+        sized = length-listOf (holdsNext x words r s .past) wordCount;
         same = rw next-held (
             ap (λ (past : ℕ → ℕ). record { b = pick (usesHeld (x .operator)) (pick (usesHeld (x .operator)) (after .b) 0) (total past wordCount); h = after .h; past = past }) (fun-ext each)
             ∙ ap (λ (b : ℕ). record { b = b; h = after .h; past = after .past })

@@ -15,7 +15,7 @@ use Rattle.quantity.specs.declared.refusal.Refusal.the-variants.{Unusable, OutO
 use Rattle.quantity.proofs.Laws.{pick-true, either-second}
 use Rattle.quantity.proofs.Refusals.{firstOf-map}
 use Rattle.operator.specs.Operators.{numberInRange}
-use Rattle.operator.specs.Single.{mostOnTheWay, heldIn, unusable, choiceAbove, leavesTooMuch, sent, heldNext, stateNext, wordsNext, stepOf, wordsAfter}
+use Rattle.operator.specs.Single.{mostOnTheWay, holds, unusable, choiceAbove, leavesTooMuch, sent, holdsNext, stateNext, wordsNext, stepOf, wordsAfter}
 use Rattle.operator.specs.Within.{storedOf, undecidable, sentWith, choiceAboveWith, decidedOf, keptOf, wordsKept}
 use Rattle.operator.specs.declared.SingleOperator.{SingleOperator}
 use Rattle.operator.specs.declared.single.Decided.{Decided}
@@ -74,10 +74,10 @@ module _ (most : ℕ) (x : SingleOperator) (words : List ℕ) (input choice : �
     -- the tests of a decision are a step's, but for what it goes on to
     same-tests : {A : Type 0} (refused : Refusal → A) (kept next : A)
         → (numberInRange (x .operator) ≡ true → choiceAbove x words input choice ≡ false → kept ≡ next)
-        → firstOf (decisionCases x words (heldIn x words .b) input choice) refused kept
+        → firstOf (decisionCases x words (holds x words .b) input choice) refused kept
         ≡ pick (either (ltb largestAmount choice) (unusable most x words input)) (refused Unusable)
         (pick (not (numberInRange (x .operator))) (refused (OutOfRange 0)) (pick (choiceAbove x words input choice) (refused (ChoiceAboveGreatest 0)) next))
-    unfolding choiceAboveWith choiceAbove heldIn
+    unfolding choiceAboveWith choiceAbove holds
     same-tests refused kept next same =
         let rest = pick (not (numberInRange (x .operator))) (refused (OutOfRange 0)) (pick (choiceAbove x words input choice) (refused (ChoiceAboveGreatest 0)) kept) in
         ap (λ (t : Bool). pick t (refused Unusable) rest) (choice-alone x words stored input choice (omega arith) ∙ sym first-test)
@@ -87,9 +87,9 @@ module _ (most : ℕ) (x : SingleOperator) (words : List ℕ) (input choice : �
     -- what is kept, or refused, is what a step goes on to
     kept-then : (inside : numberInRange (x .operator) ≡ true) (below : choiceAbove x words input choice ≡ false) →
         let s = sent x words input choice in
-        (stepKept (record { 0 = s }) (keptOf x words (heldNext x words input s .b) (heldNext x words input s .h))
+        (stepKept (record { 0 = s }) (keptOf x words (holdsNext x words input s .b) (holdsNext x words input s .h))
         ≡ pick (leavesTooMuch x words input s) (Stepped.Refused Unusable) (Stepped.Sent (record { 0 = s }) (stateNext x words input s)))
-        × (wordsKept x words input (heldNext x words input s .b) (heldNext x words input s .h) ≡ pick (leavesTooMuch x words input s) words (wordsNext x words input s))
+        × (wordsKept x words input (holdsNext x words input s .b) (holdsNext x words input s .h) ≡ pick (leavesTooMuch x words input s) words (wordsNext x words input s))
     kept-then inside below =
         let s = sent x words input choice in
         let (answer, after) = kept-or-refused x words stored inside input s (sent-fits x words stored inside input choice below) (leavesTooMuch x words input s) refl in
@@ -100,12 +100,12 @@ module _ (most : ℕ) (x : SingleOperator) (words : List ℕ) (input choice : �
         step-picked s true = refl
         step-picked s false = refl
 
-    joined : Answered (stepDecided x words (decidedOf x words (heldIn x words .b) input choice)) (wordsDecided x words input (decidedOf x words (heldIn x words .b) input choice))
-    unfolding decidedOf sentWith sent heldNext heldIn stepOf wordsAfter
+    joined : Answered (stepDecided x words (decidedOf x words (holds x words .b) input choice)) (wordsDecided x words input (decidedOf x words (holds x words .b) input choice))
+    unfolding decidedOf sentWith sent holdsNext holds stepOf wordsAfter
     joined =
         let s = sent x words input choice in
-        let cases = decisionCases x words (heldIn x words .b) input choice in
-        let sends = Decided.Sends (record { 0 = s }) (record { 0 = heldNext x words input s .b }) (record { 0 = heldNext x words input s .h }) in (
+        let cases = decisionCases x words (holds x words .b) input choice in
+        let sends = Decided.Sends (record { 0 = s }) (record { 0 = holdsNext x words input s .b }) (record { 0 = holdsNext x words input s .h }) in (
           firstOf-map (stepDecided x words) Decided.Refused sends cases ∙ same-tests Stepped.Refused _ _ (λ inside below. kept-then inside below .0),
           firstOf-map (wordsDecided x words input) Decided.Refused sends cases ∙ same-tests (λ why. words) _ _ (λ inside below. kept-then inside below .1),
         )

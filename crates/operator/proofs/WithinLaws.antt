@@ -22,8 +22,8 @@ use Rattle.operator.specs.Delayer.{ofAge, olderThan, staysOf, delayerAft
 use Rattle.operator.specs.Operators.{leastOutput, greatestOutput, heldAfter, numberInRange}
 use Rattle.operator.specs.Whole.{Whole}
 use Rattle.words.specs.Stored.{wordAt}
-use Rattle.operator.specs.Single.{wordCount, mostOnTheWay, wordsUsed, usesHeld, heldIn, choiceAbove, leavesTooMuch, sent, heldNext, stateNext, wordsNext}
-use Rattle.operator.specs.Within.{heldWith, undecidable, sentWith, choiceAboveWith, heldOnce, decidedOf, newestOf, stateKept, wordKept, keptOf, wordsKept}
+use Rattle.operator.specs.Single.{wordCount, mostOnTheWay, wordsUsed, usesHeld, holds, choiceAbove, leavesTooMuch, sent, holdsNext, stateNext, wordsNext}
+use Rattle.operator.specs.Within.{holdsWith, undecidable, sentWith, choiceAboveWith, holdsOnce, decidedOf, newestOf, stateKept, wordKept, keptOf, wordsKept}
 use Rattle.operator.specs.declared.Operator.{Operator}
 use Rattle.operator.specs.declared.Operator.the-variants.{Limiter, Compactor, Expander, Filter, Delayer}
 use Rattle.operator.specs.declared.SingleOperator.{SingleOperator}
@@ -85,8 +85,8 @@ module _ (x : SingleOperator) (words : List ℕ) (b input choice : ℕ) where
     unfolding decidedOf
     decided-outside outside = rw (passed, outside)
 
-    module _ (inside : numberInRange (x .operator) ≡ true) (l g : ℕ) (low-same : l ≡ leastOutput (x .operator) (x .slot .0) (heldWith x words b) input)
-        (high-same : g ≡ greatestOutput (x .operator) (x .slot .0) (heldWith x words b) input) where
+    module _ (inside : numberInRange (x .operator) ≡ true) (l g : ℕ) (low-same : l ≡ leastOutput (x .operator) (x .slot .0) (holdsWith x words b) input)
+        (high-same : g ≡ greatestOutput (x .operator) (x .slot .0) (holdsWith x words b) input) where
       choice-tested : choiceAboveWith x words b input choice ≡ ltb (g - l) choice
       unfolding choiceAboveWith
       choice-tested = ap₂ (λ (l g : ℕ). ltb (g - l) choice) (sym low-same) (sym high-same)
@@ -99,12 +99,12 @@ module _ (x : SingleOperator) (words : List ℕ) (b input choice : ℕ) where
       unfolding decidedOf
       decided-above above = rw (passed, inside, choice-tested ∙ lt-ltb (g - l) choice above)
 
-      pub decided-sends : choice ≤ g - l → (kept h : ℕ) → kept ≡ b + input - (l + choice) → ((s : ℕ) → h ≡ heldAfter (x .operator) (heldWith x words b) input s .h)
+      pub decided-sends : choice ≤ g - l → (kept h : ℕ) → kept ≡ b + input - (l + choice) → ((s : ℕ) → h ≡ heldAfter (x .operator) (holdsWith x words b) input s .h)
           → Decided.Sends (record { 0 = l + choice }) (record { 0 = kept }) (record { 0 = h }) ≡ decidedOf x words b input choice
       unfolding decidedOf
       decided-sends below kept h kept-same h-same =
           let s = sentWith x words b input choice in
-          let stays : kept ≡ heldOnce x words b input s .b = kept-same ∙ ap (λ (n : ℕ). b + input - n) sent-same ∙ sym (after-b (x .operator) (heldWith x words b) input s) in
+          let stays : kept ≡ holdsOnce x words b input s .b = kept-same ∙ ap (λ (n : ℕ). b + input - n) sent-same ∙ sym (after-b (x .operator) (holdsWith x words b) input s) in
           rw (passed, inside, choice-tested ∙ le-ltb (g - l) choice below) (rw (sent-same, stays, h-same s) refl)
 
 -- What keeping answers.
@@ -135,7 +135,7 @@ module _ (x : SingleOperator) (words : List ℕ) (input kept beside : ℕ) where
       )
 
       module _ (after : List ℕ) (size : length after ≡ wordCount)
-          (used : (a : ℕ) → a < wordsUsed (x .operator) → wordAt after a ≡ min (ofAge (heldIn x words) input a) (kept - total (ofAge (heldIn x words) input) a))
+          (used : (a : ℕ) → a < wordsUsed (x .operator) → wordAt after a ≡ min (ofAge (holds x words) input a) (kept - total (ofAge (holds x words) input) a))
           (unused : (a : ℕ) → wordsUsed (x .operator) ≤ a → wordAt after a ≡ wordAt words a) where
         word-kept : (a : ℕ) (t : Bool) → ltb a (wordsUsed (x .operator)) ≡ t → wordAt after a ≡ pick t (newestOf x words input kept a) (wordAt words a)
         unfolding newestOf
@@ -181,12 +181,12 @@ past-next (Delayer d) x r s a whole fits = pick-first (ltb a (d .0)) _ _ 0 (λ e
 
 module _ (x : SingleOperator) (words : List ℕ) (stored : Usable x words) where
   -- the least output and a choice that is not above greatest minus least are there to send
-  pub sent-fits : numberInRange (x .operator) ≡ true → (input choice : ℕ) → choiceAbove x words input choice ≡ false → sent x words input choice ≤ heldIn x words .b + input
+  pub sent-fits : numberInRange (x .operator) ≡ true → (input choice : ℕ) → choiceAbove x words input choice ≡ false → sent x words input choice ≤ holds x words .b + input
   unfolding choiceAbove sent
   sent-fits inside input choice below =
       let op = x .operator in
       let t = x .slot .0 in
-      let held = heldIn x words in
+      let held = holds x words in
       omega (
         arith,
         ltb-false (greatestOutput op t held input - leastOutput op t held input) choice below,
@@ -195,48 +195,48 @@ module _ (x : SingleOperator) (words : List ℕ) (stored : Usable x words) where
       )
 
   -- 1 of a decision is then the choice's test alone
-  pub choice-alone : (input choice : ℕ) → input ≤ mostOnTheWay → undecidable x words (heldIn x words .b) input choice ≡ ltb largestAmount choice
+  pub choice-alone : (input choice : ℕ) → input ≤ mostOnTheWay → undecidable x words (holds x words .b) input choice ≡ ltb largestAmount choice
   choice-alone input choice within =
-      let fits : Fit (length words) wordCount (x .slot .0) (heldIn x words .b) (x .beside .0) = record {
+      let fits : Fit (length words) wordCount (x .slot .0) (holds x words .b) (x .beside .0) = record {
         sized = stored .sized;
         slot-left = stored .slot-left;
         first-le = b-le x words stored;
         second-le = beside-le x words stored;
       } in
-      sym (undecidable-choice x words (heldIn x words .b) input choice (none-unfit _ _ _ _ _ fits) within)
+      sym (undecidable-choice x words (holds x words .b) input choice (none-unfit _ _ _ _ _ fits) within)
 
   module _ (inside : numberInRange (x .operator) ≡ true) where
     pub decided-next : (input choice : ℕ) → input ≤ mostOnTheWay → choice ≤ largestAmount
-        → decidedOf x words (heldIn x words .b) input choice
+        → decidedOf x words (holds x words .b) input choice
         ≡ pick (choiceAbove x words input choice) (Decided.Refused (ChoiceAboveGreatest 0))
-        (Decided.Sends (record { 0 = sent x words input choice }) (record { 0 = heldNext x words input (sent x words input choice) .b }) (record { 0 = heldNext x words input (sent x words input choice) .h }))
-    unfolding decidedOf choiceAboveWith sentWith choiceAbove sent heldNext heldIn
+        (Decided.Sends (record { 0 = sent x words input choice }) (record { 0 = holdsNext x words input (sent x words input choice) .b }) (record { 0 = holdsNext x words input (sent x words input choice) .h }))
+    unfolding decidedOf choiceAboveWith sentWith choiceAbove sent holdsNext holds
     decided-next input choice within fits =
         pick-false _ _ _ (choice-alone input choice within ∙ le-ltb largestAmount choice fits) ∙ pick-false _ _ _ (ap not inside)
 
-    module _ (input s : ℕ) (fits : s ≤ heldIn x words .b + input) where
+    module _ (input s : ℕ) (fits : s ≤ holds x words .b + input) where
       abbrev b-next : ℕ
-      b-next = heldNext x words input s .b
+      b-next = holdsNext x words input s .b
 
       abbrev h-next : ℕ
-      h-next = heldNext x words input s .h
+      h-next = holdsNext x words input s .h
 
-      newest-same : (a : ℕ) → newestOf x words input b-next a ≡ min (ofAge (heldIn x words) input a) (heldIn x words .b + input - s - total (ofAge (heldIn x words) input) a)
-      unfolding newestOf heldNext
+      newest-same : (a : ℕ) → newestOf x words input b-next a ≡ min (ofAge (holds x words) input a) (holds x words .b + input - s - total (ofAge (holds x words) input) a)
+      unfolding newestOf holdsNext
       newest-same a =
-          ap (λ (n : ℕ). min (ofAge (heldIn x words) input a) (n - total (ofAge (heldIn x words) input) a)) (after-b (x .operator) (heldIn x words) input s)
+          ap (λ (n : ℕ). min (ofAge (holds x words) input a) (n - total (ofAge (holds x words) input) a)) (after-b (x .operator) (holds x words) input s)
 
       word-picked : (a : ℕ) (t : Bool) → ltb a (wordsUsed (x .operator)) ≡ t
           → pick t (newestOf x words input b-next a) (wordAt words a)
-          ≡ pick t (min (ofAge (heldIn x words) input a) (heldIn x words .b + input - s - total (ofAge (heldIn x words) input) a)) 0
+          ≡ pick t (min (ofAge (holds x words) input a) (holds x words .b + input - s - total (ofAge (holds x words) input) a)) 0
       word-picked a true e = newest-same a
       word-picked a false e = word-none x words stored a (ltb-false a (wordsUsed (x .operator)) e)
 
-      word-next : (a : ℕ) → wordKept x words input b-next a ≡ heldNext x words input s .past a
-      unfolding wordKept heldNext
+      word-next : (a : ℕ) → wordKept x words input b-next a ≡ holdsNext x words input s .past a
+      unfolding wordKept holdsNext
       word-next a =
           word-picked a (ltb a (wordsUsed (x .operator))) refl
-          ∙ sym (past-next (x .operator) (heldIn x words) input s a (whole-stored x words stored inside) fits)
+          ∙ sym (past-next (x .operator) (holds x words) input s a (whole-stored x words stored inside) fits)
 
       words-next : listOf (wordKept x words input b-next) wordCount ≡ wordsNext x words input s
       unfolding wordsNext
@@ -252,9 +252,9 @@ module _ (x : SingleOperator) (words : List ℕ) (stored : Usable x words) where
       unfolding leavesTooMuch
       left-tested = amounts-tested (length words) wordCount (x .slot .0) b-next h-next (stored .sized) (stored .slot-left)
 
-      pub kept-next : heldNext x words input s .b ≤ largestAmount → heldNext x words input s .h ≤ largestAmount
-          → (keptOf x words (heldNext x words input s .b) (heldNext x words input s .h) ≡ Kept.Next (stateNext x words input s))
-          × (wordsKept x words input (heldNext x words input s .b) (heldNext x words input s .h) ≡ wordsNext x words input s)
+      pub kept-next : holdsNext x words input s .b ≤ largestAmount → holdsNext x words input s .h ≤ largestAmount
+          → (keptOf x words (holdsNext x words input s .b) (holdsNext x words input s .h) ≡ Kept.Next (stateNext x words input s))
+          × (wordsKept x words input (holdsNext x words input s .b) (holdsNext x words input s .h) ≡ wordsNext x words input s)
       kept-next b-fits h-fits =
           let tested = none-unfit (length words) wordCount (x .slot .0) b-next h-next (record { sized = stored .sized; slot-left = stored .slot-left; first-le = b-fits; second-le = h-fits }) in
           let (answer, after) = keeping x words input b-next h-next tested inside in
@@ -262,8 +262,8 @@ module _ (x : SingleOperator) (words : List ℕ) (stored : Usable x words) where
 
       -- 1, tested last, is the test of what is kept
       pub kept-or-refused : (more : Bool) → leavesTooMuch x words input s ≡ more
-          → (keptOf x words (heldNext x words input s .b) (heldNext x words input s .h) ≡ pick more (Kept.Refused Unusable) (Kept.Next (stateNext x words input s)))
-          × (wordsKept x words input (heldNext x words input s .b) (heldNext x words input s .h) ≡ pick more words (wordsNext x words input s))
+          → (keptOf x words (holdsNext x words input s .b) (holdsNext x words input s .h) ≡ pick more (Kept.Refused Unusable) (Kept.Next (stateNext x words input s)))
+          × (wordsKept x words input (holdsNext x words input s .b) (holdsNext x words input s .h) ≡ pick more words (wordsNext x words input s))
       kept-or-refused true leaves =
           let (answer, after) = kept-unusable x words input b-next h-next (left-tested ∙ leaves) in
           (sym answer, sym after)

@@ -53,8 +53,8 @@ usesBeside (Operator.Filter R) = true
 usesBeside (Operator.Delayer d) = false
 
 -- section 3's b and h, and what a delayer holds of each past slot: its b is the sum of its words
-unfoldable pub heldIn : SingleOperator → List ℕ → Held
-heldIn x words = record { b = pick (usesHeld (x .operator)) (x .held .0) (total (wordAt words) wordCount); h = x .beside .0; past = wordAt words }
+unfoldable pub holds : SingleOperator → List ℕ → Held
+holds x words = record { b = pick (usesHeld (x .operator)) (x .held .0) (total (wordAt words) wordCount); h = x .beside .0; past = wordAt words }
 
 -- 1, of what is lent and stored: the words have a wrong length, no slot number is left, a stored amount is above the limit or should be 0 and is not;
 -- a delayer's b, the sum of its words, is a stored amount too
@@ -74,10 +74,10 @@ unfoldable pub unusable : ℕ → SingleOperator → List ℕ → ℕ → Bool
 unusable most x words input = either (ltb most input) (storedUnusable x words)
 
 least : SingleOperator → List ℕ → ℕ → ℕ
-least x words input = leastOutput (x .operator) (x .slot .0) (heldIn x words) input
+least x words input = leastOutput (x .operator) (x .slot .0) (holds x words) input
 
 greatest : SingleOperator → List ℕ → ℕ → ℕ
-greatest x words input = greatestOutput (x .operator) (x .slot .0) (heldIn x words) input
+greatest x words input = greatestOutput (x .operator) (x .slot .0) (holds x words) input
 
 -- the least and greatest output of a step, or the refusal: 1, then 5
 unfoldable pub boundsOf : ℕ → SingleOperator → List ℕ → ℕ → Bounds
@@ -96,8 +96,8 @@ unfolding least
 sent x words input choice = least x words input + choice
 
 -- what is held once s is sent
-unfoldable pub heldNext : SingleOperator → List ℕ → ℕ → ℕ → Held
-heldNext x words input s = heldAfter (x .operator) (heldIn x words) input s
+unfoldable pub holdsNext : SingleOperator → List ℕ → ℕ → ℕ → Held
+holdsNext x words input s = heldAfter (x .operator) (holds x words) input s
 
 -- 14: the choice is above greatest minus least
 unfoldable pub choiceAbove : SingleOperator → List ℕ → ℕ → ℕ → Bool
@@ -106,7 +106,7 @@ choiceAbove x words input choice = ltb (greatest x words input - least x words i
 
 -- 1, tested last: the call would leave such an amount stored
 unfoldable pub leavesTooMuch : SingleOperator → List ℕ → ℕ → ℕ → Bool
-leavesTooMuch x words input s = either (ltb largestAmount (heldNext x words input s .b)) (ltb largestAmount (heldNext x words input s .h))
+leavesTooMuch x words input s = either (ltb largestAmount (holdsNext x words input s .b)) (ltb largestAmount (holdsNext x words input s .h))
 
 -- a step goes through 1, 5 and 14, and 1 again
 abbrev pub stepCases : ℕ → SingleOperator → List ℕ → ℕ → ℕ → List Case
@@ -123,13 +123,13 @@ stateNext x words input s =
     record {
       operator = x .operator;
       slot = record { 0 = x .slot .0 + 1 };
-      held = record { 0 = pick (usesHeld (x .operator)) (heldNext x words input s .b) 0 };
-      beside = record { 0 = heldNext x words input s .h };
+      held = record { 0 = pick (usesHeld (x .operator)) (holdsNext x words input s .b) 0 };
+      beside = record { 0 = holdsNext x words input s .h };
     }
 
 -- the words once s is sent: what the operator holds of each past slot
 unfoldable pub wordsNext : SingleOperator → List ℕ → ℕ → ℕ → List ℕ
-wordsNext x words input s = listOf (heldNext x words input s .past) wordCount
+wordsNext x words input s = listOf (holdsNext x words input s .past) wordCount
 
 sentAnswer : SingleOperator → List ℕ → ℕ → ℕ → Stepped
 sentAnswer x words input s = Stepped.Sent (record { 0 = s }) (stateNext x words input s)

@@ -13,7 +13,7 @@ use Rattle.operator.specs.Held.{Held}
 use Rattle.operator.specs.Delayer.{ofAge}
 use Rattle.words.specs.Stored.{wordAt}
 use Rattle.operator.specs.Operators.{leastOutput, greatestOutput, heldAfter, numberInRange}
-use Rattle.operator.specs.Single.{wordCount, mostOnTheWay, wordsUsed, usesHeld, heldIn, storedUnusable}
+use Rattle.operator.specs.Single.{wordCount, mostOnTheWay, wordsUsed, usesHeld, holds, storedUnusable}
 use Rattle.operator.specs.declared.SingleOperator.{SingleOperator}
 use Rattle.operator.specs.declared.single.Stored.{Stored}
 use Rattle.operator.specs.declared.single.Decided.{Decided}
@@ -21,11 +21,11 @@ use Rattle.operator.specs.declared.single.Kept.{Kept}
 
 -- Test: section 3's b, unless what is lent and stored cannot be used
 unfoldable pub storedOf : SingleOperator → List ℕ → Stored
-storedOf x words = pick (storedUnusable x words) Stored.Unusable (Stored.Holds (record { 0 = heldIn x words .b }))
+storedOf x words = pick (storedUnusable x words) Stored.Unusable (Stored.Holds (record { 0 = holds x words .b }))
 
 -- what is held, where b is given beside the words
-abbrev pub heldWith : SingleOperator → List ℕ → ℕ → Held
-heldWith x words b = record { b = b; h = x .beside .0; past = wordAt words }
+abbrev pub holdsWith : SingleOperator → List ℕ → ℕ → Held
+holdsWith x words b = record { b = b; h = x .beside .0; past = wordAt words }
 
 -- 1 of a decision: the words have a wrong length, no slot number is left, an amount is above its limit
 unfoldable pub undecidable : SingleOperator → List ℕ → ℕ → ℕ → ℕ → Bool
@@ -41,16 +41,16 @@ undecidable x words b input choice =
 
 -- what is sent: the least and the choice
 unfoldable pub sentWith : SingleOperator → List ℕ → ℕ → ℕ → ℕ → ℕ
-sentWith x words b input choice = leastOutput (x .operator) (x .slot .0) (heldWith x words b) input + choice
+sentWith x words b input choice = leastOutput (x .operator) (x .slot .0) (holdsWith x words b) input + choice
 
 -- 14: the choice is above greatest minus least
 unfoldable pub choiceAboveWith : SingleOperator → List ℕ → ℕ → ℕ → ℕ → Bool
 choiceAboveWith x words b input choice =
-    ltb (greatestOutput (x .operator) (x .slot .0) (heldWith x words b) input - leastOutput (x .operator) (x .slot .0) (heldWith x words b) input) choice
+    ltb (greatestOutput (x .operator) (x .slot .0) (holdsWith x words b) input - leastOutput (x .operator) (x .slot .0) (holdsWith x words b) input) choice
 
 -- what is held once s is sent
-abbrev pub heldOnce : SingleOperator → List ℕ → ℕ → ℕ → ℕ → Held
-heldOnce x words b input s = heldAfter (x .operator) (heldWith x words b) input s
+abbrev pub holdsOnce : SingleOperator → List ℕ → ℕ → ℕ → ℕ → Held
+holdsOnce x words b input s = heldAfter (x .operator) (holdsWith x words b) input s
 
 -- Decide: what is sent, what stays and a filter's h then, whatever they are; or 1, 5 or 14
 unfoldable pub decidedOf : SingleOperator → List ℕ → ℕ → ℕ → ℕ → Decided
@@ -63,12 +63,12 @@ decidedOf x words b input choice =
     Decided.Refused
     (Decided.Sends
     (record { 0 = sentWith x words b input choice })
-    (record { 0 = heldOnce x words b input (sentWith x words b input choice) .b })
-    (record { 0 = heldOnce x words b input (sentWith x words b input choice) .h }))
+    (record { 0 = holdsOnce x words b input (sentWith x words b input choice) .b })
+    (record { 0 = holdsOnce x words b input (sentWith x words b input choice) .h }))
 
 -- of the units of age a, the input being of age 0, what stays where the newest stay, `kept` of them in all: the younger ones take their room first
 unfoldable pub newestOf : SingleOperator → List ℕ → ℕ → ℕ → ℕ → ℕ
-newestOf x words input kept a = min (ofAge (heldIn x words) input a) (kept - total (ofAge (heldIn x words) input) a)
+newestOf x words input kept a = min (ofAge (holds x words) input a) (kept - total (ofAge (holds x words) input) a)
 
 -- 1 and 5 of keeping
 abbrev pub keepCases : SingleOperator → List ℕ → ℕ → ℕ → List Case

@@ -12,13 +12,13 @@ use Rattle.quantity.specs.declared.refusal.Refusal.the-variants.{Unusable}
 use Rattle.quantity.proofs.Laws.{pick-true, pick-false}
 use Rattle.quantity.proofs.Refusals.{firstOf-map}
 use Rattle.sheet.specs.declared.read.Verdict.{Verdict}
-use Rattle.sheet.specs.Sheets.{sheetCases, pathIn, lineIn}
+use Rattle.sheet.specs.Sheets.{sheetCases, valueIn, pathIn}
 use Rattle.sheet.proofs.Runs.{stored-first}
 use Rattle.figures.specs.declared.PathFigures.{PathFigures}
-use Rattle.figures.specs.Answers.{lineCases, refusedFigures, acceptedFigures, figuresOf}
+use Rattle.figures.specs.Answers.{pathCases, refusedFigures, acceptedFigures, figuresOf}
 use Rattle.page.specs.declared.Paged.{Paged}
 use Rattle.page.specs.Pages.{pageOf}
-use Rattle.page.specs.Answers.{pageCases, pageAnswer, behindPage, bytesAfter}
+use Rattle.page.specs.Answers.{pageCases, pageAnswer, behindPage, bytesPaged}
 
 abbrev answeredBy : List ℕ → Verdict → Paged
 answeredBy page Verdict.Accepted = Paged.Length (length page)
@@ -30,15 +30,15 @@ leftBy page lent (Verdict.Refused why) = lent
 
 module _ (sheet lent : List ℕ) where
   abbrev page : List ℕ
-  page = pageOf (lineIn sheet)
+  page = pageOf (pathIn sheet)
 
   -- what is answered, and what the bytes hold then
   abbrev pub Paging : Paged → List ℕ → Type 0
-  Paging answer after = (answer ≡ pageAnswer sheet lent) × (after ≡ bytesAfter sheet lent)
+  Paging answer after = (answer ≡ pageAnswer sheet lent) × (after ≡ bytesPaged sheet lent)
 
   -- 1: the bytes have a wrong length
   pub paging-unsized : (length lent ≡ 1037 → ⊥) → Paging (Paged.Refused Unusable) lent
-  unfolding pageAnswer bytesAfter pageCases
+  unfolding pageAnswer bytesPaged pageCases
   paging-unsized wrong = let stands = ap not (ne-eqb (length lent) 1037 wrong) in (sym (pick-true _ _ _ stands), sym (pick-true _ _ _ stands))
 
   module _ (sized : length lent ≡ 1037) where
@@ -49,13 +49,13 @@ module _ (sheet lent : List ℕ) where
     answered-by : answeredBy page (figuresOf sheet .verdict) ≡ pageAnswer sheet lent
     unfolding pageAnswer pageCases figuresOf
     answered-by =
-        firstOf-map (λ (figures : PathFigures). answeredBy page (figures .verdict)) refusedFigures (acceptedFigures (pathIn sheet) (lineIn sheet)) (sheetCases sheet ++ lineCases (lineIn sheet))
+        firstOf-map (λ (figures : PathFigures). answeredBy page (figures .verdict)) refusedFigures (acceptedFigures (valueIn sheet) (pathIn sheet)) (sheetCases sheet ++ pathCases (pathIn sheet))
         ∙ sym (pick-false _ _ _ passed)
 
-    left-by : leftBy page lent (figuresOf sheet .verdict) ≡ bytesAfter sheet lent
-    unfolding bytesAfter pageCases figuresOf
+    left-by : leftBy page lent (figuresOf sheet .verdict) ≡ bytesPaged sheet lent
+    unfolding bytesPaged pageCases figuresOf
     left-by =
-        firstOf-map (λ (figures : PathFigures). leftBy page lent (figures .verdict)) refusedFigures (acceptedFigures (pathIn sheet) (lineIn sheet)) (sheetCases sheet ++ lineCases (lineIn sheet))
+        firstOf-map (λ (figures : PathFigures). leftBy page lent (figures .verdict)) refusedFigures (acceptedFigures (valueIn sheet) (pathIn sheet)) (sheetCases sheet ++ pathCases (pathIn sheet))
         ∙ sym (pick-false _ _ _ passed)
 
     pub paging-refused : {why : Refusal} → figuresOf sheet .verdict ≡ Verdict.Refused why → Paging (Paged.Refused why) lent

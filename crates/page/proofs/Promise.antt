@@ -13,15 +13,15 @@ use Rattle.quantity.proofs.Refusals.{NoneStands, firstOf-none, none-where-resul
 use Rattle.operator.specs.declared.Operator.{Operator}
 use Rattle.sheet.specs.declared.read.Verdict.{Verdict}
 use Rattle.sheet.specs.Bodies.{operatorByte}
-use Rattle.sheet.specs.Paths.{Line, linkAt}
-use Rattle.sheet.specs.Sheets.{sheetCases, pathIn, lineIn}
+use Rattle.sheet.specs.Paths.{Path, linkAt}
+use Rattle.sheet.specs.Sheets.{sheetCases, valueIn, pathIn}
 use Rattle.figures.specs.declared.Figure.{Figure}
 use Rattle.figures.specs.declared.PathFigures.{PathFigures}
-use Rattle.figures.specs.Answers.{operatorAt, capacityAt, pathDelay, lineCases, figureAt, refusedFigures, acceptedFigures, figuresOf}
+use Rattle.figures.specs.Answers.{operatorAt, capacityAt, pathDelay, pathCases, figureAt, refusedFigures, acceptedFigures, figuresOf}
 use Rattle.page.specs.declared.Paged.{Paged}
 use Rattle.page.specs.Columns.{Cell, charactersOf}
 use Rattle.page.specs.Pages.{widths, lineFeed, lineOf, pathName, operatorCells, pathCells, cellsAt, sumCells, rowsOf, pageOf}
-use Rattle.page.specs.Answers.{pageCases, pageAnswer, behindPage, bytesAfter}
+use Rattle.page.specs.Answers.{pageCases, pageAnswer, behindPage, bytesPaged}
 use Rattle.page.specs.Reading.{lineLength, lineAt, cut, columnAt, numberIn, kindIn, Entry, entryAt, readLines, readPage, entryOf, figuresIn}
 use Rattle.page.specs.Shape.{Fits, Shaped}
 use Rattle.page.proofs.Bytes.{lacks}
@@ -59,82 +59,82 @@ sums-read : (capacity delay : ℕ) {columns : List (List ℕ)} → columns ≡ e
 unfolding each widths pathCells
 sums-read capacity delay cut = rw cut (number-read 20 capacity, number-read 20 delay)
 
-module _ (line : Line) where
-  rows-count : length (rowsOf line) ≡ length (line .places) + 1
+module _ (path : Path) where
+  rows-count : length (rowsOf path) ≡ length (path .operators) + 1
   unfolding rowsOf
   rows-count = rw (length-append, length-listOf)
 
-  row-at : (k : ℕ) → k < length (line .places) → getD (rowsOf line) k [] ≡ cellsAt line k
+  row-at : (k : ℕ) → k < length (path .operators) → getD (rowsOf path) k [] ≡ cellsAt path k
   unfolding rowsOf
-  row-at k less = List·getD-append (listOf (cellsAt line) (length (line .places))) (sumCells line ∷ []) [] k (rw length-listOf less) ∙ getD-listOf [] (cellsAt line) (length (line .places)) k less
+  row-at k less = List·getD-append (listOf (cellsAt path) (length (path .operators))) (sumCells path ∷ []) [] k (rw length-listOf less) ∙ getD-listOf [] (cellsAt path) (length (path .operators)) k less
 
-  last-row : getD (rowsOf line) (length (line .places)) [] ≡ sumCells line
+  last-row : getD (rowsOf path) (length (path .operators)) [] ≡ sumCells path
   unfolding rowsOf
-  last-row = getD-at (listOf (cellsAt line) (length (line .places))) (sumCells line) [] [] (length (line .places)) (length-listOf (cellsAt line) (length (line .places)))
+  last-row = getD-at (listOf (cellsAt path) (length (path .operators))) (sumCells path) [] [] (length (path .operators)) (length-listOf (cellsAt path) (length (path .operators)))
 
 module _ (sheet : List ℕ) (accepted : figuresOf sheet .verdict ≡ Verdict.Accepted) where
-  abbrev line : Line
-  line = lineIn sheet
+  abbrev path : Path
+  path = pathIn sheet
 
   abbrev operators : ℕ
-  operators = length (line .places)
+  operators = length (path .operators)
 
   abbrev page : List ℕ
-  page = pageOf line
+  page = pageOf path
 
-  pub cells-sound : (k : ℕ) → k < operators → Sound (cellsAt line k)
+  pub cells-sound : (k : ℕ) → k < operators → Sound (cellsAt path k)
   unfolding cellsAt figureAt
   cells-sound k less =
       let few = few-operators sheet accepted in
-      operator-sound k (operatorAt line k) _ (figureAt line k) (omega arith) (link-le sheet accepted _) (capacity-le sheet accepted k less) (delay-le sheet accepted k less)
+      operator-sound k (operatorAt path k) _ (figureAt path k) (omega arith) (link-le sheet accepted _) (capacity-le sheet accepted k less) (delay-le sheet accepted k less)
 
-  rows-sound : AllSound (rowsOf line)
+  rows-sound : AllSound (rowsOf path)
   unfolding rowsOf sumCells
   rows-sound =
-      sound-append (listOf (cellsAt line) operators) (sumCells line ∷ [])
-      (sound-list (cellsAt line) operators cells-sound)
-      (path-sound (total (capacityAt line) operators) (pathDelay line) (omega (arith, capacities-le sheet accepted operators (omega arith))) (path-delay-le sheet accepted), tt)
+      sound-append (listOf (cellsAt path) operators) (sumCells path ∷ [])
+      (sound-list (cellsAt path) operators cells-sound)
+      (path-sound (total (capacityAt path) operators) (pathDelay path) (omega (arith, capacities-le sheet accepted operators (omega arith))) (path-delay-le sheet accepted), tt)
 
   -- every figure fits its column, the sums too
-  pub figures-fit : (j : ℕ) → j < length (rowsOf line) → Fits widths (getD (rowsOf line) j [])
-  figures-fit j less = sound-at (rowsOf line) rows-sound j less .0
+  pub figures-fit : (j : ℕ) → j < length (rowsOf path) → Fits widths (getD (rowsOf path) j [])
+  figures-fit j less = sound-at (rowsOf path) rows-sound j less .0
 
   pub page-length : length page ≡ 61 * (operators + 1)
   unfolding pageOf
-  page-length = length-lines (rowsOf line) rows-sound ∙ ap (λ (n : ℕ). 61 * n) (rows-count line)
+  page-length = length-lines (rowsOf path) rows-sound ∙ ap (λ (n : ℕ). 61 * n) (rows-count path)
 
   -- the page's length is 61 times the number of lines, and every line has 60 characters and its line feed, and no other
   pub page-shaped : Shaped (operators + 1) page
   unfolding pageOf
-  page-shaped = rw (rows-count line) at (lines-shaped (rowsOf line) rows-sound)
+  page-shaped = rw (rows-count path) at (lines-shaped (rowsOf path) rows-sound)
 
-  columns-cut : (j : ℕ) → j < operators + 1 → {cells : List Cell} → getD (rowsOf line) j [] ≡ cells → cut widths (lineAt page j) ≡ each widths cells
+  columns-cut : (j : ℕ) → j < operators + 1 → {cells : List Cell} → getD (rowsOf path) j [] ≡ cells → cut widths (lineAt page j) ≡ each widths cells
   unfolding pageOf lineOf
   columns-cut j less {cells} row =
-      let inside : j < length (rowsOf line) = rw (rows-count line) less in
-      ap (cut widths) (line-at (rowsOf line) rows-sound j inside)
-      ∙ cut-columns widths (getD (rowsOf line) j []) (lineFeed ∷ []) (figures-fit j inside)
+      let inside : j < length (rowsOf path) = rw (rows-count path) less in
+      ap (cut widths) (line-at (rowsOf path) rows-sound j inside)
+      ∙ cut-columns widths (getD (rowsOf path) j []) (lineFeed ∷ []) (figures-fit j inside)
       ∙ ap (each widths) row
 
-  entries-read : (k : ℕ) → k < operators → entryAt page k ≡ entryOf line k
+  entries-read : (k : ℕ) → k < operators → entryAt page k ≡ entryOf path k
   unfolding entryAt entryOf columnAt cellsAt figureAt
-  entries-read k less = entry-read k (operatorAt line k) (linkAt line k) (figureAt line k) (columns-cut k (omega arith) (row-at line k less))
+  entries-read k less = entry-read k (operatorAt path k) (linkAt path k) (figureAt path k) (columns-cut k (omega arith) (row-at path k less))
 
-  path-read : (numberIn (columnAt page operators 3) ≡ total (capacityAt line) operators) × (numberIn (columnAt page operators 4) ≡ pathDelay line)
+  path-read : (numberIn (columnAt page operators 3) ≡ total (capacityAt path) operators) × (numberIn (columnAt page operators 4) ≡ pathDelay path)
   unfolding columnAt sumCells
-  path-read = sums-read (total (capacityAt line) operators) (pathDelay line) (columns-cut operators (omega arith) (last-row line))
+  path-read = sums-read (total (capacityAt path) operators) (pathDelay path) (columns-cut operators (omega arith) (last-row path))
 
   lines-counted : length page / lineLength ≡ operators + 1
   lines-counted = rw (line-length, page-length) (omega arith)
 
   -- the figures are read off the page again
-  pub figures-read : readPage page ≡ figuresIn line
+  pub figures-read : readPage page ≡ figuresIn path
   unfolding readPage readLines figuresIn
   figures-read =
       let last : operators + 1 - 1 ≡ operators = omega arith in
-      let same : listOf (entryAt page) operators ≡ listOf (entryOf line) operators =
-      listOf-ext (entryOf line 0) (entryOf line) operators (listOf (entryAt page) operators) (length-listOf (entryAt page) operators)
-      (λ k less. getD-listOf (entryOf line 0) (entryAt page) operators k less ∙ entries-read k less) in
+      let same : listOf (entryAt page) operators ≡ listOf (entryOf path) operators =
+      listOf-ext (entryOf path 0) (entryOf path) operators (listOf (entryAt page) operators) (length-listOf (entryAt page) operators)
+      (λ k less. getD-listOf (entryOf path 0) (entryAt page) operators k less ∙ entries-read k less) in
       rw (lines-counted, last, same, path-read .0, path-read .1)
 
 -- a call that answers a length: it was lent enough, and it left the page, off which the figures are read
@@ -142,7 +142,7 @@ module _ (sheet lent : List ℕ) (n : ℕ) (answered : pageAnswer sheet lent ≡
   none-stands : NoneStands (pageCases sheet lent)
   unfolding pageAnswer
   none-stands =
-      none-where-result Paged.Refused (Paged.Length (length (pageOf (lineIn sheet)))) (λ (answer : Paged). answer ≡ Paged.Length n)
+      none-where-result Paged.Refused (Paged.Length (length (pageOf (pathIn sheet)))) (λ (answer : Paged). answer ≡ Paged.Length n)
       (λ why e. let never : _≡_ {A = ℕ} 0 1 = cc in omega arith) (pageCases sheet lent) answered
 
   length-lent : length lent ≡ 1037
@@ -151,22 +151,22 @@ module _ (sheet lent : List ℕ) (n : ℕ) (answered : pageAnswer sheet lent ≡
 
   pub answered-accepted : figuresOf sheet .verdict ≡ Verdict.Accepted
   unfolding pageCases figuresOf acceptedFigures
-  answered-accepted = ap (λ (figures : PathFigures). figures .verdict) (firstOf-none refusedFigures (acceptedFigures (pathIn sheet) (lineIn sheet)) (sheetCases sheet ++ lineCases (lineIn sheet)) (none-stands .1))
+  answered-accepted = ap (λ (figures : PathFigures). figures .verdict) (firstOf-none refusedFigures (acceptedFigures (valueIn sheet) (pathIn sheet)) (sheetCases sheet ++ pathCases (pathIn sheet)) (none-stands .1))
 
-  pub length-answered : n ≡ length (pageOf (lineIn sheet))
+  pub length-answered : n ≡ length (pageOf (pathIn sheet))
   unfolding pageAnswer
   length-answered =
-      let made : Paged.Length n ≡ Paged.Length (length (pageOf (lineIn sheet))) = sym answered ∙ firstOf-none Paged.Refused (Paged.Length (length (pageOf (lineIn sheet)))) (pageCases sheet lent) none-stands in
+      let made : Paged.Length n ≡ Paged.Length (length (pageOf (pathIn sheet))) = sym answered ∙ firstOf-none Paged.Refused (Paged.Length (length (pageOf (pathIn sheet)))) (pageCases sheet lent) none-stands in
       cc
 
   pub page-room : n ≤ length lent
   page-room = omega (arith, length-answered, length-lent, page-length sheet answered-accepted, few-operators sheet answered-accepted)
 
-  pub page-left : take n (bytesAfter sheet lent) ≡ pageOf (lineIn sheet)
-  unfolding bytesAfter behindPage
+  pub page-left : take n (bytesPaged sheet lent) ≡ pageOf (pathIn sheet)
+  unfolding bytesPaged behindPage
   page-left =
-      ap (take n) (firstOf-none (λ why. lent) (behindPage (pageOf (lineIn sheet)) lent) (pageCases sheet lent) none-stands)
-      ∙ take-at (pageOf (lineIn sheet)) _ n (sym length-answered)
+      ap (take n) (firstOf-none (λ why. lent) (behindPage (pageOf (pathIn sheet)) lent) (pageCases sheet lent) none-stands)
+      ∙ take-at (pageOf (pathIn sheet)) _ n (sym length-answered)
 
-  pub read-back : readPage (take n (bytesAfter sheet lent)) ≡ figuresIn (lineIn sheet)
+  pub read-back : readPage (take n (bytesPaged sheet lent)) ≡ figuresIn (pathIn sheet)
   read-back = ap readPage page-left ∙ figures-read sheet answered-accepted

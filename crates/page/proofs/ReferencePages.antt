@@ -11,8 +11,8 @@ use Rattle.operator.specs.Operators.{compactor, expander}
 use Rattle.flow.specs.declared.Kind.{Kind}
 use Rattle.operator.specs.declared.Operator.{Operator}
 use Rattle.text.specs.Decimals.{withDigit, withDigits, valueOf}
-use Rattle.sheet.specs.declared.Place.{Place}
-use Rattle.sheet.specs.Paths.{Line}
+use Rattle.sheet.specs.declared.LinkedOperator.{LinkedOperator}
+use Rattle.sheet.specs.Paths.{Path}
 use Rattle.sheet.specs.Bodies.{operatorByte}
 use Rattle.figures.specs.Progress.{behind, progressAt}
 use Rattle.figures.specs.Figures.{partCapacity, partDelay, capacity, ownDelay, pairs, isFramed}
@@ -27,15 +27,15 @@ unfolding columns column decimal digitsOf pathName
 columns-computed = refl
 
 -- smooth (10, 30), wanted 30; compactor and expander 10 on link 0, and again on link 1
-abbrev on : ℕ → Operator → Place
+abbrev on : ℕ → Operator → LinkedOperator
 on link operator = record { operator = operator; link = record { 0 = link } }
 
-abbrev frames : Line
+abbrev frames : Path
 frames =
     record {
       declaration = record { kind = Kind.Smooth; interval = record { 0 = 10 }; quota = record { 0 = 30 } };
       wanted = 30;
-      places = on 0 (compactor 10) ∷ on 0 (expander 10) ∷ on 1 (compactor 10) ∷ on 1 (expander 10) ∷ [];
+      operators = on 0 (compactor 10) ∷ on 0 (expander 10) ∷ on 1 (compactor 10) ∷ on 1 (expander 10) ∷ [];
     }
 
 -- index, kind (1 compactor, 2 expander), link, capacity and delay of each operator, and the sums

@@ -6,23 +6,23 @@ use lib.ListN.{length, drop}
 use lib.Dec.{eqb}
 use Rattle.quantity.specs.Refusals.{Case, _⇒_, firstOf}
 use Rattle.quantity.specs.declared.refusal.Refusal.the-variants.{Unusable}
-use Rattle.sheet.specs.Sheets.{sheetCases, lineIn}
-use Rattle.figures.specs.Answers.{lineCases}
+use Rattle.sheet.specs.Sheets.{sheetCases, pathIn}
+use Rattle.figures.specs.Answers.{pathCases}
 use Rattle.page.specs.declared.Paged.{Paged}
 use Rattle.page.specs.Pages.{pageOf}
 
 -- 1: the page is not lent 1,037 bytes, which is seventeen lines
 unfoldable pub pageCases : List ℕ → List ℕ → List Case
-pageCases sheet lent = (not (eqb (length lent) 1037) ⇒ Unusable) ∷ (sheetCases sheet ++ lineCases (lineIn sheet))
+pageCases sheet lent = (not (eqb (length lent) 1037) ⇒ Unusable) ∷ (sheetCases sheet ++ pathCases (pathIn sheet))
 
 -- what is answered: the page's length
 unfoldable pub pageAnswer : List ℕ → List ℕ → Paged
-pageAnswer sheet lent = firstOf (pageCases sheet lent) Paged.Refused (Paged.Length (length (pageOf (lineIn sheet))))
+pageAnswer sheet lent = firstOf (pageCases sheet lent) Paged.Refused (Paged.Length (length (pageOf (pathIn sheet))))
 
 -- a page, and behind it what was there
 unfoldable pub behindPage : List ℕ → List ℕ → List ℕ
 behindPage page lent = page ++ drop (length page) lent
 
 -- what the lent bytes hold then: the page, and behind it what they held; all that they held where it is refused
-unfoldable pub bytesAfter : List ℕ → List ℕ → List ℕ
-bytesAfter sheet lent = firstOf (pageCases sheet lent) (λ why. lent) (behindPage (pageOf (lineIn sheet)) lent)
+unfoldable pub bytesPaged : List ℕ → List ℕ → List ℕ
+bytesPaged sheet lent = firstOf (pageCases sheet lent) (λ why. lent) (behindPage (pageOf (pathIn sheet)) lent)

@@ -4,7 +4,7 @@ use mathlib.Core.List.{List, [], _∷_, _++_}
 use lib.ListN.{length, getD}
 use Rattle.quantity.specs.Sums.{total, listOf}
 use Rattle.operator.specs.declared.Operator.{Operator}
-use Rattle.sheet.specs.Paths.{Line, linkAt}
+use Rattle.sheet.specs.Paths.{Path, linkAt}
 use Rattle.sheet.specs.Bodies.{operatorByte}
 use Rattle.figures.specs.declared.Figure.{Figure}
 use Rattle.figures.specs.Answers.{operatorAt, capacityAt, pathDelay, figureAt}
@@ -54,17 +54,17 @@ unfoldable pub pathCells : ℕ → ℕ → List Cell
 pathCells capacity delay = blank ∷ text pathName ∷ blank ∷ number capacity ∷ number delay ∷ []
 
 -- the line of operator k
-unfoldable pub cellsAt : Line → ℕ → List Cell
-cellsAt line k = operatorCells k (operatorAt line k) (linkAt line k) (figureAt line k)
+unfoldable pub cellsAt : Path → ℕ → List Cell
+cellsAt path k = operatorCells k (operatorAt path k) (linkAt path k) (figureAt path k)
 
 -- the path's line: the capacities of all operators, and the path's delay
-unfoldable pub sumCells : Line → List Cell
-sumCells line = pathCells (total (capacityAt line) (length (line .places))) (pathDelay line)
+unfoldable pub sumCells : Path → List Cell
+sumCells path = pathCells (total (capacityAt path) (length (path .operators))) (pathDelay path)
 
 -- all lines of a path
-unfoldable pub rowsOf : Line → List (List Cell)
+unfoldable pub rowsOf : Path → List (List Cell)
 unfolding cellsAt sumCells
-rowsOf line = listOf (cellsAt line) (length (line .places)) ++ (sumCells line ∷ [])
+rowsOf path = listOf (cellsAt path) (length (path .operators)) ++ (sumCells path ∷ [])
 
 -- lines one behind the other
 unfoldable pub linesOf : List (List Cell) → List ℕ
@@ -72,6 +72,6 @@ linesOf [] = []
 linesOf (cells ∷ rows) = lineOf cells ++ linesOf rows
 
 -- the page of a path
-unfoldable pub pageOf : Line → List ℕ
+unfoldable pub pageOf : Path → List ℕ
 unfolding rowsOf
-pageOf line = linesOf (rowsOf line)
+pageOf path = linesOf (rowsOf path)

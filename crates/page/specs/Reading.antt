@@ -8,7 +8,7 @@ use Rattle.quantity.specs.Choice.{pick, both}
 use Rattle.quantity.specs.Sums.{total, listOf}
 use Rattle.text.specs.Rows.{space}
 use Rattle.text.specs.Decimals.{valueOf}
-use Rattle.sheet.specs.Paths.{Line, linkAt}
+use Rattle.sheet.specs.Paths.{Path, linkAt}
 use Rattle.sheet.specs.Bodies.{operatorByte}
 use Rattle.figures.specs.Answers.{operatorAt, capacityAt, delayAt, pathDelay}
 use Rattle.page.specs.Pages.{widths, kindNames}
@@ -103,20 +103,20 @@ unfoldable pub readPage : List ℕ → Reading
 readPage page = readLines page (length page / lineLength)
 
 -- what a page of a path is to say: section 4's figures
-unfoldable pub entryOf : Line → ℕ → Entry
-entryOf line k =
+unfoldable pub entryOf : Path → ℕ → Entry
+entryOf path k =
     record {
       index = k;
-      kind = operatorByte (operatorAt line k);
-      link = linkAt line k;
-      capacity = capacityAt line k;
-      delay = delayAt line k;
+      kind = operatorByte (operatorAt path k);
+      link = linkAt path k;
+      capacity = capacityAt path k;
+      delay = delayAt path k;
     }
 
-unfoldable pub figuresIn : Line → Reading
-figuresIn line =
+unfoldable pub figuresIn : Path → Reading
+figuresIn path =
     record {
-      entries = listOf (entryOf line) (length (line .places));
-      capacity = total (capacityAt line) (length (line .places));
-      delay = pathDelay line;
+      entries = listOf (entryOf path) (length (path .operators));
+      capacity = total (capacityAt path) (length (path .operators));
+      delay = pathDelay path;
     }

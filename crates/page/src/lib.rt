@@ -7,7 +7,7 @@ use quantity::Units;
 use quantity::refusal::Refusal;
 use sheet::read::Verdict;
 ghost use mathlib.Core.Path.{_≡_};
-ghost use Rattle.page.specs.Answers.{pageAnswer, bytesAfter};
+ghost use Rattle.page.specs.Answers.{pageAnswer, bytesPaged};
 
 mod column;
 mod line;
@@ -23,7 +23,7 @@ pub enum Paged {
 
 // The page of a sheet's path in the 1,037 bytes that are lent, or the first refusal of 1 to 9.
 pub fn page(sheet: &[u8], lent: &mut [u8]) -> Paged
-    ensures { λ r. ⌜ (r ≡ pageAnswer (now (sheet .entry)) (now (lent .entry))) × (now (lent .exit) ≡ bytesAfter (now (sheet .entry)) (now (lent .entry))) ⌝ }
+    ensures { λ r. ⌜ (r ≡ pageAnswer (now (sheet .entry)) (now (lent .entry))) × (now (lent .exit) ≡ bytesPaged (now (sheet .entry)) (now (lent .entry))) ⌝ }
 {
     if lent.len() != 1037 {
         return Paged::Refused(Refusal::Unusable);
@@ -39,10 +39,10 @@ pub fn page(sheet: &[u8], lent: &mut [u8]) -> Paged
     let mut at = 0;
     let mut k = 0;
     while k < count {
-        let place = path.places[k];
+        let linked = path.operators[k];
         let figure = answer.figures[k];
-        let operator = place.operator;
-        let link = place.link;
+        let operator = linked.operator;
+        let link = linked.link;
         put_operator(lent, at, k, operator, link, figure);
         capacity = capacity.plus(figure.capacity);
         at += LINE_LENGTH;

@@ -21,7 +21,7 @@ use ledger::no_record;
 use ledger::opening::no_ledger;
 use quantity::Link;
 use quantity::refusal::Refusal;
-use sheet::Path;
+use sheet::PathValue;
 use sheet::read::Verdict;
 use sheet::read::read;
 use sheet::write::Written;
@@ -303,7 +303,7 @@ fn write_back(bytes: &[u8], n: usize)
     }
 }
 
-fn write_path(path: Path) {
+fn write_path(path: PathValue) {
     let mut sheet = [0u8; 256];
     match write(path, &mut sheet) {
         Written::Refused(why) => refused(why),

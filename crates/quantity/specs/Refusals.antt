@@ -6,38 +6,38 @@ use Rattle.quantity.specs.Choice.{pick}
 use Rattle.quantity.specs.declared.refusal.Refusal.{Refusal}
 use Rattle.quantity.specs.declared.refusal.Refusal.the-variants.{Unusable, HeaderCutOff, FieldUnexpected, BodyCutOff, OutOfRange, FramedAfterFilter, FigureTooLarge, RateTooLow, DelayAboveWanted, PathNumberWrong, LedgerFull, LinkShort, InputBreaksDeclaration, ChoiceAboveGreatest}
 
-abbrev pub numberOf : Refusal → ℕ
-numberOf Unusable = 1
-numberOf (HeaderCutOff at) = 2
-numberOf (FieldUnexpected at) = 3
-numberOf (BodyCutOff at) = 4
-numberOf (OutOfRange at) = 5
-numberOf (FramedAfterFilter at) = 6
-numberOf (FigureTooLarge at) = 7
-numberOf (RateTooLow at) = 8
-numberOf DelayAboveWanted = 9
-numberOf PathNumberWrong = 10
-numberOf LedgerFull = 11
-numberOf LinkShort = 12
-numberOf InputBreaksDeclaration = 13
-numberOf (ChoiceAboveGreatest at) = 14
+abbrev pub refusalNumber : Refusal → ℕ
+refusalNumber Unusable = 1
+refusalNumber (HeaderCutOff at) = 2
+refusalNumber (FieldUnexpected at) = 3
+refusalNumber (BodyCutOff at) = 4
+refusalNumber (OutOfRange at) = 5
+refusalNumber (FramedAfterFilter at) = 6
+refusalNumber (FigureTooLarge at) = 7
+refusalNumber (RateTooLow at) = 8
+refusalNumber DelayAboveWanted = 9
+refusalNumber PathNumberWrong = 10
+refusalNumber LedgerFull = 11
+refusalNumber LinkShort = 12
+refusalNumber InputBreaksDeclaration = 13
+refusalNumber (ChoiceAboveGreatest at) = 14
 
 -- the field's first byte for 2 to 5, the operator's index for 6 to 8 and 14, else 0
-abbrev pub placeOf : Refusal → ℕ
-placeOf Unusable = 0
-placeOf (HeaderCutOff at) = at
-placeOf (FieldUnexpected at) = at
-placeOf (BodyCutOff at) = at
-placeOf (OutOfRange at) = at
-placeOf (FramedAfterFilter at) = at
-placeOf (FigureTooLarge at) = at
-placeOf (RateTooLow at) = at
-placeOf DelayAboveWanted = 0
-placeOf PathNumberWrong = 0
-placeOf LedgerFull = 0
-placeOf LinkShort = 0
-placeOf InputBreaksDeclaration = 0
-placeOf (ChoiceAboveGreatest at) = at
+abbrev pub refusalPlace : Refusal → ℕ
+refusalPlace Unusable = 0
+refusalPlace (HeaderCutOff at) = at
+refusalPlace (FieldUnexpected at) = at
+refusalPlace (BodyCutOff at) = at
+refusalPlace (OutOfRange at) = at
+refusalPlace (FramedAfterFilter at) = at
+refusalPlace (FigureTooLarge at) = at
+refusalPlace (RateTooLow at) = at
+refusalPlace DelayAboveWanted = 0
+refusalPlace PathNumberWrong = 0
+refusalPlace LedgerFull = 0
+refusalPlace LinkShort = 0
+refusalPlace InputBreaksDeclaration = 0
+refusalPlace (ChoiceAboveGreatest at) = at
 
 -- a refusal with the condition under which it stands
 pub record Case : Type 0 where

@@ -1,7 +1,7 @@
 // The refusals of document 01, section 7, in checking order, each with its place where it has one.
 
 ghost use mathlib.Core.Path.{_≡_};
-ghost use Rattle.quantity.specs.Refusals.{numberOf, placeOf};
+ghost use Rattle.quantity.specs.Refusals.{refusalNumber, refusalPlace};
 
 // The place is the field's first byte, counted from the sheet's start, or the operator's index.
 pub enum Refusal {
@@ -38,7 +38,7 @@ pub enum Refusal {
 impl Refusal {
     // Section 7's number of a refusal.
     pub fn number(self) -> u32
-        ensures { λ r. ⌜ r ≡ numberOf self ⌝ }
+        ensures { λ r. ⌜ r ≡ refusalNumber self ⌝ }
     {
         match self {
             Refusal::Unusable => 1,
@@ -60,7 +60,7 @@ impl Refusal {
 
     // Section 7's place of a refusal.
     pub fn place(self) -> usize
-        ensures { λ r. ⌜ r ≡ placeOf self ⌝ }
+        ensures { λ r. ⌜ r ≡ refusalPlace self ⌝ }
     {
         match self {
             Refusal::Unusable => 0,

@@ -22,9 +22,9 @@ use Rattle.flow.specs.Declarations.{classOf}
 use Rattle.flow.specs.Keeping.{keepsClass}
 use Rattle.flow.proofs.Keeping.{keeps-decided}
 use Rattle.operator.proofs.Laws.{least-le-greatest, whole-on, none-fits}
-use Rattle.sheet.specs.Paths.{Line}
-use Rattle.sheet.specs.Sheets.{lineInRange}
-use Rattle.figures.specs.Answers.{operatorAt, capacityAt, pathDelay, lineCases}
+use Rattle.sheet.specs.Paths.{Path}
+use Rattle.sheet.specs.Sheets.{pathInRange}
+use Rattle.figures.specs.Answers.{operatorAt, capacityAt, pathDelay, pathCases}
 use Rattle.figures.specs.Along.{flowInto, AllFit, Promised}
 use Rattle.figures.proofs.Promise.{promised, interval-large}
 use Rattle.run.specs.Calls.{Call, choiceFor}
@@ -34,36 +34,36 @@ use Rattle.run.proofs.AccountCalls.{choice-small, all-holds}
 use Rattle.run.proofs.FlowsAgree.{Agree, held-agrees, output-agrees, into-agrees, longer-agrees, longer-last, longer-length, none-after, fits-for-ever}
 
 -- what the account of any calls promises
-pub record AccountKept (line : Line) (account : Account) : Type 0 where
+pub record AccountKept (path : Path) (account : Account) : Type 0 where
   -- as many inputs as slots
   pub counted : length (account .entered) ≡ account .slot
   -- what entered keeps the declaration
-  pub keeps : Keeps (classOf (line .declaration)) (flowOf (account .entered))
+  pub keeps : Keeps (classOf (path .declaration)) (flowOf (account .entered))
   -- what entered by the end of slot i has left by the end of slot i + delay, wherever that slot was taken
-  pub in-time : (i : ℕ) → i + pathDelay line < account .slot → total (flowOf (account .entered)) (suc i) ≤ total (flowOf (account .left)) (suc (i + pathDelay line))
+  pub in-time : (i : ℕ) → i + pathDelay path < account .slot → total (flowOf (account .entered)) (suc i) ≤ total (flowOf (account .left)) (suc (i + pathDelay path))
   -- no operator holds more than its capacity, nor a filter's h
-  pub held-within : (k : ℕ) → k < length (line .places) → account .held k .b ≤ capacityAt line k
-  pub beside-within : (k : ℕ) → k < length (line .places) → account .held k .h ≤ capacityAt line k
+  pub held-within : (k : ℕ) → k < length (path .operators) → account .held k .b ≤ capacityAt path k
+  pub beside-within : (k : ℕ) → k < length (path .operators) → account .held k .h ≤ capacityAt path k
   -- a delayer's b is the sum of its past
-  pub whole : (k : ℕ) → k < length (line .places) → Whole (operatorAt line k) (account .held k)
+  pub whole : (k : ℕ) → k < length (path .operators) → Whole (operatorAt path k) (account .held k)
 
 -- the flow into operator k, of the inputs and each operator's choices so far
-abbrev into : Line → List ℕ → (ℕ → List ℕ) → ℕ → Flow
-into line entered chosen = flowInto (operatorAt line) (flowOf entered) (λ k. flowOf (chosen k))
+abbrev into : Path → List ℕ → (ℕ → List ℕ) → ℕ → Flow
+into path entered chosen = flowInto (operatorAt path) (flowOf entered) (λ k. flowOf (chosen k))
 
 -- What holds of the account after any calls: it has what the flows of the taken inputs and choices give, and these fit and keep the declaration.
-record Follows (line : Line) (account : Account) : Type 0 where
+record Follows (path : Path) (account : Account) : Type 0 where
   chosen : ℕ → List ℕ
   counted : length (account .entered) ≡ account .slot
   counted-left : length (account .left) ≡ account .slot
   counted-chosen : (k : ℕ) → length (chosen k) ≡ account .slot
-  held : (k : ℕ) → account .held k ≡ heldOn (operatorAt line k) (into line (account .entered) chosen k) (flowOf (chosen k)) (account .slot)
-  left : Agree (account .slot) (flowOf (account .left)) (into line (account .entered) chosen (length (line .places)))
-  fits : AllFit line (flowOf (account .entered)) (λ k. flowOf (chosen k))
-  keeps : Keeps (classOf (line .declaration)) (flowOf (account .entered))
+  held : (k : ℕ) → account .held k ≡ heldOn (operatorAt path k) (into path (account .entered) chosen k) (flowOf (chosen k)) (account .slot)
+  left : Agree (account .slot) (flowOf (account .left)) (into path (account .entered) chosen (length (path .operators)))
+  fits : AllFit path (flowOf (account .entered)) (λ k. flowOf (chosen k))
+  keeps : Keeps (classOf (path .declaration)) (flowOf (account .entered))
 
 -- The account follows flows, and takes a call.
-module _ (line : Line) (account : Account) (call : Call) (follows : Follows line account) where
+module _ (path : Path) (account : Account) (call : Call) (follows : Follows path account) where
   abbrev chosenNext : ℕ → List ℕ
   chosenNext k = follows .chosen k ++ (choiceFor call k ∷ [])
 
@@ -75,14 +75,14 @@ module _ (line : Line) (account : Account) (call : Call) (follows : Follows line
   choicesNow k = flowOf (chosenNext k)
 
   abbrev were : ℕ → Flow
-  were = into line (account .entered) (follows .chosen)
+  were = into path (account .entered) (follows .chosen)
 
   abbrev now : ℕ → Flow
-  now = into line (account .entered ++ (call .input ∷ [])) chosenNext
+  now = into path (account .entered ++ (call .input ∷ [])) chosenNext
 
   -- and what it holds
   abbrev heldNow : ℕ → ℕ → Held
-  heldNow k = heldOn (operatorAt line k) (now k) (choicesNow k)
+  heldNow k = heldOn (operatorAt path k) (now k) (choicesNow k)
 
   choices-agree : (k : ℕ) → Agree (account .slot) (choicesWere k) (choicesNow k)
   choices-agree k = longer-agrees (follows .chosen k) (choiceFor call k) (account .slot) (follows .counted-chosen k)
@@ -92,27 +92,27 @@ module _ (line : Line) (account : Account) (call : Call) (follows : Follows line
 
   flows-agree : (k : ℕ) → Agree (account .slot) (were k) (now k)
   flows-agree =
-      into-agrees (operatorAt line) (flowOf (account .entered)) (flowOf (account .entered ++ (call .input ∷ []))) choicesWere choicesNow (account .slot)
+      into-agrees (operatorAt path) (flowOf (account .entered)) (flowOf (account .entered ++ (call .input ∷ []))) choicesWere choicesNow (account .slot)
       (longer-agrees (account .entered) (call .input) (account .slot) (follows .counted)) choices-agree
 
   held-before : (k : ℕ) → account .held k ≡ heldNow k (account .slot)
-  held-before k = follows .held k ∙ held-agrees (operatorAt line k) (were k) (now k) (choicesWere k) (choicesNow k) (account .slot) (flows-agree k) (choices-agree k)
+  held-before k = follows .held k ∙ held-agrees (operatorAt path k) (were k) (now k) (choicesWere k) (choicesNow k) (account .slot) (flows-agree k) (choices-agree k)
 
   -- what arrives in the slot is what the flows have
-  arrives : (k : ℕ) → arriving line account call k ≡ now k (account .slot)
+  arrives : (k : ℕ) → arriving path account call k ≡ now k (account .slot)
   unfolding arriving flowInto outputOn
   arrives zero = sym (longer-last (account .entered) (call .input) (account .slot) (follows .counted))
   arrives (suc k) = rw (held-before k, arrives k, chosen-last k)
 
-  held-after : (k : ℕ) → accountNext line account call .held k ≡ heldNow k (suc (account .slot))
+  held-after : (k : ℕ) → accountNext path account call .held k ≡ heldNow k (suc (account .slot))
   unfolding accountNext heldOn arriving
   held-after k = rw (held-before k, arrives k, chosen-last k)
 
-  leaves : Agree (suc (account .slot)) (flowOf (accountNext line account call .left)) (now (length (line .places)))
+  leaves : Agree (suc (account .slot)) (flowOf (accountNext path account call .left)) (now (length (path .operators)))
   unfolding accountNext
   leaves t less =
-      let last = length (line .places) in
-      let out = arriving line account call last in
+      let last = length (path .operators) in
+      let out = arriving path account call last in
       ⊎-elim
       (λ here. rw here (longer-last (account .left) out (account .slot) (follows .counted-left) ∙ arrives last))
       (λ sooner. sym (longer-agrees (account .left) out (account .slot) (follows .counted-left) t sooner) ∙ follows .left t sooner ∙ flows-agree last t sooner)
@@ -120,56 +120,56 @@ module _ (line : Line) (account : Account) (call : Call) (follows : Follows line
 
   -- operator k's output of slot t fits
   abbrev FitsAt : ℕ → ℕ → Type 0
-  FitsAt k t = outputOn (operatorAt line k) (now k) (choicesNow k) t ≤ greatestOutput (operatorAt line k) t (heldNow k t) (now k t)
+  FitsAt k t = outputOn (operatorAt path k) (now k) (choicesNow k) t ≤ greatestOutput (operatorAt path k) t (heldNow k t) (now k t)
 
-  module _ (k : ℕ) (less : k < length (line .places)) where
+  module _ (k : ℕ) (less : k < length (path .operators)) where
     -- in a slot taken before as it did
     fits-before : (t : ℕ) → t < account .slot → FitsAt k t
     fits-before t sooner =
-        let op = operatorAt line k in
+        let op = operatorAt path k in
         let output = output-agrees op (were k) (now k) (choicesWere k) (choicesNow k) (account .slot) (flows-agree k) (choices-agree k) t sooner in
         let held = held-agrees op (were k) (now k) (choicesWere k) (choicesNow k) t (λ i h. flows-agree k i (omega arith)) (λ i h. choices-agree k i (omega arith)) in
         rw (← output, ← held, ← flows-agree k t sooner) (follows .fits k less t)
 
     -- and in this one by the test of its choice
-    fits-here : choiceTooLarge line account call k ≡ false → FitsAt k (account .slot)
+    fits-here : choiceTooLarge path account call k ≡ false → FitsAt k (account .slot)
     unfolding choiceTooLarge outputOn
     fits-here small =
-        let op = operatorAt line k in
+        let op = operatorAt path k in
         let whole : Whole op (account .held k) = rw (follows .held k) (whole-on op (were k) (choicesWere k) (follows .fits k less) (account .slot)) in
         rw (← held-before k, ← arrives k, chosen-last k)
-        (omega (arith, ltb-false, least-le-greatest op (account .slot) (account .held k) (arriving line account call k) whole))
+        (omega (arith, ltb-false, least-le-greatest op (account .slot) (account .held k) (arriving path account call k) whole))
 
-    fits-next : choiceTooLarge line account call k ≡ false → Fitting (operatorAt line k) (now k) (choicesNow k)
+    fits-next : choiceTooLarge path account call k ≡ false → Fitting (operatorAt path k) (now k) (choicesNow k)
     fits-next small =
-        fits-for-ever (operatorAt line k) (now k) (choicesNow k) (suc (account .slot))
+        fits-for-ever (operatorAt path k) (now k) (choicesNow k) (suc (account .slot))
         (λ t sooner. ⊎-elim (λ here. rw here (fits-here small)) (fits-before t) (eq-or-lt-of-le (le-of-suc-le-suc sooner)))
         (none-after (chosenNext k) (suc (account .slot)) (longer-length (follows .chosen k) (choiceFor call k) (account .slot) (follows .counted-chosen k)))
 
 -- what the flows are promised, at the account's slot
-follows-kept : (line : Line) (account : Account) (follows : Follows line account)
-    → Promised line (flowOf (account .entered)) (λ k. flowOf (follows .chosen k)) → AccountKept line account
-follows-kept line account follows kept =
+follows-kept : (path : Path) (account : Account) (follows : Follows path account)
+    → Promised path (flowOf (account .entered)) (λ k. flowOf (follows .chosen k)) → AccountKept path account
+follows-kept path account follows kept =
     record {
       counted = follows .counted;
       keeps = follows .keeps;
       in-time =
           λ i less.
-          let left = total-same (flowOf (account .left)) (into line (account .entered) (follows .chosen) (length (line .places))) (suc (i + pathDelay line)) (λ t sooner. follows .left t (omega arith)) in
+          let left = total-same (flowOf (account .left)) (into path (account .entered) (follows .chosen) (length (path .operators))) (suc (i + pathDelay path)) (λ t sooner. follows .left t (omega arith)) in
           rw (left, ← suc-add) (kept .in-time (suc i));
       held-within = λ k less. rw (follows .held k) (kept .held-within k less (account .slot));
       beside-within = λ k less. rw (follows .held k) (kept .beside-within k less (account .slot));
       whole =
           λ k less.
           rw (follows .held k)
-          (whole-on (operatorAt line k) (into line (account .entered) (follows .chosen) k) (flowOf (follows .chosen k)) (follows .fits k less) (account .slot));
+          (whole-on (operatorAt path k) (into path (account .entered) (follows .chosen) k) (flowOf (follows .chosen k)) (follows .fits k less) (account .slot));
     }
 
-module _ (line : Line) (inside : lineInRange line ≡ true) where
-  declaration-kept : (units : List ℕ) → keepsClass (classOf (line .declaration)) units ≡ true → Keeps (classOf (line .declaration)) (flowOf units)
-  declaration-kept units = keeps-decided (classOf (line .declaration)) units (interval-large line inside) .0
+module _ (path : Path) (inside : pathInRange path ≡ true) where
+  declaration-kept : (units : List ℕ) → keepsClass (classOf (path .declaration)) units ≡ true → Keeps (classOf (path .declaration)) (flowOf units)
+  declaration-kept units = keeps-decided (classOf (path .declaration)) units (interval-large path inside) .0
 
-  follows-new : Follows line newAccount
+  follows-new : Follows path newAccount
   unfolding heldOn keepsClass every
   follows-new =
       record {
@@ -179,27 +179,27 @@ module _ (line : Line) (inside : lineInRange line ≡ true) where
         counted-chosen = λ k. refl;
         held = λ k. refl;
         left = λ t less. absurd (not-suc-le-zero less);
-        fits = λ k less. none-fits (operatorAt line k) (into line [] (λ k. []) k);
+        fits = λ k less. none-fits (operatorAt path k) (into path [] (λ k. []) k);
         keeps = declaration-kept [] refl;
       }
 
-  follows-next : (account : Account) (call : Call) → NoneStands (accountCases line account call) → Follows line account → Follows line (accountNext line account call)
+  follows-next : (account : Account) (call : Call) → NoneStands (accountCases path account call) → Follows path account → Follows path (accountNext path account call)
   unfolding accountNext breaksDeclaration
   follows-next account call none follows =
       record {
-        chosen = chosenNext line account call follows;
+        chosen = chosenNext path account call follows;
         counted = rw add-one (longer-length (account .entered) (call .input) (account .slot) (follows .counted));
-        counted-left = rw add-one (longer-length (account .left) (arriving line account call (length (line .places))) (account .slot) (follows .counted-left));
+        counted-left = rw add-one (longer-length (account .left) (arriving path account call (length (path .operators))) (account .slot) (follows .counted-left));
         counted-chosen = λ k. rw add-one (longer-length (follows .chosen k) (choiceFor call k) (account .slot) (follows .counted-chosen k));
-        held = rw add-one (held-after line account call follows);
-        left = rw add-one (leaves line account call follows);
-        fits = λ k less. fits-next line account call follows k less (choice-small line account call (length (line .places)) (none .1 .1 .1 .1) k less);
+        held = rw add-one (held-after path account call follows);
+        left = rw add-one (leaves path account call follows);
+        fits = λ k less. fits-next path account call follows k less (choice-small path account call (length (path .operators)) (none .1 .1 .1 .1) k less);
         keeps = declaration-kept (account .entered ++ (call .input ∷ [])) (not-false _ (none .1 .1 .1 .0));
       }
 
 -- the account of every list of calls, on a path of numbers in their ranges that refusals 6 to 9 let pass
-pub account-kept : (line : Line) → lineInRange line ≡ true → NoneStands (lineCases line) → (calls : List Call) → AccountKept line (accountAll line newAccount calls)
-account-kept line inside none calls =
-    let follows = all-holds line (Follows line) (follows-next line inside) newAccount calls (follows-new line inside) in
-    follows-kept line (accountAll line newAccount calls) follows
-    (promised line inside none (flowOf (accountAll line newAccount calls .entered)) (λ k. flowOf (follows .chosen k)) (follows .keeps) (follows .fits))
+pub account-kept : (path : Path) → pathInRange path ≡ true → NoneStands (pathCases path) → (calls : List Call) → AccountKept path (accountAll path newAccount calls)
+account-kept path inside none calls =
+    let follows = all-holds path (Follows path) (follows-next path inside) newAccount calls (follows-new path inside) in
+    follows-kept path (accountAll path newAccount calls) follows
+    (promised path inside none (flowOf (accountAll path newAccount calls .entered)) (λ k. flowOf (follows .chosen k)) (follows .keeps) (follows .fits))

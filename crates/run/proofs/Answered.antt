@@ -24,13 +24,13 @@ use Rattle.operator.specs.Operators.{greatestOutput, heldAfter, numberInRange}
 use Rattle.flow.specs.Declarations.{declarationInRange, classOf}
 use Rattle.flow.specs.Classes.{Keeps}
 use Rattle.flow.specs.Flows.{flowOf}
-use Rattle.operator.specs.Single.{heldIn, heldNext, choiceAbove, leavesTooMuch}
+use Rattle.operator.specs.Single.{holds, holdsNext, choiceAbove, leavesTooMuch}
 use Rattle.meter.specs.Meter.{meterWordCount, meterUnusable}
 use Rattle.operator.proofs.Laws.{least-le-greatest}
 use Rattle.meter.proofs.Metering.{sound-usable, sound-keeps}
 use Rattle.operator.proofs.SingleLaws.{stored-usable}
 use Rattle.operator.proofs.Stands.{stands-new, stands-usable}
-use Rattle.sheet.specs.Paths.{Line}
+use Rattle.sheet.specs.Paths.{Path}
 use Rattle.figures.specs.Answers.{operatorAt, capacityAt}
 use Rattle.run.specs.declared.Run.{Run}
 use Rattle.run.specs.declared.slot.Outcome.{Outcome}
@@ -53,17 +53,17 @@ same-test false true p q = sym (q .1 (p .0 refl))
 same-test false false p q = refl
 
 -- what is known of a path that opening lets pass
-pub record Passes (line : Line) : Type 0 where
-  pub some : 1 ≤ length (line .places)
-  pub few : length (line .places) ≤ mostOperators
-  pub large : 1 ≤ line .declaration .interval .0
-  pub declared : declarationInRange (line .declaration) ≡ true
-  pub number : (k : ℕ) → k < length (line .places) → numberInRange (operatorAt line k) ≡ true
-  pub capacity : (k : ℕ) → k < length (line .places) → capacityAt line k ≤ largestAmount
+pub record Passes (path : Path) : Type 0 where
+  pub some : 1 ≤ length (path .operators)
+  pub few : length (path .operators) ≤ mostOperators
+  pub large : 1 ≤ path .declaration .interval .0
+  pub declared : declarationInRange (path .declaration) ≡ true
+  pub number : (k : ℕ) → k < length (path .operators) → numberInRange (operatorAt path k) ≡ true
+  pub capacity : (k : ℕ) → k < length (path .operators) → capacityAt path k ≤ largestAmount
 
-module _ (line : Line) (passes : Passes line) (run : Run) (words : List ℕ) (account : Account) (joined : Joined line run words account) (kept : AccountKept line account) where
+module _ (path : Path) (passes : Passes path) (run : Run) (words : List ℕ) (account : Account) (joined : Joined path run words account) (kept : AccountKept path account) where
   -- a stage of the path is usable: what it stands for is within its capacity
-  stage-usable : account .slot ≤ lastSlot → (k : ℕ) → k < length (line .places) → stageFits run words k ≡ true
+  stage-usable : account .slot ≤ lastSlot → (k : ℕ) → k < length (path .operators) → stageFits run words k ≡ true
   unfolding stageFits stageMisplaced stageUnusable
   stage-usable left k less =
       let capacity = passes .capacity k less in
@@ -72,12 +72,12 @@ module _ (line : Line) (passes : Passes line) (run : Run) (words : List ℕ) (ac
         joined .operator k less,
         passes .number k less,
         stored-usable (singleIn run k) (operatorWords words k)
-            (stands-usable (singleIn run k) (operatorWords words k) (account .held k) (joined .stands k less) (rw (slot-same line run words account joined k less) left)
+            (stands-usable (singleIn run k) (operatorWords words k) (account .held k) (joined .stands k less) (rw (slot-same path run words account joined k less) left)
             (let within = kept .held-within k less in omega arith) (let within = kept .beside-within k less in omega arith)),
       )
 
   -- and one behind them: it is empty, and its words are 0
-  empty-usable : account .slot ≤ lastSlot → (k : ℕ) → length (line .places) ≤ k → k < mostOperators → stageFits run words k ≡ true
+  empty-usable : account .slot ≤ lastSlot → (k : ℕ) → length (path .operators) ≤ k → k < mostOperators → stageFits run words k ≡ true
   unfolding stageFits stageMisplaced stageUnusable singleIn noOperator
   empty-usable left k behind less =
       rw (
@@ -93,7 +93,7 @@ module _ (line : Line) (passes : Passes line) (run : Run) (words : List ℕ) (ac
   stages-usable left =
       every-holds (stageFits run words) mostOperators
       (λ k less.
-      elim (decLe (length (line .places)) k) [
+      elim (decLe (length (path .operators)) k) [
         | yes behind ↦ empty-usable left k behind less
         | no inside ↦ stage-usable left k (lt-of-not-le inside)
       ])
@@ -135,94 +135,94 @@ module _ (line : Line) (passes : Passes line) (run : Run) (words : List ℕ) (ac
     unfolding slotBreaks meterIn
     meter-decides = sound-keeps (meterFed run words (account .entered)) (joined .meter) (call .input)
 
-    account-decides : (breaksDeclaration line account call ≡ false) ↔ Keeps (classOf (run .declaration)) (flowOf (account .entered ++ (call .input ∷ [])))
-    account-decides = rw (joined .declared) (declaration-tested line account call (passes .large))
+    account-decides : (breaksDeclaration path account call ≡ false) ↔ Keeps (classOf (run .declaration)) (flowOf (account .entered ++ (call .input ∷ [])))
+    account-decides = rw (joined .declared) (declaration-tested path account call (passes .large))
 
-    breaks-same : slotBreaks run words call ≡ breaksDeclaration line account call
-    breaks-same = same-test (slotBreaks run words call) (breaksDeclaration line account call) meter-decides account-decides
+    breaks-same : slotBreaks run words call ≡ breaksDeclaration path account call
+    breaks-same = same-test (slotBreaks run words call) (breaksDeclaration path account call) meter-decides account-decides
 
     -- 14: so do the tests of a choice
-    choice-same : (k : ℕ) → k < length (line .places) → choiceAboveAt run words call k ≡ choiceTooLarge line account call k
+    choice-same : (k : ℕ) → k < length (path .operators) → choiceAboveAt run words call k ≡ choiceTooLarge path account call k
     unfolding choiceAboveAt choiceTooLarge choiceAbove
     choice-same k less =
-        let r = into-same line run words account joined call k (omega arith) in
+        let r = into-same path run words account joined call k (omega arith) in
         rw r
-        (ap₂ (λ (low high : ℕ). ltb (high - low) (choiceFor call k)) (least-same line run words account joined k less (arriving line account call k)) (greatest-same line run words account joined k less (arriving line account call k)))
+        (ap₂ (λ (low high : ℕ). ltb (high - low) (choiceFor call k)) (least-same path run words account joined k less (arriving path account call k)) (greatest-same path run words account joined k less (arriving path account call k)))
 
-    choices-same : (n : ℕ) → n ≤ length (line .places) → choiceCases run words call n ≡ choicesTooLarge line account call n
+    choices-same : (n : ℕ) → n ≤ length (path .operators) → choiceCases run words call n ≡ choicesTooLarge path account call n
     unfolding choiceCases choicesTooLarge
     choices-same zero h = refl
     choices-same (suc n) h = ap₂ (λ (cs : List Case) (t : Bool). cs ++ ((t ⇒ ChoiceAboveGreatest n) ∷ [])) (choices-same n (omega arith)) (choice-same n h)
 
     -- the refusals of a slot are the account's, and behind them 1 for what would be left
-    cases-same : slotCases run words call ≡ accountCases line account call ++ ((slotLeavesTooMuch run words call ⇒ Unusable) ∷ [])
+    cases-same : slotCases run words call ≡ accountCases path account call ++ ((slotLeavesTooMuch run words call ⇒ Unusable) ∷ [])
     cases-same =
         rw (
           ap (λ (n : ℕ). choicesMiscounted n call) (joined .counted),
           unusable-same,
           breaks-same,
-          ap (choiceCases run words call) (joined .counted) ∙ choices-same (length (line .places)) (le-refl _),
+          ap (choiceCases run words call) (joined .counted) ∙ choices-same (length (path .operators)) (le-refl _),
         )
 
-    module _ (next : NoneStands (accountCases line account call) → AccountKept line (accountNext line account call)) where
-      next-held : (k : ℕ) → k < length (line .places)
-          → heldAfter (singleIn run k .operator) (heldIn (singleIn run k) (operatorWords words k)) (inputInto run words call k) (inputInto run words call (suc k))
-          ≡ accountNext line account call .held k
+    module _ (next : NoneStands (accountCases path account call) → AccountKept path (accountNext path account call)) where
+      next-held : (k : ℕ) → k < length (path .operators)
+          → heldAfter (singleIn run k .operator) (holds (singleIn run k) (operatorWords words k)) (inputInto run words call k) (inputInto run words call (suc k))
+          ≡ accountNext path account call .held k
       unfolding accountNext
       next-held k less =
           rw (
-            held-same line run words account joined k less,
-            operator-same line run words account joined k less,
-            into-same line run words account joined call k (omega arith),
-            into-same line run words account joined call (suc k) less,
+            held-same path run words account joined k less,
+            operator-same path run words account joined k less,
+            into-same path run words account joined call k (omega arith),
+            into-same path run words account joined call (suc k) less,
           )
 
       -- a call that the account takes leaves nothing above the limit
-      leaves-none : NoneStands (accountCases line account call) → slotLeavesTooMuch run words call ≡ false
-      unfolding slotLeavesTooMuch leavesTooMuchAt leavesTooMuch heldNext
+      leaves-none : NoneStands (accountCases path account call) → slotLeavesTooMuch run words call ≡ false
+      unfolding slotLeavesTooMuch leavesTooMuchAt leavesTooMuch holdsNext
       leaves-none taken =
           ap not
           (every-holds (λ k. not (leavesTooMuchAt run words call k)) (run .count)
           (λ k counts.
-          let less : k < length (line .places) = rw (joined .counted) at counts in
+          let less : k < length (path .operators) = rw (joined .counted) at counts in
           let held = next-held k less in
           let capacity = passes .capacity k less in
           let within = next taken .held-within k less in
           let beside = next taken .beside-within k less in
-          rw (held, le-ltb largestAmount (accountNext line account call .held k .b) (omega arith), le-ltb largestAmount (accountNext line account call .held k .h) (omega arith))))
+          rw (held, le-ltb largestAmount (accountNext path account call .held k .b) (omega arith), le-ltb largestAmount (accountNext path account call .held k .h) (omega arith))))
 
-      none-stands : NoneStands (accountCases line account call) → NoneStands (slotCases run words call)
-      none-stands taken = subst NoneStands (sym cases-same) (none-of-both (accountCases line account call) _ taken (leaves-none taken, tt))
+      none-stands : NoneStands (accountCases path account call) → NoneStands (slotCases run words call)
+      none-stands taken = subst NoneStands (sym cases-same) (none-of-both (accountCases path account call) _ taken (leaves-none taken, tt))
 
-      first-stands : (why : Refusal) → FirstIs (accountCases line account call) why → FirstIs (slotCases run words call) why
-      first-stands why first = subst (λ (cs : List Case). FirstIs cs why) (sym cases-same) (first-of-more why (accountCases line account call) _ first)
+      first-stands : (why : Refusal) → FirstIs (accountCases path account call) why → FirstIs (slotCases run words call) why
+      first-stands why first = subst (λ (cs : List Case). FirstIs cs why) (sym cases-same) (first-of-more why (accountCases path account call) _ first)
 
       -- where the account takes the call each output lies in its interval
-      outputs-fit : NoneStands (accountCases line account call) → (k : ℕ) → k < length (line .places)
-          → arriving line account call (suc k) ≤ greatestOutput (operatorAt line k) (account .slot) (account .held k) (arriving line account call k)
+      outputs-fit : NoneStands (accountCases path account call) → (k : ℕ) → k < length (path .operators)
+          → arriving path account call (suc k) ≤ greatestOutput (operatorAt path k) (account .slot) (account .held k) (arriving path account call k)
       unfolding arriving choiceTooLarge
       outputs-fit taken k less =
-          let small = choice-small line account call (length (line .places)) (taken .1 .1 .1 .1) k less in
+          let small = choice-small path account call (length (path .operators)) (taken .1 .1 .1 .1) k less in
           omega (
             arith,
             ltb-false,
-            least-le-greatest (operatorAt line k) (account .slot) (account .held k) (arriving line account call k) (kept .whole k less),
+            least-le-greatest (operatorAt path k) (account .slot) (account .held k) (arriving path account call k) (kept .whole k less),
           )
 
-      pub answer-same : slottedOf run words call .outcome ≡ accountAnswer line account call
+      pub answer-same : slottedOf run words call .outcome ≡ accountAnswer path account call
       unfolding accountAnswer takenSlot refusedSlot
       answer-same =
           ⊎-elim
           (λ taken.
           ap (λ (slotted : Slotted). slotted .outcome) (slot-taken run words call (none-stands taken))
-          ∙ ap (λ (s : ℕ). Outcome.Sent (record { 0 = s })) (ap (inputInto run words call) (joined .counted) ∙ into-same line run words account joined call (length (line .places)) (le-refl _))
-          ∙ sym (firstOf-none Outcome.Refused _ (accountCases line account call) taken))
+          ∙ ap (λ (s : ℕ). Outcome.Sent (record { 0 = s })) (ap (inputInto run words call) (joined .counted) ∙ into-same path run words account joined call (length (path .operators)) (le-refl _))
+          ∙ sym (firstOf-none Outcome.Refused _ (accountCases path account call) taken))
           (λ (why, first).
           ap (λ (slotted : Slotted). slotted .outcome) (slot-refused run words call why (first-stands why first))
-          ∙ sym (first-answered Outcome.Refused _ why (accountCases line account call) first))
-          (none-or-first (accountCases line account call))
+          ∙ sym (first-answered Outcome.Refused _ why (accountCases path account call) first))
+          (none-or-first (accountCases path account call))
 
-      pub joined-after : Joined line (slottedOf run words call .run) (wordsSlotted run words call) (accountAfter line account call)
+      pub joined-after : Joined path (slottedOf run words call .run) (wordsSlotted run words call) (accountAfter path account call)
       unfolding accountAfter takenSlot refusedSlot
       joined-after =
           ⊎-elim
@@ -230,14 +230,14 @@ module _ (line : Line) (passes : Passes line) (run : Run) (words : List ℕ) (ac
           rw (
             slot-taken run words call (none-stands taken),
             words-taken run words call (none-stands taken),
-            firstOf-none (λ why. account) (accountNext line account call) (accountCases line account call) taken,
+            firstOf-none (λ why. account) (accountNext path account call) (accountCases path account call) taken,
           )
-          (joined-next line run words account joined call (passes .few) (breaks-same ∙ taken .1 .1 .1 .0) (passes .number) (kept .whole) (outputs-fit taken)))
+          (joined-next path run words account joined call (passes .few) (breaks-same ∙ taken .1 .1 .1 .0) (passes .number) (kept .whole) (outputs-fit taken)))
           (λ (why, first).
           rw (
             slot-refused run words call why (first-stands why first),
             words-refused run words call why (first-stands why first),
-            first-answered (λ why. account) (accountNext line account call) why (accountCases line account call) first,
+            first-answered (λ why. account) (accountNext path account call) why (accountCases path account call) first,
           )
           joined)
-          (none-or-first (accountCases line account call))
+          (none-or-first (accountCases path account call))

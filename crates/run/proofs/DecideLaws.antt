@@ -23,7 +23,7 @@ use Rattle.quantity.proofs.Laws.{pick-true, either-false}
 use Rattle.quantity.proofs.Sums.{every-at, every-next, getD-listOf}
 use Rattle.quantity.proofs.Refusals.{NoneStands, none-of-both, firstOf-none, FirstIs, first-answered, first-of-more}
 use Rattle.operator.specs.Operators.{numberInRange}
-use Rattle.operator.specs.Single.{wordCount, heldIn, leavesTooMuch}
+use Rattle.operator.specs.Single.{wordCount, holds, leavesTooMuch}
 use Rattle.operator.specs.Within.{decidedOf}
 use Rattle.operator.specs.declared.SingleOperator.{SingleOperator}
 use Rattle.operator.specs.declared.single.Decided.{Decided}
@@ -37,8 +37,8 @@ use Rattle.run.specs.declared.decide.Move.{Move}
 use Rattle.run.specs.Calls.{Call, choiceFor, choicesMiscounted, amountTooLarge}
 use Rattle.run.specs.Runs.{mostOperators, operatorAtWord, operatorWords, noStage, stageAt, singleOf, singleIn, runUnusable}
 use Rattle.run.specs.Slots.{inputInto, choiceAboveAt, choiceCases, leavesTooMuchAt, slotLeavesTooMuch, slotOutput}
-use Rattle.run.specs.Steps.{callOf, noMove, heldThen, moveOf, storable, planOf}
-use Rattle.run.specs.Watching.{heldAt, unitsHeld}
+use Rattle.run.specs.Steps.{callOf, noMove, runHoldsNext, moveOf, storable, planOf}
+use Rattle.run.specs.Watching.{runHolds, unitsHeld}
 use Rattle.run.proofs.UsableRun.{UsableRun, usable-run, stage-usable, stage-number, fits-at}
 
 -- an operator's words as the code lends them
@@ -70,10 +70,10 @@ both-not : (s t : Bool) → both (not s) (not t) ≡ not (either s t)
 both-not true t = refl
 both-not false t = refl
 
-storable-same : (run : Run) (words : List ℕ) (call : Call) (k : ℕ) → storable (heldThen run words call k .b) (heldThen run words call k .h) ≡ not (leavesTooMuchAt run words call k)
-unfolding storable leavesTooMuchAt leavesTooMuch heldThen
+storable-same : (run : Run) (words : List ℕ) (call : Call) (k : ℕ) → storable (runHoldsNext run words call k .b) (runHoldsNext run words call k .h) ≡ not (leavesTooMuchAt run words call k)
+unfolding storable leavesTooMuchAt leavesTooMuch runHoldsNext
 storable-same run words call k =
-    let held = heldThen run words call k in
+    let held = runHoldsNext run words call k in
     ap₂ both (leb-not (held .b) _ refl) (leb-not (held .h) _ refl) ∙ both-not (ltb largestAmount (held .b)) (ltb largestAmount (held .h))
 
 -- so joined to what was tested before
@@ -141,14 +141,14 @@ deciding-start run words choices input move small =
 abbrev pub decidedAt : Run → List ℕ → Call → ℕ → Decided
 decidedAt run words call k =
     pick (choiceAboveAt run words call k) (Decided.Refused (ChoiceAboveGreatest 0))
-    (Decided.Sends (record { 0 = inputInto run words call (suc k) }) (record { 0 = heldThen run words call k .b }) (record { 0 = heldThen run words call k .h }))
+    (Decided.Sends (record { 0 = inputInto run words call (suc k) }) (record { 0 = runHoldsNext run words call k .b }) (record { 0 = runHoldsNext run words call k .h }))
 
 -- operator k sends this, and has that then
 pub record Sending (run : Run) (words : List ℕ) (call : Call) (k : ℕ) (output kept beside : Units) : Type 0 where
   pub below : choiceAboveAt run words call k ≡ false
   pub out : output ≡ record { 0 = inputInto run words call (suc k) }
-  pub keeps : kept ≡ record { 0 = heldThen run words call k .b }
-  pub holds : beside ≡ record { 0 = heldThen run words call k .h }
+  pub keeps : kept ≡ record { 0 = runHoldsNext run words call k .b }
+  pub holds : beside ≡ record { 0 = runHoldsNext run words call k .h }
 
 refused-picked : (t : Bool) (first : Refusal) (output kept beside : Units) {why : Refusal} → Decided.Refused why ≡ pick t (Decided.Refused first) (Decided.Sends output kept beside) → t ≡ true
 refused-picked true first output kept beside e = refl
@@ -237,8 +237,8 @@ module _ {words choices : List ℕ} {held : List Units} {stages : List Stage} {s
   unfolding singleIn stageAt
   single-same = rw (known .stages-same, known .slot-same)
 
-  units-same : (d : Units) → getD held k d .0 ≡ heldIn (singleIn run k) (operatorWords words k) .b
-  unfolding unitsHeld heldAt
+  units-same : (d : Units) → getD held k d .0 ≡ holds (singleIn run k) (operatorWords words k) .b
+  unfolding unitsHeld runHolds
   units-same d =
       ap (λ (list : List Units). getD list k d .0) (known .held-same)
       ∙ ap (λ (u : Units). u .0) (getD-listOf d (unitsHeld run words) mostOperators k below)
@@ -247,7 +247,7 @@ module _ {words choices : List ℕ} {held : List Units} {stages : List Stage} {s
   -- what stage k with its words decides is operator k's decision
   pub decided-here : {decided : Decided} (d : Units) → decided ≡ decidedOf (singleOf (getD stages k noStage) slot) (operatorWords words k) (getD held k d .0) (arriving .0) (getD choices k 0)
       → decided ≡ decidedAt run words call k
-  unfolding choiceAboveAt inputInto heldThen
+  unfolding choiceAboveAt inputInto runHoldsNext
   decided-here {decided} d e =
       let x = singleIn run k in
       let ws = operatorWords words k in
@@ -272,7 +272,7 @@ module _ {words choices : List ℕ} {held : List Units} {stages : List Stage} {s
     output-same : output .0 ≡ inputInto run words call (suc k)
     output-same = ap (λ (u : Units). u .0) (sending .out)
 
-    into-le : inputInto run words call (suc k) ≤ heldIn (singleIn run k) (operatorWords words k) .b + inputInto run words call k
+    into-le : inputInto run words call (suc k) ≤ holds (singleIn run k) (operatorWords words k) .b + inputInto run words call k
     unfolding inputInto choiceAboveAt
     into-le = sent-fits (singleIn run k) (operatorWords words k) stored number (inputInto run words call k) (choiceFor call k) (sending .below)
 

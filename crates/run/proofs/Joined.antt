@@ -18,13 +18,13 @@ use Rattle.operator.specs.Operators.{leastOutput, greatestOutput, numberInRange
 use Rattle.flow.specs.Declarations.{declarationInRange}
 use Rattle.operator.specs.Whole.{Whole}
 use Rattle.words.specs.Stored.{wordAt}
-use Rattle.operator.specs.Single.{wordCount, heldIn, heldNext, sent, stateNext, wordsNext}
+use Rattle.operator.specs.Single.{wordCount, holds, holdsNext, sent, stateNext, wordsNext}
 use Rattle.meter.specs.Meter.{meterWordCount, meterNext, meterWordNext}
 use Rattle.meter.specs.Metering.{Fed}
 use Rattle.meter.proofs.Metering.{Sound, sound-new, sound-next}
 use Rattle.operator.proofs.Stands.{Stands, stands-new, stands-next}
-use Rattle.sheet.specs.Paths.{Line, noPlace}
-use Rattle.sheet.specs.declared.Place.{Place}
+use Rattle.sheet.specs.Paths.{Path, noLinkedOperator}
+use Rattle.sheet.specs.declared.LinkedOperator.{LinkedOperator}
 use Rattle.figures.specs.Answers.{operatorAt}
 use Rattle.run.specs.declared.Stage.{Stage}
 use Rattle.run.specs.declared.Run.{Run}
@@ -39,17 +39,17 @@ use Rattle.run.proofs.Parts.{length-part, part-at, part-is, operator-wi
 abbrev pub meterFed : Run → List ℕ → List ℕ → Fed
 meterFed run words entered = record { state = meterIn run; words = meterWords words; taken = entered }
 
-pub record Joined (line : Line) (run : Run) (words : List ℕ) (account : Account) : Type 0 where
-  pub declared : run .declaration ≡ line .declaration
+pub record Joined (path : Path) (run : Run) (words : List ℕ) (account : Account) : Type 0 where
+  pub declared : run .declaration ≡ path .declaration
   pub slot : run .slot .0 ≡ account .slot
-  pub counted : run .count ≡ length (line .places)
+  pub counted : run .count ≡ length (path .operators)
   pub sized : length words ≡ runWordCount
   pub meter : Sound (meterFed run words (account .entered))
-  pub operator : (k : ℕ) → k < length (line .places) → stageAt run k .operator ≡ operatorAt line k
-  pub stands : (k : ℕ) → k < length (line .places) → Stands (singleIn run k) (operatorWords words k) (account .held k)
+  pub operator : (k : ℕ) → k < length (path .operators) → stageAt run k .operator ≡ operatorAt path k
+  pub stands : (k : ℕ) → k < length (path .operators) → Stands (singleIn run k) (operatorWords words k) (account .held k)
   -- behind the path's operators there is nothing
-  pub empty : (k : ℕ) → length (line .places) ≤ k → k < mostOperators → stageAt run k ≡ noStage
-  pub clear : (k : ℕ) → length (line .places) ≤ k → k < mostOperators → (a : ℕ) → wordAt (operatorWords words k) a ≡ 0
+  pub empty : (k : ℕ) → length (path .operators) ≤ k → k < mostOperators → stageAt run k ≡ noStage
+  pub clear : (k : ℕ) → length (path .operators) ≤ k → k < mostOperators → (a : ℕ) → wordAt (operatorWords words k) a ≡ 0
 
 -- the words of an operator
 module _ (words : List ℕ) (sized : length words ≡ runWordCount) (k : ℕ) (less : k < mostOperators) where
@@ -93,41 +93,41 @@ clear-meter : meterWords clearWords ≡ replicate meterWordCount 0
 unfolding meterWords
 clear-meter = part-is 0 meterWordCount clearWords (rw clear-sized (omega arith)) (λ j. 0) (λ a less. rw zero-add (clear-word a (omega arith))) ∙ zeros-replicate meterWordCount
 
-module _ (line : Line) (few : length (line .places) ≤ mostOperators) where
-  new-stage : (k : ℕ) → k < mostOperators → stageAt (newRun line) k ≡ newStage line k
+module _ (path : Path) (few : length (path .operators) ≤ mostOperators) where
+  new-stage : (k : ℕ) → k < mostOperators → stageAt (newRun path) k ≡ newStage path k
   unfolding stageAt newRun
-  new-stage k less = getD-listOf noStage (newStage line) mostOperators k less
+  new-stage k less = getD-listOf noStage (newStage path) mostOperators k less
 
-  new-single : (k : ℕ) → k < mostOperators → singleIn (newRun line) k ≡ record { operator = operatorAt line k; slot = record { 0 = 0 }; held = record { 0 = 0 }; beside = record { 0 = 0 } }
+  new-single : (k : ℕ) → k < mostOperators → singleIn (newRun path) k ≡ record { operator = operatorAt path k; slot = record { 0 = 0 }; held = record { 0 = 0 }; beside = record { 0 = 0 } }
   unfolding singleIn newStage newRun
   new-single k less = ap (λ (stage : Stage). record { operator = stage .operator; slot = record { 0 = 0 }; held = stage .held; beside = stage .beside }) (new-stage k less)
 
-  new-empty : (k : ℕ) → length (line .places) ≤ k → newStage line k ≡ noStage
+  new-empty : (k : ℕ) → length (path .operators) ≤ k → newStage path k ≡ noStage
   unfolding newStage operatorAt
   new-empty k behind =
-      ap (λ (place : Place). record { operator = place .operator; held = record { 0 = 0 }; beside = record { 0 = 0 } }) (List·getD-eq-default (line .places) noPlace behind)
+      ap (λ (linked : LinkedOperator). record { operator = linked .operator; held = record { 0 = 0 }; beside = record { 0 = 0 } }) (List·getD-eq-default (path .operators) noLinkedOperator behind)
 
-  declared-new : newRun line .declaration ≡ line .declaration
+  declared-new : newRun path .declaration ≡ path .declaration
   unfolding newRun
   declared-new = refl
 
-  slot-new : newRun line .slot .0 ≡ 0
+  slot-new : newRun path .slot .0 ≡ 0
   unfolding newRun
   slot-new = refl
 
-  counted-new : newRun line .count ≡ length (line .places)
+  counted-new : newRun path .count ≡ length (path .operators)
   unfolding newRun
   counted-new = refl
 
-  operator-new : (k : ℕ) → newStage line k .operator ≡ operatorAt line k
+  operator-new : (k : ℕ) → newStage path k .operator ≡ operatorAt path k
   unfolding newStage
   operator-new k = refl
 
-  meter-new : declarationInRange (line .declaration) ≡ true → Sound (meterFed (newRun line) clearWords [])
+  meter-new : declarationInRange (path .declaration) ≡ true → Sound (meterFed (newRun path) clearWords [])
   unfolding newRun meterIn
-  meter-new inside = rw clear-meter (sound-new (line .declaration) inside)
+  meter-new inside = rw clear-meter (sound-new (path .declaration) inside)
 
-  pub joined-new : declarationInRange (line .declaration) ≡ true → Joined line (newRun line) clearWords newAccount
+  pub joined-new : declarationInRange (path .declaration) ≡ true → Joined path (newRun path) clearWords newAccount
   joined-new inside =
       record {
         declared = declared-new;
@@ -139,20 +139,20 @@ module _ (line : Line) (few : length (line .places) ≤ mostOperators) where
         stands =
             λ k less.
             rw (new-single k (omega arith))
-            (stands-new (operatorAt line k) (record { 0 = 0 }) (operatorWords clearWords k) (length-operatorWords clearWords clear-sized k (omega arith)) (clear-operator k (omega arith)));
+            (stands-new (operatorAt path k) (record { 0 = 0 }) (operatorWords clearWords k) (length-operatorWords clearWords clear-sized k (omega arith)) (clear-operator k (omega arith)));
         empty = λ k behind less. new-stage k less ∙ new-empty k behind;
         clear = λ k behind less. clear-operator k less;
       }
 
 -- A slot.
 
-module _ (line : Line) (run : Run) (words : List ℕ) (account : Account) (joined : Joined line run words account) where
+module _ (path : Path) (run : Run) (words : List ℕ) (account : Account) (joined : Joined path run words account) where
   -- what section 3 asks of operator k is the same of run and words and of the account
-  module _ (k : ℕ) (less : k < length (line .places)) where
-    pub held-same : heldIn (singleIn run k) (operatorWords words k) ≡ account .held k
+  module _ (k : ℕ) (less : k < length (path .operators)) where
+    pub held-same : holds (singleIn run k) (operatorWords words k) ≡ account .held k
     held-same = joined .stands k less .same
 
-    pub operator-same : singleIn run k .operator ≡ operatorAt line k
+    pub operator-same : singleIn run k .operator ≡ operatorAt path k
     unfolding singleIn
     operator-same = joined .operator k less
 
@@ -160,28 +160,28 @@ module _ (line : Line) (run : Run) (words : List ℕ) (account : Account) (joine
     unfolding singleIn
     slot-same = joined .slot
 
-    pub least-same : (r : ℕ) → leastOutput (singleIn run k .operator) (singleIn run k .slot .0) (heldIn (singleIn run k) (operatorWords words k)) r
-        ≡ leastOutput (operatorAt line k) (account .slot) (account .held k) r
+    pub least-same : (r : ℕ) → leastOutput (singleIn run k .operator) (singleIn run k .slot .0) (holds (singleIn run k) (operatorWords words k)) r
+        ≡ leastOutput (operatorAt path k) (account .slot) (account .held k) r
     least-same r = rw (held-same, operator-same, slot-same)
 
-    pub greatest-same : (r : ℕ) → greatestOutput (singleIn run k .operator) (singleIn run k .slot .0) (heldIn (singleIn run k) (operatorWords words k)) r
-        ≡ greatestOutput (operatorAt line k) (account .slot) (account .held k) r
+    pub greatest-same : (r : ℕ) → greatestOutput (singleIn run k .operator) (singleIn run k .slot .0) (holds (singleIn run k) (operatorWords words k)) r
+        ≡ greatestOutput (operatorAt path k) (account .slot) (account .held k) r
     greatest-same r = rw (held-same, operator-same, slot-same)
 
-module _ (line : Line) (run : Run) (words : List ℕ) (account : Account) (joined : Joined line run words account) (call : Call) where
+module _ (path : Path) (run : Run) (words : List ℕ) (account : Account) (joined : Joined path run words account) (call : Call) where
   -- and so is what goes into each operator, and out of the last
-  pub into-same : (k : ℕ) → k ≤ length (line .places) → inputInto run words call k ≡ arriving line account call k
+  pub into-same : (k : ℕ) → k ≤ length (path .operators) → inputInto run words call k ≡ arriving path account call k
   unfolding inputInto arriving sent
   into-same zero h = refl
   into-same (suc k) h =
       let before = into-same k (omega arith) in
-      rw before (ap (λ (s : ℕ). s + choiceFor call k) (least-same line run words account joined k h (arriving line account call k)))
+      rw before (ap (λ (s : ℕ). s + choiceFor call k) (least-same path run words account joined k h (arriving path account call k)))
 
   -- Where the meter takes the input and every output lies in its interval, run and words are joined to the account again.
-  module _ (few : length (line .places) ≤ mostOperators) (kept : slotBreaks run words call ≡ false)
-      (inside : (k : ℕ) → k < length (line .places) → numberInRange (operatorAt line k) ≡ true)
-      (whole : (k : ℕ) → k < length (line .places) → Whole (operatorAt line k) (account .held k))
-      (fits : (k : ℕ) → k < length (line .places) → arriving line account call (suc k) ≤ greatestOutput (operatorAt line k) (account .slot) (account .held k) (arriving line account call k)) where
+  module _ (few : length (path .operators) ≤ mostOperators) (kept : slotBreaks run words call ≡ false)
+      (inside : (k : ℕ) → k < length (path .operators) → numberInRange (operatorAt path k) ≡ true)
+      (whole : (k : ℕ) → k < length (path .operators) → Whole (operatorAt path k) (account .held k))
+      (fits : (k : ℕ) → k < length (path .operators) → arriving path account call (suc k) ≤ greatestOutput (operatorAt path k) (account .slot) (account .held k) (arriving path account call k)) where
     abbrev wordsThen : List ℕ
     wordsThen = listOf (wordNext run words call) runWordCount
 
@@ -211,7 +211,7 @@ module _ (line : Line) (run : Run) (words : List ℕ) (account : Account) (joine
     unfolding runNext stageAt
     then-stage k less = getD-listOf noStage (λ k. pick (ltb k (run .count)) (stageNext run words call k) (stageAt run k)) mostOperators k less
 
-    module _ (k : ℕ) (less : k < length (line .places)) where
+    module _ (k : ℕ) (less : k < length (path .operators)) where
       abbrev into : ℕ
       into = inputInto run words call k
 
@@ -224,8 +224,8 @@ module _ (line : Line) (run : Run) (words : List ℕ) (account : Account) (joine
       then-words : operatorWords wordsThen k ≡ wordsNext (singleIn run k) (operatorWords words k) into out
       unfolding operatorWords wordsNext operatorWordNext
       then-words =
-          part-is (operatorAtWord k) wordCount wordsThen (operator-fits wordsThen then-sized k (omega arith)) (heldNext (singleIn run k) (operatorWords words k) into out .past)
-          (λ a young. then-word k a (omega arith) young ∙ pick-true _ _ _ counts ∙ getD-listOf 0 (heldNext (singleIn run k) (operatorWords words k) into out .past) wordCount a young)
+          part-is (operatorAtWord k) wordCount wordsThen (operator-fits wordsThen then-sized k (omega arith)) (holdsNext (singleIn run k) (operatorWords words k) into out .past)
+          (λ a young. then-word k a (omega arith) young ∙ pick-true _ _ _ counts ∙ getD-listOf 0 (holdsNext (singleIn run k) (operatorWords words k) into out .past) wordCount a young)
 
       then-single : singleIn (runNext run words call) k ≡ stateNext (singleIn run k) (operatorWords words k) into out
       unfolding singleIn stageNext singleNext stateNext runNext
@@ -234,19 +234,19 @@ module _ (line : Line) (run : Run) (words : List ℕ) (account : Account) (joine
           (then-stage k (omega arith) ∙ pick-true _ _ _ counts)
 
       -- it sends its least and the choice
-      sends-least : leastOutput (singleIn run k .operator) (singleIn run k .slot .0) (account .held k) (arriving line account call k) ≤ arriving line account call (suc k)
+      sends-least : leastOutput (singleIn run k .operator) (singleIn run k .slot .0) (account .held k) (arriving path account call k) ≤ arriving path account call (suc k)
       unfolding arriving
-      sends-least = rw (operator-same line run words account joined k less, slot-same line run words account joined k less) (omega arith)
+      sends-least = rw (operator-same path run words account joined k less, slot-same path run words account joined k less) (omega arith)
 
-      then-stands : Stands (singleIn (runNext run words call) k) (operatorWords wordsThen k) (accountNext line account call .held k)
+      then-stands : Stands (singleIn (runNext run words call) k) (operatorWords wordsThen k) (accountNext path account call .held k)
       unfolding accountNext
       then-stands =
-          rw (then-single, then-words, into-same k (omega arith), into-same (suc k) less, ← operator-same line run words account joined k less)
-          (stands-next (singleIn run k) (operatorWords words k) (account .held k) (joined .stands k less) (rw (operator-same line run words account joined k less) (inside k less))
-          (rw (operator-same line run words account joined k less) (whole k less)) (arriving line account call k) (arriving line account call (suc k)) sends-least
-          (rw (operator-same line run words account joined k less, slot-same line run words account joined k less) (fits k less)))
+          rw (then-single, then-words, into-same k (omega arith), into-same (suc k) less, ← operator-same path run words account joined k less)
+          (stands-next (singleIn run k) (operatorWords words k) (account .held k) (joined .stands k less) (rw (operator-same path run words account joined k less) (inside k less))
+          (rw (operator-same path run words account joined k less) (whole k less)) (arriving path account call k) (arriving path account call (suc k)) sends-least
+          (rw (operator-same path run words account joined k less, slot-same path run words account joined k less) (fits k less)))
 
-    module _ (k : ℕ) (behind : length (line .places) ≤ k) (less : k < mostOperators) where
+    module _ (k : ℕ) (behind : length (path .operators) ≤ k) (less : k < mostOperators) where
       counts-not : ltb k (run .count) ≡ false
       counts-not = le-ltb k (run .count) (rw (joined .counted) behind)
 
@@ -254,27 +254,27 @@ module _ (line : Line) (run : Run) (words : List ℕ) (account : Account) (joine
       unfolding operatorWordNext
       then-clear = operator-clear wordsThen then-sized k less (λ a young. then-word k a less young ∙ pick-false _ _ _ counts-not ∙ joined .clear k behind less a)
 
-    then-declared : runNext run words call .declaration ≡ line .declaration
+    then-declared : runNext run words call .declaration ≡ path .declaration
     unfolding runNext
     then-declared = joined .declared
 
-    then-slot : runNext run words call .slot .0 ≡ accountNext line account call .slot
+    then-slot : runNext run words call .slot .0 ≡ accountNext path account call .slot
     unfolding runNext accountNext
     then-slot = ap (λ (n : ℕ). n + 1) (joined .slot)
 
-    then-counted : runNext run words call .count ≡ length (line .places)
+    then-counted : runNext run words call .count ≡ length (path .operators)
     unfolding runNext
     then-counted = joined .counted
 
-    then-operator : (k : ℕ) → k < length (line .places) → stageAt (runNext run words call) k .operator ≡ stageAt run k .operator
+    then-operator : (k : ℕ) → k < length (path .operators) → stageAt (runNext run words call) k .operator ≡ stageAt run k .operator
     unfolding stageNext
     then-operator k less = ap (λ (stage : Stage). stage .operator) (then-stage k (omega arith) ∙ pick-true _ _ _ (counts k less))
 
-    then-metered : Sound (meterFed (runNext run words call) wordsThen (accountNext line account call .entered))
+    then-metered : Sound (meterFed (runNext run words call) wordsThen (accountNext path account call .entered))
     unfolding runNext accountNext meterIn meterNext slotBreaks
     then-metered = rw then-meter (sound-next (meterFed run words (account .entered)) (joined .meter) (call .input) kept)
 
-    pub joined-next : Joined line (runNext run words call) wordsThen (accountNext line account call)
+    pub joined-next : Joined path (runNext run words call) wordsThen (accountNext path account call)
     joined-next =
         record {
           declared = then-declared;

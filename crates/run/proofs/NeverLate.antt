@@ -17,13 +17,13 @@ use Rattle.quantity.proofs.Laws.{pick-true}
 use Rattle.quantity.proofs.Sums.{both-true, getD-listOf}
 use Rattle.quantity.proofs.Refusals.{NoneStands, none-of-each, none-where-result, firstOf-none, FirstIs, none-or-first, first-answered, first-of-each}
 use Rattle.flow.specs.Declarations.{declarationInRange}
-use Rattle.sheet.specs.Paths.{Line}
-use Rattle.sheet.specs.Sheets.{sheetCases, pathIn, lineIn, lineInRange, placesInRange}
+use Rattle.sheet.specs.Paths.{Path}
+use Rattle.sheet.specs.Sheets.{sheetCases, valueIn, pathIn, pathInRange, operatorsInRange}
 use Rattle.sheet.specs.declared.read.Verdict.{Verdict}
-use Rattle.sheet.proofs.Accepted.{sheet-line, never-accepted}
+use Rattle.sheet.proofs.Accepted.{sheet-path, never-accepted}
 use Rattle.figures.specs.declared.Figure.{Figure}
 use Rattle.figures.specs.declared.PathFigures.{PathFigures}
-use Rattle.figures.specs.Answers.{capacityAt, lineCases, figureAt, figureIn, noFigure, refusedFigures, acceptedFigures, figuresOf}
+use Rattle.figures.specs.Answers.{capacityAt, pathCases, figureAt, figureIn, noFigure, refusedFigures, acceptedFigures, figuresOf}
 use Rattle.figures.proofs.Promise.{accepted-figures, interval-large, operator-inside, operator-capacity-le}
 use Rattle.run.specs.declared.opening.Opened.{Opened}
 use Rattle.run.specs.declared.slot.Outcome.{Outcome}
@@ -32,7 +32,7 @@ use Rattle.run.specs.Account.{Account, newAccount, slotsUsedUp, choicesT
 use Rattle.run.specs.Runs.{runWordCount}
 use Rattle.run.specs.Opening.{newRun, openCases, refusedOpening, openedOf, wordsOpened}
 use Rattle.run.specs.Slots.{slottedOf}
-use Rattle.run.specs.Watching.{heldAt}
+use Rattle.run.specs.Watching.{runHolds}
 use Rattle.run.specs.Lists.{Running, opened, slotted, slottedAll, accountAll}
 use Rattle.run.specs.NeverLate.{callAt, NeverLate}
 use Rattle.run.proofs.AccountCalls.{declaration-tested}
@@ -47,101 +47,101 @@ unfolding slottedAll
 slotted-last now [] call = refl
 slotted-last now (first ∷ calls) call = slotted-last (slotted now first) calls call
 
-account-last : (line : Line) (account : Account) (calls : List Call) (call : Call) → accountAll line account (calls ++ (call ∷ [])) ≡ accountAfter line (accountAll line account calls) call
+account-last : (path : Path) (account : Account) (calls : List Call) (call : Call) → accountAll path account (calls ++ (call ∷ [])) ≡ accountAfter path (accountAll path account calls) call
 unfolding accountAll
-account-last line account [] call = refl
-account-last line account (first ∷ calls) call = account-last line (accountAfter line account first) calls call
+account-last path account [] call = refl
+account-last path account (first ∷ calls) call = account-last path (accountAfter path account first) calls call
 
 -- Where the account refuses by 1, an argument is wrong or no slot number is left.
 
 sent-not-refused : (s : ℕ) (why : Refusal) → Outcome.Sent (record { 0 = s }) ≡ Outcome.Refused why → ⊥
 sent-not-refused s why e = let z : _≡_ {A = ℕ} 0 1 = cc in omega arith
 
-never-unusable : (line : Line) (account : Account) (call : Call) (n : ℕ) → FirstIs (choicesTooLarge line account call n) Unusable → ⊥
+never-unusable : (path : Path) (account : Account) (call : Call) (n : ℕ) → FirstIs (choicesTooLarge path account call n) Unusable → ⊥
 unfolding choicesTooLarge
-never-unusable line account call (suc n) first =
-    ⊎-elim (never-unusable line account call n) (⊎-elim (λ here. (let same = here .1 in let z : _≡_ {A = ℕ} 0 1 = cc in omega arith)) (λ rest. rest .1))
-    (first-of-each Unusable (choicesTooLarge line account call n) _ first)
+never-unusable path account call (suc n) first =
+    ⊎-elim (never-unusable path account call n) (⊎-elim (λ here. (let same = here .1 in let z : _≡_ {A = ℕ} 0 1 = cc in omega arith)) (λ rest. rest .1))
+    (first-of-each Unusable (choicesTooLarge path account call n) _ first)
 
-unusable-tested : (line : Line) (account : Account) (call : Call) → accountAnswer line account call ≡ Outcome.Refused Unusable
-    → (choicesMiscounted (length (line .places)) call ≡ true) ⊎ (amountTooLarge call ≡ true) ⊎ (slotsUsedUp account ≡ true)
+unusable-tested : (path : Path) (account : Account) (call : Call) → accountAnswer path account call ≡ Outcome.Refused Unusable
+    → (choicesMiscounted (length (path .operators)) call ≡ true) ⊎ (amountTooLarge call ≡ true) ⊎ (slotsUsedUp account ≡ true)
 unfolding accountAnswer
-unusable-tested line account call refused =
+unusable-tested path account call refused =
     ⊎-elim
-    (λ none. absurd (sent-not-refused _ Unusable (sym (firstOf-none Outcome.Refused _ (accountCases line account call) none) ∙ refused)))
-    (λ (why, first). by-first why first (sym (first-answered Outcome.Refused _ why (accountCases line account call) first) ∙ refused))
-    (none-or-first (accountCases line account call))
+    (λ none. absurd (sent-not-refused _ Unusable (sym (firstOf-none Outcome.Refused _ (accountCases path account call) none) ∙ refused)))
+    (λ (why, first). by-first why first (sym (first-answered Outcome.Refused _ why (accountCases path account call) first) ∙ refused))
+    (none-or-first (accountCases path account call))
   where
-    by-first : (why : Refusal) → FirstIs (accountCases line account call) why → Outcome.Refused why ≡ Outcome.Refused Unusable
-        → (choicesMiscounted (length (line .places)) call ≡ true) ⊎ (amountTooLarge call ≡ true) ⊎ (slotsUsedUp account ≡ true)
+    by-first : (why : Refusal) → FirstIs (accountCases path account call) why → Outcome.Refused why ≡ Outcome.Refused Unusable
+        → (choicesMiscounted (length (path .operators)) call ≡ true) ⊎ (amountTooLarge call ≡ true) ⊎ (slotsUsedUp account ≡ true)
     by-first why (inl (e, same)) answer = inl e
     by-first why (inr (a, inl (e, same))) answer = inr (inl e)
     by-first why (inr (a, inr (b, inl (e, same)))) answer = inr (inr e)
     by-first why (inr (a, inr (b, inr (c, inl (e, same))))) answer = let z : _≡_ {A = ℕ} 0 1 = cc in absurd (omega arith)
     by-first why (inr (a, inr (b, inr (c, inr (d, first))))) answer =
-        let unusable : why ≡ Unusable = cc in absurd (never-unusable line account call (length (line .places)) (rw unusable at first))
+        let unusable : why ≡ Unusable = cc in absurd (never-unusable path account call (length (path .operators)) (rw unusable at first))
 
 -- What opening tells of a sheet that it accepts.
 module _ (sheet words : List ℕ) (accepted : openedOf sheet words .verdict ≡ Verdict.Accepted) where
-  abbrev path : Line
-  path = lineIn sheet
+  abbrev value : Path
+  value = pathIn sheet
 
   opening-stands : NoneStands (openCases sheet words)
   unfolding openedOf refusedOpening
   opening-stands =
-      none-where-result refusedOpening (record { verdict = Verdict.Accepted; run = newRun path }) (λ (answer : Opened). answer .verdict ≡ Verdict.Accepted) never-accepted (openCases sheet words) accepted
+      none-where-result refusedOpening (record { verdict = Verdict.Accepted; run = newRun value }) (λ (answer : Opened). answer .verdict ≡ Verdict.Accepted) never-accepted (openCases sheet words) accepted
 
   sheet-stands : NoneStands (sheetCases sheet)
-  sheet-stands = none-of-each (sheetCases sheet) (lineCases path) (opening-stands .1) .0
+  sheet-stands = none-of-each (sheetCases sheet) (pathCases value) (opening-stands .1) .0
 
-  path-stands : NoneStands (lineCases path)
-  path-stands = none-of-each (sheetCases sheet) (lineCases path) (opening-stands .1) .1
+  path-stands : NoneStands (pathCases value)
+  path-stands = none-of-each (sheetCases sheet) (pathCases value) (opening-stands .1) .1
 
-  path-inside : lineInRange path ≡ true
-  path-inside = sheet-line sheet sheet-stands .inside
+  path-inside : pathInRange value ≡ true
+  path-inside = sheet-path sheet sheet-stands .inside
 
   figures-accept : figuresOf sheet .verdict ≡ Verdict.Accepted
   unfolding figuresOf refusedFigures acceptedFigures
-  figures-accept = ap (λ (answer : PathFigures). answer .verdict) (firstOf-none refusedFigures (acceptedFigures (pathIn sheet) path) (sheetCases sheet ++ lineCases path) (opening-stands .1))
+  figures-accept = ap (λ (answer : PathFigures). answer .verdict) (firstOf-none refusedFigures (acceptedFigures (valueIn sheet) value) (sheetCases sheet ++ pathCases value) (opening-stands .1))
 
-  passes : Passes path
-  unfolding lineInRange
+  passes : Passes value
+  unfolding pathInRange
   passes =
       record {
-        some = sheet-line sheet sheet-stands .some;
-        few = sheet-line sheet sheet-stands .few;
-        large = interval-large path path-inside;
-        declared = both-true (declarationInRange (path .declaration)) (both (inRange wantedDelayRange (path .wanted)) (placesInRange (path .places))) path-inside .0;
-        number = operator-inside path path-inside path-stands;
-        capacity = operator-capacity-le path path-inside path-stands;
+        some = sheet-path sheet sheet-stands .some;
+        few = sheet-path sheet sheet-stands .few;
+        large = interval-large value path-inside;
+        declared = both-true (declarationInRange (value .declaration)) (both (inRange wantedDelayRange (value .wanted)) (operatorsInRange (value .operators))) path-inside .0;
+        number = operator-inside value path-inside path-stands;
+        capacity = operator-capacity-le value path-inside path-stands;
       }
 
   -- the capacity that `figures` answers is section 4's
-  capacity-answered : (k : ℕ) → k < length (path .places) → getD (figuresOf sheet .figures) k noFigure .capacity .0 ≡ capacityAt path k
+  capacity-answered : (k : ℕ) → k < length (value .operators) → getD (figuresOf sheet .figures) k noFigure .capacity .0 ≡ capacityAt value k
   unfolding figureIn figureAt
   capacity-answered k less =
       let few = passes .few in
       ap (λ (figures : List Figure). getD figures k noFigure .capacity .0) (accepted-figures sheet figures-accept .2)
-      ∙ ap (λ (figure : Figure). figure .capacity .0) (getD-listOf noFigure (figureIn path) 16 k (omega arith) ∙ pick-true _ _ _ (lt-ltb k (length (path .places)) less))
+      ∙ ap (λ (figure : Figure). figure .capacity .0) (getD-listOf noFigure (figureIn value) 16 k (omega arith) ∙ pick-true _ _ _ (lt-ltb k (length (value .operators)) less))
 
-  joined-opened : Joined path (opened sheet words .run) (opened sheet words .words) newAccount
+  joined-opened : Joined value (opened sheet words .run) (opened sheet words .words) newAccount
   unfolding opened openedOf wordsOpened refusedOpening
   joined-opened =
       rw (
-        firstOf-none refusedOpening (record { verdict = Verdict.Accepted; run = newRun path }) (openCases sheet words) opening-stands,
+        firstOf-none refusedOpening (record { verdict = Verdict.Accepted; run = newRun value }) (openCases sheet words) opening-stands,
         firstOf-none (λ why. words) (listOf (λ j. 0) runWordCount) (openCases sheet words) opening-stands,
       )
-      (joined-new path (passes .few) (passes .declared))
+      (joined-new value (passes .few) (passes .declared))
 
   -- The account of every list of calls, and of one more call that it takes.
-  account-within : (calls : List Call) → AccountKept path (accountAll path newAccount calls)
-  account-within calls = account-kept path path-inside path-stands calls
+  account-within : (calls : List Call) → AccountKept value (accountAll value newAccount calls)
+  account-within calls = account-kept value path-inside path-stands calls
 
-  account-taken : (calls : List Call) (call : Call) → NoneStands (accountCases path (accountAll path newAccount calls) call)
-      → AccountKept path (accountNext path (accountAll path newAccount calls) call)
+  account-taken : (calls : List Call) (call : Call) → NoneStands (accountCases value (accountAll value newAccount calls) call)
+      → AccountKept value (accountNext value (accountAll value newAccount calls) call)
   unfolding accountAfter
   account-taken calls call none =
-      rw (account-last path newAccount calls call, firstOf-none (λ why. accountAll path newAccount calls) (accountNext path (accountAll path newAccount calls) call) (accountCases path (accountAll path newAccount calls) call) none)
+      rw (account-last value newAccount calls call, firstOf-none (λ why. accountAll value newAccount calls) (accountNext value (accountAll value newAccount calls) call) (accountCases value (accountAll value newAccount calls) call) none)
       at (account-within (calls ++ (call ∷ [])))
 
   module _ (calls : List Call) where
@@ -149,31 +149,31 @@ module _ (sheet words : List ℕ) (accepted : openedOf sheet words .verdict ≡ 
     running n = slottedAll (opened sheet words) (take n calls)
 
     abbrev account : ℕ → Account
-    account n = accountAll path newAccount (take n calls)
+    account n = accountAll value newAccount (take n calls)
 
-    joined-at : (n : ℕ) → n ≤ length calls → Joined path (running n .run) (running n .words) (account n)
+    joined-at : (n : ℕ) → n ≤ length calls → Joined value (running n .run) (running n .words) (account n)
     unfolding slottedAll accountAll slotted
     joined-at zero h = joined-opened
     joined-at (suc n) h =
         let before = joined-at n (omega arith) in
         let call = callAt calls n in
-        rw (take-suc calls n (record { input = 0; choices = [] }) h, slotted-last (opened sheet words) (take n calls) call, account-last path newAccount (take n calls) call)
-        (joined-after path passes (running n .run) (running n .words) (account n) before (account-within (take n calls)) call (account-taken (take n calls) call))
+        rw (take-suc calls n (record { input = 0; choices = [] }) h, slotted-last (opened sheet words) (take n calls) call, account-last value newAccount (take n calls) call)
+        (joined-after value passes (running n .run) (running n .words) (account n) before (account-within (take n calls)) call (account-taken (take n calls) call))
 
-    answered-at : (n : ℕ) → n < length calls → slottedOf (running n .run) (running n .words) (callAt calls n) .outcome ≡ accountAnswer path (account n) (callAt calls n)
+    answered-at : (n : ℕ) → n < length calls → slottedOf (running n .run) (running n .words) (callAt calls n) .outcome ≡ accountAnswer value (account n) (callAt calls n)
     answered-at n less =
-        answer-same path passes (running n .run) (running n .words) (account n) (joined-at n (omega arith)) (account-within (take n calls)) (callAt calls n) (account-taken (take n calls) (callAt calls n))
+        answer-same value passes (running n .run) (running n .words) (account n) (joined-at n (omega arith)) (account-within (take n calls)) (callAt calls n) (account-taken (take n calls) (callAt calls n))
 
 -- Demand 3: of every sheet, every content of the lent words, and every list of calls, where opening was not refused
 pub never-late : (sheet words : List ℕ) → openedOf sheet words .verdict ≡ Verdict.Accepted → (calls : List Call) → NeverLate sheet words calls
-unfolding heldAt
+unfolding runHolds
 never-late sheet words accepted calls =
     let delay = accepted-figures sheet (figures-accept sheet words accepted) .1 in
     record {
       answers = answered-at sheet words accepted calls;
-      declared = λ n less. declaration-tested (lineIn sheet) (accountAll (lineIn sheet) newAccount (take n calls)) (callAt calls n) (passes sheet words accepted .large);
+      declared = λ n less. declaration-tested (pathIn sheet) (accountAll (pathIn sheet) newAccount (take n calls)) (callAt calls n) (passes sheet words accepted .large);
       holds = λ n h k less. joined-at sheet words accepted calls n h .stands k less .same;
       in-time = rw delay (account-within sheet words accepted calls .in-time);
       within = λ n h k less. rw (capacity-answered sheet words accepted k less) (account-within sheet words accepted (take n calls) .held-within k less);
-      unusable-only = λ n less refused. unusable-tested (lineIn sheet) (accountAll (lineIn sheet) newAccount (take n calls)) (callAt calls n) (sym (answered-at sheet words accepted calls n less) ∙ refused);
+      unusable-only = λ n less refused. unusable-tested (pathIn sheet) (accountAll (pathIn sheet) newAccount (take n calls)) (callAt calls n) (sym (answered-at sheet words accepted calls n less) ∙ refused);
     }

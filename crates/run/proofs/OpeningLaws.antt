@@ -17,16 +17,16 @@ use Rattle.quantity.specs.declared.refusal.Refusal.the-variants.{Unusable}
 use Rattle.quantity.proofs.Laws.{pick-true, pick-false}
 use Rattle.quantity.proofs.Sums.{listOf-ext}
 use Rattle.quantity.proofs.Refusals.{firstOf-map}
-use Rattle.sheet.specs.declared.Place.{Place}
-use Rattle.sheet.specs.declared.Path.{Path}
+use Rattle.sheet.specs.declared.LinkedOperator.{LinkedOperator}
+use Rattle.sheet.specs.declared.PathValue.{PathValue}
 use Rattle.sheet.specs.declared.read.Verdict.{Verdict}
 use Rattle.sheet.specs.declared.Form.{Form}
-use Rattle.sheet.specs.Paths.{Line, noPlace}
-use Rattle.sheet.specs.Forms.{valueIn}
-use Rattle.sheet.specs.Sheets.{sheetCases, pathIn, lineIn}
-use Rattle.sheet.proofs.Accepted.{sheet-line}
+use Rattle.sheet.specs.Paths.{Path, noLinkedOperator}
+use Rattle.sheet.specs.Forms.{valueOfPath}
+use Rattle.sheet.specs.Sheets.{sheetCases, valueIn, pathIn}
+use Rattle.sheet.proofs.Accepted.{sheet-path}
 use Rattle.figures.specs.declared.PathFigures.{PathFigures}
-use Rattle.figures.specs.Answers.{operatorAt, lineCases, refusedFigures, acceptedFigures, figuresOf}
+use Rattle.figures.specs.Answers.{operatorAt, pathCases, refusedFigures, acceptedFigures, figuresOf}
 use Rattle.figures.proofs.Promise.{accepted-figures, accepted-none}
 use Rattle.run.specs.declared.Stage.{Stage}
 use Rattle.run.specs.declared.opening.Opened.{Opened}
@@ -34,75 +34,75 @@ use Rattle.run.specs.Runs.{runWordCount, mostOperators, noStage}
 use Rattle.run.specs.Opening.{newStage, newRun, refusedOpening, openedOf, wordsOpened}
 
 -- a place's operator with nothing held
-abbrev pub stageOf : Place → Stage
-stageOf place = record { operator = place .operator; held = record { 0 = 0 }; beside = record { 0 = 0 } }
+abbrev pub stageOf : LinkedOperator → Stage
+stageOf linked = record { operator = linked .operator; held = record { 0 = 0 }; beside = record { 0 = 0 } }
 
 -- the first k stages are those of the places
-pub record Staged (places : List Place) (stages : List Stage) (k : ℕ) : Type 0 where
+pub record Staged (operators : List LinkedOperator) (stages : List Stage) (k : ℕ) : Type 0 where
   pub few : k ≤ mostOperators
   pub sized : length stages ≡ mostOperators
-  pub each : (j : ℕ) → j < k → getD stages j noStage ≡ stageOf (getD places j noPlace)
+  pub each : (j : ℕ) → j < k → getD stages j noStage ≡ stageOf (getD operators j noLinkedOperator)
 
-module _ (places : List Place) where
-  pub staged-first : {stage : Stage} → Staged places (replicate mostOperators stage) 0
+module _ (operators : List LinkedOperator) where
+  pub staged-first : {stage : Stage} → Staged operators (replicate mostOperators stage) 0
   staged-first {stage} = record { few = omega arith; sized = length-replicate mostOperators stage; each = below-none _ }
 
-  pub staged-next : {stages : List Stage} {k : ℕ} → Staged places stages k → k < mostOperators → Staged places (set stages k (stageOf (getD places k noPlace))) (k + 1)
+  pub staged-next : {stages : List Stage} {k : ℕ} → Staged operators stages k → k < mostOperators → Staged operators (set stages k (stageOf (getD operators k noLinkedOperator))) (k + 1)
   staged-next {stages} {k} staged less =
-      let stage = stageOf (getD places k noPlace) in
+      let stage = stageOf (getD operators k noLinkedOperator) in
       record {
         few = omega arith;
         sized = length-set stages k stage ∙ staged .sized;
         each =
-            below-more (λ (j : ℕ). getD (set stages k stage) j noStage ≡ stageOf (getD places j noPlace)) k
+            below-more (λ (j : ℕ). getD (set stages k stage) j noStage ≡ stageOf (getD operators j noLinkedOperator)) k
             (λ j before. getD-set-other stages k j stage noStage (λ same. omega arith) ∙ staged .each j before)
             (getD-set-same stages k stage noStage (rw (staged .sized) less));
       }
 
 -- the places of a path's value: those of the path, and empty ones behind them
-module _ (line : Line) where
-  filled : (k : ℕ) → k < mostOperators → getD (line .places ++ replicate mostOperators noPlace) k noPlace ≡ getD (line .places) k noPlace
+module _ (path : Path) where
+  filled : (k : ℕ) → k < mostOperators → getD (path .operators ++ replicate mostOperators noLinkedOperator) k noLinkedOperator ≡ getD (path .operators) k noLinkedOperator
   filled k less =
-      elim (decLe (length (line .places)) k) [
+      elim (decLe (length (path .operators)) k) [
         | yes behind ↦
-            let rest : length (line .places) + (k - length (line .places)) ≡ k = omega arith in
-            ap (λ (n : ℕ). getD (line .places ++ replicate mostOperators noPlace) n noPlace) (sym rest)
-            ∙ getD-append-add (line .places) (replicate mostOperators noPlace) (k - length (line .places)) noPlace
-            ∙ getD-replicate mostOperators (k - length (line .places)) noPlace noPlace (omega arith)
-            ∙ sym (List·getD-eq-default (line .places) noPlace behind)
-        | no inside ↦ List·getD-append (line .places) (replicate mostOperators noPlace) noPlace k (lt-of-not-le inside)
+            let rest : length (path .operators) + (k - length (path .operators)) ≡ k = omega arith in
+            ap (λ (n : ℕ). getD (path .operators ++ replicate mostOperators noLinkedOperator) n noLinkedOperator) (sym rest)
+            ∙ getD-append-add (path .operators) (replicate mostOperators noLinkedOperator) (k - length (path .operators)) noLinkedOperator
+            ∙ getD-replicate mostOperators (k - length (path .operators)) noLinkedOperator noLinkedOperator (omega arith)
+            ∙ sym (List·getD-eq-default (path .operators) noLinkedOperator behind)
+        | no inside ↦ List·getD-append (path .operators) (replicate mostOperators noLinkedOperator) noLinkedOperator k (lt-of-not-le inside)
       ]
 
-  value-place : (form : Form) (k : ℕ) → k < mostOperators → getD (valueIn form line .places) k noPlace ≡ getD (line .places) k noPlace
-  unfolding valueIn
-  value-place form k less = getD-take mostOperators (line .places ++ replicate mostOperators noPlace) k noPlace less ∙ filled k less
+  value-linked : (form : Form) (k : ℕ) → k < mostOperators → getD (valueOfPath form path .operators) k noLinkedOperator ≡ getD (path .operators) k noLinkedOperator
+  unfolding valueOfPath
+  value-linked form k less = getD-take mostOperators (path .operators ++ replicate mostOperators noLinkedOperator) k noLinkedOperator less ∙ filled k less
 
-  module _ (path : Path) (same : path ≡ valueIn (path .form) line) where
-    declaration-same : path .declaration ≡ line .declaration
-    unfolding valueIn
-    declaration-same = ap (λ (p : Path). p .declaration) same
+  module _ (value : PathValue) (same : value ≡ valueOfPath (value .form) path) where
+    declaration-same : value .declaration ≡ path .declaration
+    unfolding valueOfPath
+    declaration-same = ap (λ (p : PathValue). p .declaration) same
 
-    count-same : path .count ≡ length (line .places)
-    unfolding valueIn
-    count-same = ap (λ (p : Path). p .count) same
+    count-same : value .count ≡ length (path .operators)
+    unfolding valueOfPath
+    count-same = ap (λ (p : PathValue). p .count) same
 
-    place-same : (k : ℕ) → k < mostOperators → getD (path .places) k noPlace ≡ getD (line .places) k noPlace
-    place-same k less = ap (λ (p : Path). getD (p .places) k noPlace) same ∙ value-place (path .form) k less
+    linked-same : (k : ℕ) → k < mostOperators → getD (value .operators) k noLinkedOperator ≡ getD (path .operators) k noLinkedOperator
+    linked-same k less = ap (λ (p : PathValue). getD (p .operators) k noLinkedOperator) same ∙ value-linked (value .form) k less
 
-    stages-same : {stages : List Stage} → Staged (path .places) stages mostOperators → stages ≡ listOf (newStage line) mostOperators
+    stages-same : {stages : List Stage} → Staged (value .operators) stages mostOperators → stages ≡ listOf (newStage path) mostOperators
     unfolding newStage operatorAt
-    stages-same {stages} staged = listOf-ext noStage (newStage line) mostOperators stages (staged .sized) (λ k less. staged .each k less ∙ ap stageOf (place-same k less))
+    stages-same {stages} staged = listOf-ext noStage (newStage path) mostOperators stages (staged .sized) (λ k less. staged .each k less ∙ ap stageOf (linked-same k less))
 
-    pub staged-run : {stages : List Stage} → Staged (path .places) stages mostOperators
-        → record { declaration = path .declaration; slot = record { 0 = 0 }; block = record { 0 = 0 }; count = path .count; stages = stages } ≡ newRun line
+    pub staged-run : {stages : List Stage} → Staged (value .operators) stages mostOperators
+        → record { declaration = value .declaration; slot = record { 0 = 0 }; block = record { 0 = 0 }; count = value .count; stages = stages } ≡ newRun path
     unfolding newRun
     staged-run staged = rw (declaration-same, count-same, stages-same staged)
 
 -- What opening answers.
 
-abbrev openedBy : Line → Verdict → Opened
-openedBy line Verdict.Accepted = record { verdict = Verdict.Accepted; run = newRun line }
-openedBy line (Verdict.Refused why) = refusedOpening why
+abbrev openedBy : Path → Verdict → Opened
+openedBy path Verdict.Accepted = record { verdict = Verdict.Accepted; run = newRun path }
+openedBy path (Verdict.Refused why) = refusedOpening why
 
 abbrev wordsBy : List ℕ → Verdict → List ℕ
 wordsBy words Verdict.Accepted = listOf (λ j. 0) runWordCount
@@ -125,30 +125,30 @@ module _ (sheet : List ℕ) (words : List ℕ) where
     passed = ap not (eq-eqb (length words) runWordCount sized)
 
     -- the verdict on the figures decides
-    opened-by : openedBy (lineIn sheet) (figuresOf sheet .verdict) ≡ openedOf sheet words
+    opened-by : openedBy (pathIn sheet) (figuresOf sheet .verdict) ≡ openedOf sheet words
     unfolding openedOf figuresOf refusedOpening
     opened-by =
-        firstOf-map (λ (figures : PathFigures). openedBy (lineIn sheet) (figures .verdict)) refusedFigures (acceptedFigures (pathIn sheet) (lineIn sheet)) (sheetCases sheet ++ lineCases (lineIn sheet))
+        firstOf-map (λ (figures : PathFigures). openedBy (pathIn sheet) (figures .verdict)) refusedFigures (acceptedFigures (valueIn sheet) (pathIn sheet)) (sheetCases sheet ++ pathCases (pathIn sheet))
         ∙ sym (pick-false _ _ _ passed)
 
     words-by : wordsBy words (figuresOf sheet .verdict) ≡ wordsOpened sheet words
     unfolding wordsOpened figuresOf
     words-by =
-        firstOf-map (λ (figures : PathFigures). wordsBy words (figures .verdict)) refusedFigures (acceptedFigures (pathIn sheet) (lineIn sheet)) (sheetCases sheet ++ lineCases (lineIn sheet))
+        firstOf-map (λ (figures : PathFigures). wordsBy words (figures .verdict)) refusedFigures (acceptedFigures (valueIn sheet) (pathIn sheet)) (sheetCases sheet ++ pathCases (pathIn sheet))
         ∙ sym (pick-false _ _ _ passed)
 
     pub opening-refused : {why : Refusal} → figuresOf sheet .verdict ≡ Verdict.Refused why → Opening (refusedOpening why) words
-    opening-refused verdict = (sym (ap (openedBy (lineIn sheet)) verdict) ∙ opened-by, sym (ap (wordsBy words) verdict) ∙ words-by)
+    opening-refused verdict = (sym (ap (openedBy (pathIn sheet)) verdict) ∙ opened-by, sym (ap (wordsBy words) verdict) ∙ words-by)
 
-    pub opening-accepted : figuresOf sheet .verdict ≡ Verdict.Accepted → Opening (record { verdict = Verdict.Accepted; run = newRun (lineIn sheet) }) (listOf (λ j. 0) (length words))
+    pub opening-accepted : figuresOf sheet .verdict ≡ Verdict.Accepted → Opening (record { verdict = Verdict.Accepted; run = newRun (pathIn sheet) }) (listOf (λ j. 0) (length words))
     opening-accepted verdict = (
-      sym (ap (openedBy (lineIn sheet)) verdict) ∙ opened-by,
+      sym (ap (openedBy (pathIn sheet)) verdict) ∙ opened-by,
       ap (listOf (λ j. 0)) sized ∙ sym (ap (wordsBy words) verdict) ∙ words-by,
     )
 
 -- the path of accepted figures has at most sixteen operators, and is the sheet's
-pub accepted-few : (sheet : List ℕ) → figuresOf sheet .verdict ≡ Verdict.Accepted → length (lineIn sheet .places) ≤ mostOperators
-accepted-few sheet accepted = sheet-line sheet (accepted-none sheet accepted .0) .few
+pub accepted-few : (sheet : List ℕ) → figuresOf sheet .verdict ≡ Verdict.Accepted → length (pathIn sheet .operators) ≤ mostOperators
+accepted-few sheet accepted = sheet-path sheet (accepted-none sheet accepted .0) .few
 
-pub accepted-path : (sheet : List ℕ) → figuresOf sheet .verdict ≡ Verdict.Accepted → {answer : PathFigures} → answer ≡ figuresOf sheet → answer .path ≡ valueIn (answer .path .form) (lineIn sheet)
-accepted-path sheet accepted answered = rw (ap (λ (figures : PathFigures). figures .path) answered ∙ accepted-figures sheet accepted .0) (sheet-line sheet (accepted-none sheet accepted .0) .value)
+pub accepted-path : (sheet : List ℕ) → figuresOf sheet .verdict ≡ Verdict.Accepted → {answer : PathFigures} → answer ≡ figuresOf sheet → answer .path ≡ valueOfPath (answer .path .form) (pathIn sheet)
+accepted-path sheet accepted answered = rw (ap (λ (figures : PathFigures). figures .path) answered ∙ accepted-figures sheet accepted .0) (sheet-path sheet (accepted-none sheet accepted .0) .value)

@@ -4,7 +4,7 @@ use mathlib.Core.List.{List, [], _∷_}
 use Prim.Native.Nat.{ℕ}
 use lib.ListN.{length}
 use Rattle.quantity.specs.Sums.{total, every, listOf}
-use Rattle.quantity.specs.Refusals.{numberOf, placeOf}
+use Rattle.quantity.specs.Refusals.{refusalNumber, refusalPlace}
 use Rattle.operator.specs.Held.{keeps}
 use Rattle.operator.specs.Compactor.{compactorLeast, compactorGreatest, compactorAfter}
 use Rattle.operator.specs.Expander.{expanderLeast, expanderGreatest, expanderAfter}
@@ -12,7 +12,7 @@ use Rattle.operator.specs.Filter.{besideAfter, filterLeast, filterGreatest, fil
 use Rattle.operator.specs.Delayer.{ofAge, olderThan, staysOf, delayerLeast, delayerGreatest, delayerAfter}
 use Rattle.operator.specs.Operators.{leastOutput, greatestOutput, heldAfter, compactor, expander, filter, delayer}
 use Rattle.flow.specs.Keeping.{keepsTo, keepsClass}
-use Rattle.sheet.specs.Paths.{Line}
+use Rattle.sheet.specs.Paths.{Path}
 use Rattle.figures.specs.Answers.{operatorAt}
 use Rattle.figures.proofs.ReferencePaths.{path}
 use Rattle.run.specs.Calls.{Call, choicesMiscounted, amountTooLarge}
@@ -27,19 +27,19 @@ pub data Answer : Type 0 where
 
 abbrev pub answerOf : Outcome → Answer
 answerOf (Outcome.Sent output) = sent (output .0)
-answerOf (Outcome.Refused why) = refused (numberOf why) (placeOf why)
+answerOf (Outcome.Refused why) = refused (refusalNumber why) (refusalPlace why)
 
-pub answers : Line → Account → List Call → List Answer
-answers line account [] = []
-answers line account (call ∷ calls) = answerOf (accountAnswer line account call) ∷ answers line (accountAfter line account call) calls
+pub answers : Path → Account → List Call → List Answer
+answers path account [] = []
+answers path account (call ∷ calls) = answerOf (accountAnswer path account call) ∷ answers path (accountAfter path account call) calls
 
 -- what is answered, and what each operator holds then
 pub record Ran : Type 0 where
   pub answered : List Answer
   pub held : List ℕ
 
-pub ran : Line → List Call → Ran
-ran line calls = record { answered = answers line newAccount calls; held = listOf (λ k. accountAll line newAccount calls .held k .b) (length (line .places)) }
+pub ran : Path → List Call → Ran
+ran path calls = record { answered = answers path newAccount calls; held = listOf (λ k. accountAll path newAccount calls .held k .b) (length (path .operators)) }
 
 abbrev pub given : ℕ → List ℕ → Call
 given input choices = record { input = input; choices = choices }

@@ -18,7 +18,7 @@ use Rattle.run.specs.declared.slot.Slotted.{Slotted}
 use Rattle.run.specs.Calls.{Call, choiceFor}
 use Rattle.run.specs.Runs.{operatorWords, stageAt, meterIn, singleIn}
 use Rattle.run.specs.Slots.{inputInto, slotBreaks, choiceAboveAt, choiceCases, slotCases, refusedSlot, takenSlot, slottedOf}
-use Rattle.run.specs.Watching.{heldAt}
+use Rattle.run.specs.Watching.{runHolds}
 use Rattle.run.specs.Taking.{Took, LetPass, KeepsDeclared, InInterval}
 use Rattle.run.proofs.SlotAnswers.{slot-taken}
 use Rattle.run.proofs.UsableRun.{UsableRun, usable-run, stage-usable, stage-number, fits-at}
@@ -39,21 +39,21 @@ module _ (run : Run) (words : List ℕ) (call : Call) where
 
   module _ (passed : UsableRun run words) (k : ℕ) (less : k < run .count) where
     -- the interval is never empty, so the test of a choice is that of the output
-    interval-some : leastOutput (stageAt run k .operator) (run .slot .0) (heldAt run words k) (inputInto run words call k)
-        ≤ greatestOutput (stageAt run k .operator) (run .slot .0) (heldAt run words k) (inputInto run words call k)
-    unfolding heldAt singleIn
+    interval-some : leastOutput (stageAt run k .operator) (run .slot .0) (runHolds run words k) (inputInto run words call k)
+        ≤ greatestOutput (stageAt run k .operator) (run .slot .0) (runHolds run words k) (inputInto run words call k)
+    unfolding runHolds singleIn
     interval-some =
         let few = passed .few in
         let fits = fits-at run words passed k (omega arith) in
-        least-le-greatest (stageAt run k .operator) (run .slot .0) (heldAt run words k) (inputInto run words call k)
+        least-le-greatest (stageAt run k .operator) (run .slot .0) (runHolds run words k) (inputInto run words call k)
         (whole-stored (singleIn run k) (operatorWords words k) (stage-usable run words k fits) (stage-number run words k fits less))
 
     pub within-interval : choiceAboveAt run words call k ≡ false → InInterval run words call k
-    unfolding choiceAboveAt choiceAbove heldAt singleIn inputInto sent
+    unfolding choiceAboveAt choiceAbove runHolds singleIn inputInto sent
     within-interval below = let some = interval-some in (omega arith, omega (arith, ltb-false))
 
     interval-within : InInterval run words call k → choiceAboveAt run words call k ≡ false
-    unfolding choiceAboveAt choiceAbove heldAt singleIn inputInto sent
+    unfolding choiceAboveAt choiceAbove runHolds singleIn inputInto sent
     interval-within within = le-ltb _ (choiceFor call k) (omega (arith, within .1))
 
   took-stands : Took (slottedOf run words call .outcome) → NoneStands (slotCases run words call)

@@ -17,7 +17,7 @@ use Rattle.quantity.specs.declared.refusal.Refusal.{Refusal}
 use Rattle.quantity.specs.declared.refusal.Refusal.the-variants.{Unusable}
 use Rattle.quantity.proofs.Laws.{pick-true, pick-false}
 use Rattle.quantity.proofs.Sums.{both-true, every-next, length-listOf, getD-listOf, listOf-ext, every-fails, every-same}
-use Rattle.operator.specs.Single.{usesHeld, heldIn, storedUnusable}
+use Rattle.operator.specs.Single.{usesHeld, holds, storedUnusable}
 use Rattle.operator.specs.Within.{storedOf}
 use Rattle.operator.specs.Operators.{numberInRange}
 use Rattle.flow.specs.Declarations.{declarationInRange}
@@ -36,7 +36,7 @@ use Rattle.run.specs.declared.Run.{Run}
 use Rattle.run.specs.declared.test.Tested.{Tested}
 use Rattle.run.specs.declared.watch.Watched.{Watched}
 use Rattle.run.specs.Runs.{mostOperators, meterIn, meterWords, operatorWords, noStage, noOperator, stageAt, singleOf, singleIn, stageMisplaced, stageUnusable, stageFits, runUnusable}
-use Rattle.run.specs.Watching.{heldAt, unitsHeld, watchedOf}
+use Rattle.run.specs.Watching.{runHolds, unitsHeld, watchedOf}
 use Rattle.run.specs.Steps.{notTested, countedIn, testedOf}
 use Rattle.run.proofs.UsableRun.{UsableRun, run-usable, run-unusable}
 
@@ -68,14 +68,14 @@ module _ (stage : Stage) {named : Bool} where
 
 module _ (stage : Stage) (slot : Slots) (words : List ℕ) where
   -- a stage in its place behind the path's operators holds nothing
-  behind-nothing : stageMisplaced stage false ≡ false → heldIn (singleOf stage slot) words .b ≡ 0
-  unfolding stageMisplaced heldIn
+  behind-nothing : stageMisplaced stage false ≡ false → holds (singleOf stage slot) words .b ≡ 0
+  unfolding stageMisplaced holds
   behind-nothing e =
       let (empty, nothing) = both-true (noOperator (stage .operator)) (eqb (stage .held .0) 0) (not-false _ e) in
       pick-true (usesHeld (stage .operator)) _ _ (none-uses (stage .operator) empty) ∙ eqb-true (stage .held .0) 0 nothing
 
   -- so what a stage in its place holds is the answer of all sixteen
-  placed-units : (named : Bool) → stageMisplaced stage named ≡ false → heldIn (singleOf stage slot) words .b ≡ pick named (heldIn (singleOf stage slot) words .b) 0
+  placed-units : (named : Bool) → stageMisplaced stage named ≡ false → holds (singleOf stage slot) words .b ≡ pick named (holds (singleOf stage slot) words .b) 0
   placed-units true e = refl
   placed-units false e = behind-nothing e
 
@@ -92,7 +92,7 @@ module _ (stages : List Stage) (slot : Slots) (count : ℕ) (words : List ℕ) w
 
   -- and what it holds
   unfoldable pub unitsIn : ℕ → Units
-  unitsIn k = record { 0 = pick (ltb k count) (heldIn (single k) (operatorWords words k) .b) 0 }
+  unitsIn k = record { 0 = pick (ltb k count) (holds (single k) (operatorWords words k) .b) 0 }
 
   -- the first k stages fit, and what each holds is found
   pub record Found (held : List Units) (k : ℕ) : Type 0 where
@@ -159,7 +159,7 @@ module _ (run : Run) (words : List ℕ) where
   fits-at k = refl
 
   units-at : (k : ℕ) → unitsOf k ≡ unitsHeld run words k
-  unfolding unitsIn unitsHeld heldAt singleIn stageAt
+  unfolding unitsIn unitsHeld runHolds singleIn stageAt
   units-at k = refl
 
   pub fits-run : every fitsOf mostOperators ≡ every (stageFits run words) mostOperators

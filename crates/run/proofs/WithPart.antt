@@ -34,9 +34,9 @@ module _ (at : ℕ) (new words : List ℕ) (within : at + length new ≤ length 
   unfolding withPart
   word-behind j behind =
       let rest = j - (at + length new) in
-      let place : j ≡ length (take at words) + (length new + rest) = omega (arith, before-size) in
+      let linked : j ≡ length (take at words) + (length new + rest) = omega (arith, before-size) in
       let same : at + length new + rest ≡ j = omega arith in
-      ap (wordAt (take at words ++ (new ++ drop (at + length new) words))) place
+      ap (wordAt (take at words ++ (new ++ drop (at + length new) words))) linked
       ∙ getD-append-add (take at words) (new ++ drop (at + length new) words) (length new + rest) 0
       ∙ getD-append-add new (drop (at + length new) words) rest 0
       ∙ getD-drop (at + length new) words rest 0

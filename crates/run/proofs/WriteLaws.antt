@@ -269,8 +269,8 @@ module _ (run : Run) (first : List ℕ) (counted input : ℕ) (moves : List Move
           let a = (j - meterWordCount) % wordCount in
           let whole = div-add-mod' (j - meterWordCount) wordCount in
           let inside : a < wordCount = mod-lt (j - meterWordCount) {m = wordCount} (omega arith) in
-          let place : j ≡ operatorAtWord i + a = omega arith in
-          ap (wordAt after) place ∙ operator-end i a (omega arith) inside
+          let linked : j ≡ operatorAtWord i + a = omega arith in
+          ap (wordAt after) linked ∙ operator-end i a (omega arith) inside
 
   -- and its words
   pub words-end : after ≡ listOf (wordWritten run first counted input moves) runWordCount

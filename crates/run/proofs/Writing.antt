@@ -14,7 +14,7 @@ use Rattle.quantity.proofs.Laws.{either-false}
 use Rattle.quantity.proofs.Sums.{every-at, getD-listOf}
 use Rattle.quantity.proofs.Refusals.{NoneStands, none-of-each}
 use Rattle.words.specs.Stored.{wordAt}
-use Rattle.operator.specs.Single.{wordCount, heldIn, heldNext, leavesTooMuch, stateNext, wordsNext}
+use Rattle.operator.specs.Single.{wordCount, holds, holdsNext, leavesTooMuch, stateNext, wordsNext}
 use Rattle.operator.specs.Within.{keptOf, wordsKept}
 use Rattle.meter.specs.Meter.{meterWordCount, meterNext, meterWordNext}
 use Rattle.meter.specs.MeterWithin.{notedOf, wordsNoted}
@@ -30,8 +30,8 @@ use Rattle.run.specs.declared.decide.Move.{Move}
 use Rattle.run.specs.Calls.{Call, amountTooLarge}
 use Rattle.run.specs.Runs.{mostOperators, meterWords, operatorWords, stageAt, meterIn, singleIn}
 use Rattle.run.specs.Slots.{inputInto, slotBreaks, choiceCases, leavesTooMuchAt, slotLeavesTooMuch, slotCases, singleNext, stageNext, runNext, operatorWordNext, wordNext}
-use Rattle.run.specs.Watching.{heldAt}
-use Rattle.run.specs.Steps.{countedIn, noMove, heldThen, moveOf, meterWritten, stageWritten, stageWords, runWritten, stageWord, wordWritten}
+use Rattle.run.specs.Watching.{runHolds}
+use Rattle.run.specs.Steps.{countedIn, noMove, runHoldsNext, moveOf, meterWritten, stageWritten, stageWords, runWritten, stageWord, wordWritten}
 use Rattle.run.proofs.UsableRun.{UsableRun, usable-run, stage-usable, stage-number, fits-at}
 use Rattle.run.proofs.Taking.{choices-below, within-interval}
 
@@ -66,32 +66,32 @@ module _ (run : Run) (words : List ℕ) (call : Call) (none : NoneStands (slotCa
     out = inputInto run words call (suc k)
 
     -- nothing above the limit is left
-    left-small : (heldNext x xs into out .b ≤ largestAmount) × (heldNext x xs into out .h ≤ largestAmount)
+    left-small : (holdsNext x xs into out .b ≤ largestAmount) × (holdsNext x xs into out .h ≤ largestAmount)
     unfolding slotLeavesTooMuch leavesTooMuchAt leavesTooMuch
     left-small =
         let each = every-at (λ k. not (leavesTooMuchAt run words call k)) (run .count) (not-false _ (below-and-stored .1)) k less in
-        let (b, h) = either-false (ltb largestAmount (heldNext x xs into out .b)) (ltb largestAmount (heldNext x xs into out .h)) (not-true _ each) in
+        let (b, h) = either-false (ltb largestAmount (holdsNext x xs into out .b)) (ltb largestAmount (holdsNext x xs into out .h)) (not-true _ each) in
         (ltb-false largestAmount _ b, ltb-false largestAmount _ h)
 
-    sent-there : out ≤ heldIn x xs .b + into
-    unfolding heldAt
+    sent-there : out ≤ holds x xs .b + into
+    unfolding runHolds
     sent-there =
         let within = within-interval run words call passed k less (choices-below run words call (run .count) (below-and-stored .0) k less) in
-        omega (arith, within .1, greatest-le-there (stageAt run k .operator) (run .slot .0) (heldAt run words k) into)
+        omega (arith, within .1, greatest-le-there (stageAt run k .operator) (run .slot .0) (runHolds run words k) into)
 
-    move-kept : (keptOf x xs (heldNext x xs into out .b) (heldNext x xs into out .h) ≡ Kept.Next (stateNext x xs into out))
-        × (wordsKept x xs into (heldNext x xs into out .b) (heldNext x xs into out .h) ≡ wordsNext x xs into out)
+    move-kept : (keptOf x xs (holdsNext x xs into out .b) (holdsNext x xs into out .h) ≡ Kept.Next (stateNext x xs into out))
+        × (wordsKept x xs into (holdsNext x xs into out .b) (holdsNext x xs into out .h) ≡ wordsNext x xs into out)
     move-kept =
         let few = passed .few in
         let fits = fits-at run words passed k (omega arith) in
         kept-next x xs (stage-usable run words k fits) (stage-number run words k fits less) into out sent-there (left-small .0) (left-small .1)
 
     stage-written : stageWritten (stageAt run k) (run .slot) xs (moveOf run words call k) ≡ stageNext run words call k
-    unfolding stageWritten moveOf heldThen stageNext singleNext stateNext singleIn
+    unfolding stageWritten moveOf runHoldsNext stageNext singleNext stateNext singleIn
     stage-written = rw (move-kept .0)
 
     words-written : stageWords (stageAt run k) (run .slot) xs (moveOf run words call k) ≡ wordsNext x xs into out
-    unfolding stageWords moveOf heldThen singleIn
+    unfolding stageWords moveOf runHoldsNext singleIn
     words-written = move-kept .1
 
   module _ (moves : List Move) (moved : (k : ℕ) → k < run .count → getD moves k noMove ≡ moveOf run words call k) where

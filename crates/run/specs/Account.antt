@@ -11,7 +11,7 @@ use Rattle.operator.specs.Held.{Held, nothing}
 use Rattle.operator.specs.Operators.{leastOutput, greatestOutput, heldAfter}
 use Rattle.flow.specs.Declarations.{classOf}
 use Rattle.flow.specs.Keeping.{keepsClass}
-use Rattle.sheet.specs.Paths.{Line}
+use Rattle.sheet.specs.Paths.{Path}
 use Rattle.figures.specs.Answers.{operatorAt}
 use Rattle.run.specs.Calls.{Call, choiceFor, choicesMiscounted, amountTooLarge}
 use Rattle.run.specs.declared.slot.Outcome.{Outcome}
@@ -29,62 +29,62 @@ abbrev pub newAccount : Account
 newAccount = record { slot = 0; entered = []; left = []; held = λ k. nothing }
 
 -- operators go from left to right: r of operator k is the call's input, or what the operator before it sends, its least plus its choice
-unfoldable pub arriving : Line → Account → Call → ℕ → ℕ
-arriving line account call zero = call .input
-arriving line account call (suc k) = leastOutput (operatorAt line k) (account .slot) (account .held k) (arriving line account call k) + choiceFor call k
+unfoldable pub arriving : Path → Account → Call → ℕ → ℕ
+arriving path account call zero = call .input
+arriving path account call (suc k) = leastOutput (operatorAt path k) (account .slot) (account .held k) (arriving path account call k) + choiceFor call k
 
 -- s of operator k: what arrives at the next one, or leaves the last
-abbrev pub sending : Line → Account → Call → ℕ → ℕ
-sending line account call k = arriving line account call (suc k)
+abbrev pub sending : Path → Account → Call → ℕ → ℕ
+sending path account call k = arriving path account call (suc k)
 
 -- no slot number is left
 unfoldable pub slotsUsedUp : Account → Bool
 slotsUsedUp account = ltb lastSlot (account .slot)
 
 -- the inputs taken and this one do not keep the declaration
-unfoldable pub breaksDeclaration : Line → Account → Call → Bool
-breaksDeclaration line account call = not (keepsClass (classOf (line .declaration)) (account .entered ++ (call .input ∷ [])))
+unfoldable pub breaksDeclaration : Path → Account → Call → Bool
+breaksDeclaration path account call = not (keepsClass (classOf (path .declaration)) (account .entered ++ (call .input ∷ [])))
 
 -- the choice is above operator k's greatest minus least
-unfoldable pub choiceTooLarge : Line → Account → Call → ℕ → Bool
-choiceTooLarge line account call k =
+unfoldable pub choiceTooLarge : Path → Account → Call → ℕ → Bool
+choiceTooLarge path account call k =
     ltb
-    (greatestOutput (operatorAt line k) (account .slot) (account .held k) (arriving line account call k)
-    - leastOutput (operatorAt line k) (account .slot) (account .held k) (arriving line account call k))
+    (greatestOutput (operatorAt path k) (account .slot) (account .held k) (arriving path account call k)
+    - leastOutput (operatorAt path k) (account .slot) (account .held k) (arriving path account call k))
     (choiceFor call k)
 
 -- so of the first n operators, left to right
-unfoldable pub choicesTooLarge : Line → Account → Call → ℕ → List Case
-choicesTooLarge line account call zero = []
-choicesTooLarge line account call (suc n) = choicesTooLarge line account call n ++ ((choiceTooLarge line account call n ⇒ ChoiceAboveGreatest n) ∷ [])
+unfoldable pub choicesTooLarge : Path → Account → Call → ℕ → List Case
+choicesTooLarge path account call zero = []
+choicesTooLarge path account call (suc n) = choicesTooLarge path account call n ++ ((choiceTooLarge path account call n ⇒ ChoiceAboveGreatest n) ∷ [])
 
 -- why a call is refused; where none of these stands it is taken
-abbrev pub accountCases : Line → Account → Call → List Case
-accountCases line account call =
-    (choicesMiscounted (length (line .places)) call ⇒ Unusable)
+abbrev pub accountCases : Path → Account → Call → List Case
+accountCases path account call =
+    (choicesMiscounted (length (path .operators)) call ⇒ Unusable)
     ∷ (amountTooLarge call ⇒ Unusable)
     ∷ (slotsUsedUp account ⇒ Unusable)
-    ∷ (breaksDeclaration line account call ⇒ InputBreaksDeclaration)
-    ∷ choicesTooLarge line account call (length (line .places))
+    ∷ (breaksDeclaration path account call ⇒ InputBreaksDeclaration)
+    ∷ choicesTooLarge path account call (length (path .operators))
 
 -- what leaves the last operator
-abbrev pub leaving : Line → Account → Call → ℕ
-leaving line account call = arriving line account call (length (line .places))
+abbrev pub leaving : Path → Account → Call → ℕ
+leaving path account call = arriving path account call (length (path .operators))
 
 -- what is answered: the output, or the refusal by number and place
-unfoldable pub accountAnswer : Line → Account → Call → Outcome
-accountAnswer line account call = firstOf (accountCases line account call) Outcome.Refused (Outcome.Sent (record { 0 = leaving line account call }))
+unfoldable pub accountAnswer : Path → Account → Call → Outcome
+accountAnswer path account call = firstOf (accountCases path account call) Outcome.Refused (Outcome.Sent (record { 0 = leaving path account call }))
 
 -- the account of a call that is taken: each operator keeps b + r − s, with h and a delayer's past slots as section 3 says
-unfoldable pub accountNext : Line → Account → Call → Account
-accountNext line account call =
+unfoldable pub accountNext : Path → Account → Call → Account
+accountNext path account call =
     record {
       slot = account .slot + 1;
       entered = account .entered ++ (call .input ∷ []);
-      left = account .left ++ (leaving line account call ∷ []);
-      held = λ k. heldAfter (operatorAt line k) (account .held k) (arriving line account call k) (sending line account call k);
+      left = account .left ++ (leaving path account call ∷ []);
+      held = λ k. heldAfter (operatorAt path k) (account .held k) (arriving path account call k) (sending path account call k);
     }
 
 -- and any other call leaves it as it was
-unfoldable pub accountAfter : Line → Account → Call → Account
-accountAfter line account call = firstOf (accountCases line account call) (λ why. account) (accountNext line account call)
+unfoldable pub accountAfter : Path → Account → Call → Account
+accountAfter path account call = firstOf (accountCases path account call) (λ why. account) (accountNext path account call)

@@ -1,7 +1,7 @@
 -- A list of slot calls (section 10, 3): the first gets what opening returned and left, each later one what the call before it left.
 use Prim.Native.Nat.{ℕ}
 use mathlib.Core.List.{List, [], _∷_}
-use Rattle.sheet.specs.Paths.{Line}
+use Rattle.sheet.specs.Paths.{Path}
 use Rattle.run.specs.Calls.{Call}
 use Rattle.run.specs.Account.{Account, accountAfter}
 use Rattle.run.specs.Opening.{openedOf, wordsOpened}
@@ -27,6 +27,6 @@ slottedAll now [] = now
 slottedAll now (call ∷ calls) = slottedAll (slotted now call) calls
 
 -- the account of the same calls
-unfoldable pub accountAll : Line → Account → List Call → Account
-accountAll line account [] = account
-accountAll line account (call ∷ calls) = accountAll line (accountAfter line account call) calls
+unfoldable pub accountAll : Path → Account → List Call → Account
+accountAll path account [] = account
+accountAll path account (call ∷ calls) = accountAll path (accountAfter path account call) calls

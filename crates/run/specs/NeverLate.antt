@@ -10,13 +10,13 @@ use Rattle.quantity.specs.declared.refusal.Refusal.the-variants.{Unusable}
 use Rattle.flow.specs.Flows.{flowOf}
 use Rattle.flow.specs.Classes.{Keeps}
 use Rattle.flow.specs.Declarations.{classOf}
-use Rattle.sheet.specs.Paths.{Line}
-use Rattle.sheet.specs.Sheets.{lineIn}
+use Rattle.sheet.specs.Paths.{Path}
+use Rattle.sheet.specs.Sheets.{pathIn}
 use Rattle.figures.specs.Answers.{figuresOf, noFigure}
 use Rattle.run.specs.Calls.{Call, choicesMiscounted, amountTooLarge}
 use Rattle.run.specs.Account.{Account, newAccount, slotsUsedUp, breaksDeclaration, accountAnswer}
 use Rattle.run.specs.Slots.{slottedOf}
-use Rattle.run.specs.Watching.{heldAt}
+use Rattle.run.specs.Watching.{runHolds}
 use Rattle.run.specs.Lists.{Running, opened, slottedAll, accountAll}
 use Rattle.run.specs.declared.slot.Outcome.{Outcome}
 
@@ -26,8 +26,8 @@ callAt calls n = getD calls n (record { input = 0; choices = [] })
 
 module _ (sheet words : List ℕ) (calls : List Call) where
   -- the path, and the delay and the capacities that `figures` answers for the sheet
-  abbrev pub line : Line
-  line = lineIn sheet
+  abbrev pub path : Path
+  path = pathIn sheet
 
   abbrev pub delay : ℕ
   delay = figuresOf sheet .delay .0
@@ -40,7 +40,7 @@ module _ (sheet words : List ℕ) (calls : List Call) where
   runningAfter n = slottedAll (opened sheet words) (take n calls)
 
   abbrev pub accountAfterCalls : ℕ → Account
-  accountAfterCalls n = accountAll line newAccount (take n calls)
+  accountAfterCalls n = accountAll path newAccount (take n calls)
 
   -- what call n answers
   abbrev pub answerTo : ℕ → Outcome
@@ -48,20 +48,20 @@ module _ (sheet words : List ℕ) (calls : List Call) where
 
   -- the account of the whole list
   abbrev pub final : Account
-  final = accountAll line newAccount calls
+  final = accountAll path newAccount calls
 
   pub record NeverLate : Type 0 where
     -- each call took a slot exactly when the account takes it, with the same output; otherwise it answered the account's refusal by number and place
-    pub answers : (n : ℕ) → n < length calls → answerTo n ≡ accountAnswer line (accountAfterCalls n) (callAt calls n)
+    pub answers : (n : ℕ) → n < length calls → answerTo n ≡ accountAnswer path (accountAfterCalls n) (callAt calls n)
     -- the account's test of the declaration is section 2: the inputs taken and this one keep it
     pub declared : (n : ℕ) → n < length calls
-        → (breaksDeclaration line (accountAfterCalls n) (callAt calls n) ≡ false) ↔ Keeps (classOf (line .declaration)) (flowOf (accountAfterCalls n .entered ++ (callAt calls n .input ∷ [])))
+        → (breaksDeclaration path (accountAfterCalls n) (callAt calls n) ≡ false) ↔ Keeps (classOf (path .declaration)) (flowOf (accountAfterCalls n .entered ++ (callAt calls n .input ∷ [])))
     -- before and after every call each operator has the account's b, h and past
-    pub holds : (n : ℕ) → n ≤ length calls → (k : ℕ) → k < length (line .places) → heldAt (runningAfter n .run) (runningAfter n .words) k ≡ accountAfterCalls n .held k
+    pub holds : (n : ℕ) → n ≤ length calls → (k : ℕ) → k < length (path .operators) → runHolds (runningAfter n .run) (runningAfter n .words) k ≡ accountAfterCalls n .held k
     -- if the list took slot i + delay, all that entered by the end of slot i had left the last operator by the end of slot i + delay
     pub in-time : (i : ℕ) → i + delay < final .slot → total (flowOf (final .entered)) (suc i) ≤ total (flowOf (final .left)) (suc (i + delay))
     -- after every call each operator's b is at most its capacity
-    pub within : (n : ℕ) → n ≤ length calls → (k : ℕ) → k < length (line .places) → accountAfterCalls n .held k .b ≤ capacity k
+    pub within : (n : ℕ) → n ≤ length calls → (k : ℕ) → k < length (path .operators) → accountAfterCalls n .held k .b ≤ capacity k
     -- a refusal 1 comes only from a wrong argument or the last slot number
     pub unusable-only : (n : ℕ) → n < length calls → answerTo n ≡ Outcome.Refused Unusable
-        → (choicesMiscounted (length (line .places)) (callAt calls n) ≡ true) ⊎ (amountTooLarge (callAt calls n) ≡ true) ⊎ (slotsUsedUp (accountAfterCalls n) ≡ true)
+        → (choicesMiscounted (length (path .operators)) (callAt calls n) ≡ true) ⊎ (amountTooLarge (callAt calls n) ≡ true) ⊎ (slotsUsedUp (accountAfterCalls n) ≡ true)

@@ -9,23 +9,23 @@ use Rattle.quantity.specs.Refusals.{Case, _⇒_, firstOf}
 use Rattle.quantity.specs.declared.refusal.Refusal.{Refusal}
 use Rattle.quantity.specs.declared.refusal.Refusal.the-variants.{Unusable}
 use Rattle.flow.specs.declared.Kind.{Kind}
-use Rattle.sheet.specs.Paths.{Line}
-use Rattle.sheet.specs.Sheets.{sheetCases, lineIn}
+use Rattle.sheet.specs.Paths.{Path}
+use Rattle.sheet.specs.Sheets.{sheetCases, pathIn}
 use Rattle.sheet.specs.declared.read.Verdict.{Verdict}
-use Rattle.figures.specs.Answers.{operatorAt, lineCases}
+use Rattle.figures.specs.Answers.{operatorAt, pathCases}
 use Rattle.run.specs.Runs.{runWordCount, mostOperators, noStage}
 use Rattle.run.specs.declared.Stage.{Stage}
 use Rattle.run.specs.declared.Run.{Run}
 use Rattle.run.specs.declared.opening.Opened.{Opened}
 
 -- operator k with nothing held; behind the path's operators the empty stage
-unfoldable pub newStage : Line → ℕ → Stage
-newStage line k = record { operator = operatorAt line k; held = record { 0 = 0 }; beside = record { 0 = 0 } }
+unfoldable pub newStage : Path → ℕ → Stage
+newStage path k = record { operator = operatorAt path k; held = record { 0 = 0 }; beside = record { 0 = 0 } }
 
 -- a path's run before its first slot
-unfoldable pub newRun : Line → Run
-newRun line =
-    record { declaration = line .declaration; slot = record { 0 = 0 }; block = record { 0 = 0 }; count = length (line .places); stages = listOf (newStage line) mostOperators }
+unfoldable pub newRun : Path → Run
+newRun path =
+    record { declaration = path .declaration; slot = record { 0 = 0 }; block = record { 0 = 0 }; count = length (path .operators); stages = listOf (newStage path) mostOperators }
 
 -- the run that is handed back beside a refusal
 abbrev pub noRun : Run
@@ -39,7 +39,7 @@ noRun =
     }
 
 abbrev pub openCases : List ℕ → List ℕ → List Case
-openCases sheet words = (not (eqb (length words) runWordCount) ⇒ Unusable) ∷ (sheetCases sheet ++ lineCases (lineIn sheet))
+openCases sheet words = (not (eqb (length words) runWordCount) ⇒ Unusable) ∷ (sheetCases sheet ++ pathCases (pathIn sheet))
 
 unfoldable pub refusedOpening : Refusal → Opened
 refusedOpening why = record { verdict = Verdict.Refused why; run = noRun }
@@ -47,7 +47,7 @@ refusedOpening why = record { verdict = Verdict.Refused why; run = noRun }
 -- what opening answers
 unfoldable pub openedOf : List ℕ → List ℕ → Opened
 unfolding refusedOpening
-openedOf sheet words = firstOf (openCases sheet words) refusedOpening (record { verdict = Verdict.Accepted; run = newRun (lineIn sheet) })
+openedOf sheet words = firstOf (openCases sheet words) refusedOpening (record { verdict = Verdict.Accepted; run = newRun (pathIn sheet) })
 
 -- and what the words hold then; refused, it leaves them
 unfoldable pub wordsOpened : List ℕ → List ℕ → List ℕ

@@ -12,7 +12,7 @@ use Rattle.quantity.specs.declared.Slots.{Slots}
 use Rattle.quantity.specs.declared.Units.{Units}
 use Rattle.quantity.specs.declared.refusal.Refusal.the-variants.{Unusable}
 use Rattle.operator.specs.Held.{Held}
-use Rattle.operator.specs.Single.{wordCount, heldNext}
+use Rattle.operator.specs.Single.{wordCount, holdsNext}
 use Rattle.operator.specs.Within.{keptOf, wordsKept}
 use Rattle.meter.specs.Meter.{meterWordCount, countedBefore}
 use Rattle.meter.specs.MeterWithin.{notedOf, wordsNoted}
@@ -53,13 +53,13 @@ abbrev pub noMove : Move
 noMove = record { input = record { 0 = 0 }; kept = record { 0 = 0 }; beside = record { 0 = 0 } }
 
 -- what operator k has once it has sent
-unfoldable pub heldThen : Run → List ℕ → Call → ℕ → Held
-heldThen run words call k = heldNext (singleIn run k) (operatorWords words k) (inputInto run words call k) (inputInto run words call (suc k))
+unfoldable pub runHoldsNext : Run → List ℕ → Call → ℕ → Held
+runHoldsNext run words call k = holdsNext (singleIn run k) (operatorWords words k) (inputInto run words call k) (inputInto run words call (suc k))
 
 -- what it gets, and has then
 unfoldable pub moveOf : Run → List ℕ → Call → ℕ → Move
 moveOf run words call k =
-    record { input = record { 0 = inputInto run words call k }; kept = record { 0 = heldThen run words call k .b }; beside = record { 0 = heldThen run words call k .h } }
+    record { input = record { 0 = inputInto run words call k }; kept = record { 0 = runHoldsNext run words call k .b }; beside = record { 0 = runHoldsNext run words call k .h } }
 
 -- what an operator would store is within the limit
 unfoldable pub storable : ℕ → ℕ → Bool

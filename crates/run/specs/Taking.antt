@@ -10,7 +10,7 @@ use Rattle.run.specs.declared.slot.Outcome.{Outcome}
 use Rattle.run.specs.Calls.{Call, choicesMiscounted, amountTooLarge}
 use Rattle.run.specs.Runs.{meterWords, stageAt, meterIn, runUnusable}
 use Rattle.run.specs.Slots.{inputInto, slotLeavesTooMuch}
-use Rattle.run.specs.Watching.{heldAt}
+use Rattle.run.specs.Watching.{runHolds}
 
 -- a slot call took a slot if its answer is no refusal
 abbrev pub Took : Outcome → Type 0
@@ -32,5 +32,5 @@ module _ (run : Run) (words : List ℕ) (call : Call) where
   -- operator k's output, its least plus its choice, lies in its interval
   abbrev pub InInterval : ℕ → Type 0
   InInterval k =
-      (leastOutput (stageAt run k .operator) (run .slot .0) (heldAt run words k) (inputInto run words call k) ≤ inputInto run words call (suc k))
-      × (inputInto run words call (suc k) ≤ greatestOutput (stageAt run k .operator) (run .slot .0) (heldAt run words k) (inputInto run words call k))
+      (leastOutput (stageAt run k .operator) (run .slot .0) (runHolds run words k) (inputInto run words call k) ≤ inputInto run words call (suc k))
+      × (inputInto run words call (suc k) ≤ greatestOutput (stageAt run k .operator) (run .slot .0) (runHolds run words k) (inputInto run words call k))

@@ -10,19 +10,19 @@ use Rattle.quantity.specs.declared.Units.{Units}
 use Rattle.quantity.specs.declared.refusal.Refusal.{Refusal}
 use Rattle.quantity.specs.declared.refusal.Refusal.the-variants.{Unusable}
 use Rattle.operator.specs.Held.{Held}
-use Rattle.operator.specs.Single.{heldIn}
+use Rattle.operator.specs.Single.{holds}
 use Rattle.sheet.specs.declared.read.Verdict.{Verdict}
 use Rattle.run.specs.Runs.{mostOperators, operatorWords, singleIn, runUnusable}
 use Rattle.run.specs.declared.Run.{Run}
 use Rattle.run.specs.declared.watch.Watched.{Watched}
 
 -- section 3's b, h and past of operator k, as run and words have them
-unfoldable pub heldAt : Run → List ℕ → ℕ → Held
-heldAt run words k = heldIn (singleIn run k) (operatorWords words k)
+unfoldable pub runHolds : Run → List ℕ → ℕ → Held
+runHolds run words k = holds (singleIn run k) (operatorWords words k)
 
 -- its b, and 0 behind the path's operators
 unfoldable pub unitsHeld : Run → List ℕ → ℕ → Units
-unitsHeld run words k = record { 0 = pick (ltb k (run .count)) (heldAt run words k .b) 0 }
+unitsHeld run words k = record { 0 = pick (ltb k (run .count)) (runHolds run words k .b) 0 }
 
 unfoldable pub refusedWatch : Refusal → Watched
 refusedWatch why = record { verdict = Verdict.Refused why; held = replicate mostOperators (record { 0 = 0 }) }

@@ -11,14 +11,14 @@ use quantity::Quota;
 use quantity::Slots;
 use quantity::Units;
 use quantity::refusal::Refusal;
-use sheet::Path;
+use sheet::PathValue;
 use sheet::read::Verdict;
 ghost use mathlib.Core.Path.{_≡_};
 ghost use Prim.Native.Nat.{_≤_};
 ghost use lib.ListN.{length};
 ghost use Rattle.quantity.specs.Sums.{listOf};
-ghost use Rattle.sheet.specs.Paths.{Line};
-ghost use Rattle.sheet.specs.Forms.{valueIn};
+ghost use Rattle.sheet.specs.Paths.{Path};
+ghost use Rattle.sheet.specs.Forms.{valueOfPath};
 ghost use Rattle.run.specs.Runs.{mostOperators};
 ghost use Rattle.run.specs.Opening.{newRun, noRun, refusedOpening, openedOf, wordsOpened};
 
@@ -61,16 +61,16 @@ fn clear(words: &mut [u32])
 }
 
 // The run of a path before its first slot. The places behind a path's operators are empty, and so are the stages.
-fn new_run(path: Path) -> Run
-    ensures { λ r. ⌜ ((line : Line) → length (line .places) ≤ mostOperators → path ≡ valueIn (path .form) line → r ≡ newRun line) ⌝ }
+fn new_run(path: PathValue) -> Run
+    ensures { λ r. ⌜ ((given : Path) → length (given .operators) ≤ mostOperators → path ≡ valueOfPath (path .form) given → r ≡ newRun given) ⌝ }
 {
-    let places = path.places;
+    let operators = path.operators;
     let none = no_stage();
     let mut stages = [none; 16];
     let mut k = 0;
     while k < 16 {
-        let place = places[k];
-        let operator = place.operator;
+        let linked = operators[k];
+        let operator = linked.operator;
         stages[k] = Stage {
             operator,
             held: Units(0),

@@ -19,10 +19,10 @@ use Rattle.flow.specs.Declarations.{declarationInRange}
 use Rattle.flow.specs.declared.Kind.{Kind}
 use Rattle.flow.specs.declared.Declaration.{Declaration}
 use Rattle.operator.specs.declared.Operator.{Operator}
-use Rattle.sheet.specs.declared.Place.{Place}
-use Rattle.sheet.specs.Numbers.{numberOf, bytesOf}
-use Rattle.sheet.specs.Bodies.{part, declarationIn, declarationFits, declarationBody, wantedIn, wantedFits, wantedBody, operatorOf, operatorByte, operatorNumber, placeIn, placeInRange, placeFits, placeBody}
-use Rattle.sheet.proofs.Numbers.{AreBytes, drop-part, drop-last, numberOf-bytesOf, bytesOf-part}
+use Rattle.sheet.specs.declared.LinkedOperator.{LinkedOperator}
+use Rattle.sheet.specs.Numbers.{valueOfBytes, bytesOf}
+use Rattle.sheet.specs.Bodies.{part, declarationIn, declarationFits, declarationBody, wantedIn, wantedFits, wantedBody, operatorOf, operatorByte, operatorNumber, operatorIn, operatorInRange, operatorFits, operatorBody}
+use Rattle.sheet.proofs.Numbers.{AreBytes, drop-part, drop-last, valueOfBytes-bytesOf, bytesOf-part}
 
 below-largest : (range : Range) (value : ℕ) → inRange range value ≡ true → value ≤ range .largest
 unfolding inRange
@@ -57,8 +57,8 @@ module _ (declared : Declaration) (inside : declarationInRange declared ≡ true
   declaration-read =
       let (m-inside, Q-inside) = both-true (inRange intervalRange (declared .interval .0)) (inRange quotaRange (declared .quota .0)) inside in
       let kind = kind-read (declared .kind) (declared .interval) (declared .quota) in
-      let m = numberOf-bytesOf 2 (declared .interval .0) (let h = below-largest intervalRange (declared .interval .0) m-inside in omega arith) in
-      let Q = numberOf-bytesOf 4 (declared .quota .0) (let h = below-largest quotaRange (declared .quota .0) Q-inside in omega arith) in
+      let m = valueOfBytes-bytesOf 2 (declared .interval .0) (let h = below-largest intervalRange (declared .interval .0) m-inside in omega arith) in
+      let Q = valueOfBytes-bytesOf 4 (declared .quota .0) (let h = below-largest quotaRange (declared .quota .0) Q-inside in omega arith) in
       λ i. record { kind = kind i; interval = record { 0 = m i }; quota = record { 0 = Q i } }
 
   pub declaration-fits : declarationFits (declarationBody declared) ≡ true
@@ -87,7 +87,7 @@ length-wantedBody wanted = refl
 module _ (wanted : ℕ) (inside : inRange wantedDelayRange wanted ≡ true) where
   pub wanted-read : wantedIn (wantedBody wanted) ≡ wanted
   unfolding wantedIn wantedBody part bytesOf
-  wanted-read = numberOf-bytesOf 4 wanted (let h = below-largest wantedDelayRange wanted inside in omega arith)
+  wanted-read = valueOfBytes-bytesOf 4 wanted (let h = below-largest wantedDelayRange wanted inside in omega arith)
 
   pub wanted-fits : wantedFits (wantedBody wanted) ≡ true
   unfolding wantedFits
@@ -103,9 +103,9 @@ wanted-written body each size = bytesOf-part 0 4 body each (omega arith) ∙ sym
 
 -- 03
 
-pub length-placeBody : (place : Place) → length (placeBody place) ≡ 6
-unfolding placeBody bytesOf
-length-placeBody place = refl
+pub length-operatorBody : (linked : LinkedOperator) → length (operatorBody linked) ≡ 6
+unfolding operatorBody bytesOf
+length-operatorBody linked = refl
 
 operator-byte : (operator : Operator) → operatorByte operator ≤ 4
 unfolding operatorByte
@@ -140,27 +140,27 @@ operator-written (suc (suc (suc zero))) number h = (refl, refl)
 operator-written (suc (suc (suc (suc zero)))) number h = (refl, refl)
 operator-written (suc (suc (suc (suc (suc byte))))) number h = let never : 1 ≤ 0 = omega arith in absurd (not-suc-le-zero never)
 
-module _ (place : Place) (inside : placeInRange place ≡ true) where
-  pub place-read : placeIn (placeBody place) ≡ place
-  unfolding placeInRange placeIn placeBody part bytesOf
-  place-read =
-      let (number-inside, link-inside) = both-true (numberInRange (place .operator)) (inRange linkRange (place .link .0)) inside in
-      let number = numberOf-bytesOf 4 (operatorNumber (place .operator)) (let h = operator-number (place .operator) number-inside in omega arith) in
-      let operator = ap (operatorOf (operatorByte (place .operator))) number ∙ operator-read (place .operator) in
-      λ i. record { operator = operator i; link = place .link }
+module _ (linked : LinkedOperator) (inside : operatorInRange linked ≡ true) where
+  pub linked-read : operatorIn (operatorBody linked) ≡ linked
+  unfolding operatorInRange operatorIn operatorBody part bytesOf
+  linked-read =
+      let (number-inside, link-inside) = both-true (numberInRange (linked .operator)) (inRange linkRange (linked .link .0)) inside in
+      let number = valueOfBytes-bytesOf 4 (operatorNumber (linked .operator)) (let h = operator-number (linked .operator) number-inside in omega arith) in
+      let operator = ap (operatorOf (operatorByte (linked .operator))) number ∙ operator-read (linked .operator) in
+      λ i. record { operator = operator i; link = linked .link }
 
-  pub place-fits : placeFits (placeBody place) ≡ true
-  unfolding placeFits placeBody
-  place-fits = rw (le-leb _ _ (operator-byte (place .operator)), place-read) inside
+  pub linked-fits : operatorFits (operatorBody linked) ≡ true
+  unfolding operatorFits operatorBody
+  linked-fits = rw (le-leb _ _ (operator-byte (linked .operator)), linked-read) inside
 
-module _ (body : List ℕ) (fits : placeFits body ≡ true) where
-  pub place-inside : placeInRange (placeIn body) ≡ true
-  unfolding placeFits
-  place-inside = both-true (leb (getD body 0 0) 4) (placeInRange (placeIn body)) fits .1
+module _ (body : List ℕ) (fits : operatorFits body ≡ true) where
+  pub linked-inside : operatorInRange (operatorIn body) ≡ true
+  unfolding operatorFits
+  linked-inside = both-true (leb (getD body 0 0) 4) (operatorInRange (operatorIn body)) fits .1
 
-  pub place-written : AreBytes body → length body ≡ 6 → placeBody (placeIn body) ≡ body
-  unfolding placeFits placeIn placeBody
-  place-written each size =
-      let (byte, number) = operator-written (getD body 0 0) (numberOf (part 2 4 body)) (leb-true (getD body 0 0) 4 (both-true (leb (getD body 0 0) 4) (placeInRange (placeIn body)) fits .0)) in
+  pub linked-written : AreBytes body → length body ≡ 6 → operatorBody (operatorIn body) ≡ body
+  unfolding operatorFits operatorIn operatorBody
+  linked-written each size =
+      let (byte, number) = operator-written (getD body 0 0) (valueOfBytes (part 2 4 body)) (leb-true (getD body 0 0) 4 (both-true (leb (getD body 0 0) 4) (operatorInRange (operatorIn body)) fits .0)) in
       let digits = bytesOf-part 2 4 body each (omega arith) in
       rw (byte, number, digits, ← drop-last 2 4 body size) (sym (drop-cons body 0 0 (omega arith) ∙ ap (λ (rest : List ℕ). getD body 0 0 ∷ rest) (drop-cons body 1 0 (omega arith))))

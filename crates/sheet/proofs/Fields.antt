@@ -11,10 +11,10 @@ use lib.Seq.{getD-drop, drop-cons, drop-drop, take-at, drop-at}
 use lib.Dec.{eqb}
 use borrow.Author.Tests.{ltb-false, eqb-true, not-false, lt-leb, le-ltb, eq-eqb}
 use Rattle.quantity.proofs.Sums.{both-true}
-use Rattle.sheet.specs.Numbers.{numberOf, bytesOf}
+use Rattle.sheet.specs.Numbers.{valueOfBytes, bytesOf}
 use Rattle.sheet.specs.Bodies.{part}
 use Rattle.sheet.specs.Fields.{Format, fieldOf, bodyAt, fieldMissing, headerCutOff, fieldUnexpected, bodyCutOff, bodyOutOfRange, fieldCases}
-use Rattle.sheet.proofs.Numbers.{AreBytes, length-part, part-bytes, drop-part, numberOf-bytesOf, bytesOf-part}
+use Rattle.sheet.proofs.Numbers.{AreBytes, length-part, part-bytes, drop-part, valueOfBytes-bytesOf, bytesOf-part}
 use Rattle.quantity.proofs.Refusals.{NoneStands}
 
 -- a part of what follows a byte
@@ -34,9 +34,9 @@ module _ (sheet : List ℕ) (at : ℕ) (due : Format) (body rest : List ℕ) (na
   unfolding fieldOf
   tag-read = ap (λ (k : ℕ). getD sheet k 0) (sym (add-zero at)) ∙ sym (getD-drop at sheet 0 0) ∙ ap (λ (bytes : List ℕ). getD bytes 0 0) written
 
-  width-read : numberOf (part (at + 1) 2 sheet) ≡ due .width
+  width-read : valueOfBytes (part (at + 1) 2 sheet) ≡ due .width
   unfolding part fieldOf bytesOf
-  width-read = ap numberOf (part-behind at 1 2 sheet ∙ ap (part 1 2) written) ∙ numberOf-bytesOf 2 (length body) (omega arith) ∙ size
+  width-read = ap valueOfBytes (part-behind at 1 2 sheet ∙ ap (part 1 2) written) ∙ valueOfBytes-bytesOf 2 (length body) (omega arith) ∙ size
 
   body-read : bodyAt sheet at (due .width) ≡ body
   unfolding bodyAt part fieldOf bytesOf
@@ -93,7 +93,7 @@ unfolding fieldUnexpected fieldOf bodyAt
 field-written sheet at due each stands =
     let body = bodyAt sheet at (due .width) in
     let record { ends = ends; size = size; fits = fits } = field-accepted sheet at due stands in
-    let (tagged, sized) = both-true (eqb (getD sheet at 0) (due .tag)) (eqb (numberOf (part (at + 1) 2 sheet)) (due .width)) (not-false _ (stands .1 .1 .0)) in
+    let (tagged, sized) = both-true (eqb (getD sheet at 0) (due .tag)) (eqb (valueOfBytes (part (at + 1) 2 sheet)) (due .width)) (not-false _ (stands .1 .1 .0)) in
     let tag = eqb-true (getD sheet at 0) (due .tag) tagged in
     let width : bytesOf 2 (length body) ≡ part (at + 1) 2 sheet = ap (bytesOf 2) (size ∙ sym (eqb-true _ _ sized)) ∙ bytesOf-part (at + 1) 2 sheet each (omega arith) in
     let next : at + 1 + 2 ≡ at + 3 = omega arith in

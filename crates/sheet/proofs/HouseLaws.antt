@@ -18,15 +18,15 @@ use Rattle.quantity.proofs.Sums.{both-true, length-listOf}
 use Rattle.operator.specs.Operators.{limiter, compactor, expander, filter, delayer, numberInRange}
 use Rattle.flow.specs.Declarations.{declarationInRange}
 use Rattle.operator.specs.declared.Operator.{Operator}
-use Rattle.sheet.specs.declared.Place.{Place}
+use Rattle.sheet.specs.declared.LinkedOperator.{LinkedOperator}
 use Rattle.sheet.specs.declared.House.{House}
 use Rattle.sheet.specs.declared.Form.{Form}
-use Rattle.sheet.specs.Numbers.{numberOf, bytesOf}
-use Rattle.sheet.specs.Bodies.{part, placeInRange}
-use Rattle.sheet.specs.House.{houseIn, houseBody, delayerSlots, packetsUnused, packetsInRange, profileInRange, houseInRange, houseFits, hopLength, hopOperator, housePlace, houseLine}
+use Rattle.sheet.specs.Numbers.{valueOfBytes, bytesOf}
+use Rattle.sheet.specs.Bodies.{part, operatorInRange}
+use Rattle.sheet.specs.House.{houseIn, houseBody, delayerSlots, packetsUnused, packetsInRange, profileInRange, houseInRange, houseFits, hopLength, hopOperator, houseOperator, housePath}
 use Rattle.sheet.specs.Forms.{inFull, standsFor, houseValue}
-use Rattle.sheet.specs.Sheets.{placesInRange, lineInRange}
-use Rattle.sheet.proofs.Numbers.{AreBytes, part-join, drop-last, numberOf-bytesOf, bytesOf-part}
+use Rattle.sheet.specs.Sheets.{operatorsInRange, pathInRange}
+use Rattle.sheet.proofs.Numbers.{AreBytes, part-join, drop-last, valueOfBytes-bytesOf, bytesOf-part}
 use Rattle.sheet.proofs.Forms.{value-full, stands-in-house}
 
 -- a number from a range's least to its largest
@@ -38,16 +38,16 @@ between range value inside = (least-le range value inside, le-largest range valu
 
 -- L, X and C where they are used, and the delayer that they make
 pub record PacketsWithin (h : House) : Type 0 where
-  pub own : Between packetRange (h .own .0)
-  pub longest : Between packetRange (h .longest .0)
-  pub carrying : Between rateRange (h .carrying .0)
+  pub own : Between packetRange (h .«own_packet» .0)
+  pub longest : Between packetRange (h .«longest_packet» .0)
+  pub carrying : Between rateRange (h .«link_rate» .0)
   pub slots : Between delayRange (delayerSlots h)
 
 -- and where they are not
 pub record PacketsUnused (h : House) : Type 0 where
-  pub own : h .own .0 ≡ 0
-  pub longest : h .longest .0 ≡ 0
-  pub carrying : h .carrying .0 ≡ 0
+  pub own : h .«own_packet» .0 ≡ 0
+  pub longest : h .«longest_packet» .0 ≡ 0
+  pub carrying : h .«link_rate» .0 ≡ 0
 
 -- the ranges of the nine numbers: profiles 1 and 2 use R, profile 2 uses L, X and C
 pub record HouseWithin (h : House) : Type 0 where
@@ -64,26 +64,26 @@ pub record HouseWithin (h : House) : Type 0 where
 packets-within : (h : House) → packetsInRange h ≡ true → PacketsWithin h
 unfolding packetsInRange
 packets-within h inside =
-    let own = inRange packetRange (h .own .0) in
-    let longest = inRange packetRange (h .longest .0) in
-    let carrying = inRange rateRange (h .carrying .0) in
+    let own = inRange packetRange (h .«own_packet» .0) in
+    let longest = inRange packetRange (h .«longest_packet» .0) in
+    let carrying = inRange rateRange (h .«link_rate» .0) in
     let slots = inRange delayRange (delayerSlots h) in
     let (own-in, others) = both-true own (both longest (both carrying slots)) inside in
     let (longest-in, carried) = both-true longest (both carrying slots) others in
     let (carrying-in, slots-in) = both-true carrying slots carried in
     record {
-      own = between packetRange (h .own .0) own-in;
-      longest = between packetRange (h .longest .0) longest-in;
-      carrying = between rateRange (h .carrying .0) carrying-in;
+      own = between packetRange (h .«own_packet» .0) own-in;
+      longest = between packetRange (h .«longest_packet» .0) longest-in;
+      carrying = between rateRange (h .«link_rate» .0) carrying-in;
       slots = between delayRange (delayerSlots h) slots-in;
     }
 
 packets-unused : (h : House) → packetsUnused h ≡ true → PacketsUnused h
 unfolding packetsUnused
 packets-unused h unused =
-    let own = eqb (h .own .0) 0 in
-    let longest = eqb (h .longest .0) 0 in
-    let carrying = eqb (h .carrying .0) 0 in
+    let own = eqb (h .«own_packet» .0) 0 in
+    let longest = eqb (h .«longest_packet» .0) 0 in
+    let carrying = eqb (h .«link_rate» .0) 0 in
     let (own-none, others) = both-true own (both longest carrying) unused in
     let (longest-none, carrying-none) = both-true longest carrying others in
     record { own = eqb-true _ _ own-none; longest = eqb-true _ _ longest-none; carrying = eqb-true _ _ carrying-none }
@@ -151,9 +151,9 @@ length-houseBody h = refl
 -- whatever the profile, R fits 4 bytes, and L, X and C fit 2
 record Fits (h : House) : Type 0 where
   rate : h .rate .0 ≤ 65535
-  own : h .own .0 ≤ 65535
-  longest : h .longest .0 ≤ 65535
-  carrying : h .carrying .0 ≤ 65535
+  own : h .«own_packet» .0 ≤ 65535
+  longest : h .«longest_packet» .0 ≤ 65535
+  carrying : h .«link_rate» .0 ≤ 65535
 
 house-numbers : (h : House) → HouseWithin h → Fits h
 house-numbers h within = ⊎-elim unrated (⊎-elim unpacked packed) (which-profile h (within .profile))
@@ -181,13 +181,13 @@ module _ (h : House) (inside : houseInRange h ≡ true) where
   house-read =
       let within = house-within h inside in
       let fits = house-numbers h within in
-      let wanted = numberOf-bytesOf 4 (h .wanted .0) (let small = within .wanted .1 in omega arith) in
-      let interval = numberOf-bytesOf 2 (h .interval .0) (let small = within .interval .1 in omega arith) in
-      let quota = numberOf-bytesOf 4 (h .quota .0) (let small = within .quota .1 in omega arith) in
-      let rate = numberOf-bytesOf 4 (h .rate .0) (let small = fits .rate in omega arith) in
-      let own = numberOf-bytesOf 2 (h .own .0) (let small = fits .own in omega arith) in
-      let longest = numberOf-bytesOf 2 (h .longest .0) (let small = fits .longest in omega arith) in
-      let carrying = numberOf-bytesOf 2 (h .carrying .0) (let small = fits .carrying in omega arith) in
+      let wanted = valueOfBytes-bytesOf 4 (h .wanted .0) (let small = within .wanted .1 in omega arith) in
+      let interval = valueOfBytes-bytesOf 2 (h .interval .0) (let small = within .interval .1 in omega arith) in
+      let quota = valueOfBytes-bytesOf 4 (h .quota .0) (let small = within .quota .1 in omega arith) in
+      let rate = valueOfBytes-bytesOf 4 (h .rate .0) (let small = fits .rate in omega arith) in
+      let own = valueOfBytes-bytesOf 2 (h .«own_packet» .0) (let small = fits .own in omega arith) in
+      let longest = valueOfBytes-bytesOf 2 (h .«longest_packet» .0) (let small = fits .longest in omega arith) in
+      let carrying = valueOfBytes-bytesOf 2 (h .«link_rate» .0) (let small = fits .carrying in omega arith) in
       λ i. record {
         profile = h .profile;
         hops = h .hops;
@@ -195,9 +195,9 @@ module _ (h : House) (inside : houseInRange h ≡ true) where
         interval = record { 0 = interval i };
         quota = record { 0 = quota i };
         rate = record { 0 = rate i };
-        own = record { 0 = own i };
-        longest = record { 0 = longest i };
-        carrying = record { 0 = carrying i };
+        «own_packet» = record { 0 = own i };
+        «longest_packet» = record { 0 = longest i };
+        «link_rate» = record { 0 = carrying i };
       }
 
   pub house-fits : houseFits (houseBody h) ≡ true
@@ -207,7 +207,7 @@ module _ (h : House) (inside : houseInRange h ≡ true) where
 pub house-written : (body : List ℕ) → AreBytes body → length body ≡ 22 → houseBody (houseIn body) ≡ body
 unfolding houseIn houseBody
 house-written body each size =
-    let number : (at width : ℕ) → at + width ≤ length body → bytesOf width (numberOf (part at width body)) ≡ part at width body = λ at width fits. bytesOf-part at width body each fits in
+    let number : (at width : ℕ) → at + width ≤ length body → bytesOf width (valueOfBytes (part at width body)) ≡ part at width body = λ at width fits. bytesOf-part at width body each fits in
     rw (number 2 4 (omega arith), number 6 2 (omega arith), number 8 4 (omega arith), number 12 4 (omega arith), number 16 2 (omega arith), number 18 2 (omega arith), number 20 2 (omega arith))
     (rw (part-join 2 4 2 body, part-join 2 6 4 body, part-join 2 10 4 body, part-join 2 14 2 body, part-join 2 16 2 body, part-join 2 18 2 body, ← drop-last 2 20 body size)
     (sym (drop-cons body 0 0 (omega arith) ∙ ap (λ (rest : List ℕ). getD body 0 0 ∷ rest) (drop-cons body 1 0 (omega arith)))))
@@ -223,9 +223,9 @@ hop-length h = by-tests (eqb (h .profile) 0) (eqb (h .profile) 1)
     by-tests false true = (omega arith, omega arith)
     by-tests false false = (omega arith, omega arith)
 
-pub length-housePlaces : (h : House) → length (houseLine h .places) ≡ h .hops .0 * hopLength h
-unfolding houseLine
-length-housePlaces h = length-listOf (housePlace h) (h .hops .0 * hopLength h)
+pub length-houseOperators : (h : House) → length (housePath h .operators) ≡ h .hops .0 * hopLength h
+unfolding housePath
+length-houseOperators h = length-listOf (houseOperator h) (h .hops .0 * hopLength h)
 
 in-range : (range : Range) (value : ℕ) → Between range value → inRange range value ≡ true
 unfolding inRange
@@ -260,50 +260,50 @@ module _ (h : House) (within : HouseWithin h) where
       rw (ne-eqb (h .profile) 0 (λ e. omega arith), ne-eqb (h .profile) 1 (λ e. omega arith))
       (either-inside (eqb i 0) (filter (h .rate .0)) (delayer (delayerSlots h)) (R-inside (λ e. omega arith)) (in-range delayRange (delayerSlots h) (within .packets third .slots)))
 
-  place-inside : (k : ℕ) → k < h .hops .0 * hopLength h → placeInRange (housePlace h k) ≡ true
-  unfolding placeInRange housePlace
-  place-inside k before =
+  linked-inside : (k : ℕ) → k < h .hops .0 * hopLength h → operatorInRange (houseOperator h k) ≡ true
+  unfolding operatorInRange houseOperator
+  linked-inside k before =
       let hop : k / hopLength h < h .hops .0 = div-lt-iff-lt-mul {k = hopLength h} {x = k} {y = h .hops .0} (let long = hop-length h in omega arith) .1 before in
       let hops = within .hops in
       let i = k % hopLength h in
       ap₂ both (⊎-elim (framed-inside i) (⊎-elim (limited-inside i) (filtered-inside i)) (which-profile h (within .profile))) (in-range linkRange (k / hopLength h) (omega arith, omega arith))
 
-one-more : (places : List Place) (place : Place) → placesInRange places ≡ true → placeInRange place ≡ true → placesInRange (places ++ (place ∷ [])) ≡ true
-unfolding placesInRange
-one-more [] place before here = rw here
-one-more (first ∷ places) place before here = let (first-in, others) = both-true (placeInRange first) (placesInRange places) before in ap₂ both first-in (one-more places place others here)
+one-more : (operators : List LinkedOperator) (linked : LinkedOperator) → operatorsInRange operators ≡ true → operatorInRange linked ≡ true → operatorsInRange (operators ++ (linked ∷ [])) ≡ true
+unfolding operatorsInRange
+one-more [] linked before here = rw here
+one-more (first ∷ operators) linked before here = let (first-in, others) = both-true (operatorInRange first) (operatorsInRange operators) before in ap₂ both first-in (one-more operators linked others here)
 
-listed-inside : (f : ℕ → Place) (n : ℕ) → ((k : ℕ) → k < n → placeInRange (f k) ≡ true) → placesInRange (listOf f n) ≡ true
-unfolding placesInRange listOf
+listed-inside : (f : ℕ → LinkedOperator) (n : ℕ) → ((k : ℕ) → k < n → operatorInRange (f k) ≡ true) → operatorsInRange (listOf f n) ≡ true
+unfolding operatorsInRange listOf
 listed-inside f zero each = refl
 listed-inside f (suc n) each = one-more (listOf f n) (f n) (listed-inside f n (λ k before. each k (omega arith))) (each n (omega arith))
 
 module _ (h : House) (inside : houseInRange h ≡ true) where
-  pub house-some : 1 ≤ length (houseLine h .places)
+  pub house-some : 1 ≤ length (housePath h .operators)
   house-some =
       let hops = house-within h inside .hops in
       let long = hop-length h in
-      rw (length-housePlaces h) (omega (arith, mul-le-mul-right {m = 1} {n = h .hops .0} (hopLength h) (omega arith)))
+      rw (length-houseOperators h) (omega (arith, mul-le-mul-right {m = 1} {n = h .hops .0} (hopLength h) (omega arith)))
 
-  pub house-few : length (houseLine h .places) ≤ 15
+  pub house-few : length (housePath h .operators) ≤ 15
   house-few =
       let hops = house-within h inside .hops in
       let long = hop-length h in
-      rw (length-housePlaces h) (omega (arith, mul-le-mul-right {m = h .hops .0} {n = 5} (hopLength h) (omega arith)))
+      rw (length-houseOperators h) (omega (arith, mul-le-mul-right {m = h .hops .0} {n = 5} (hopLength h) (omega arith)))
 
-  pub house-inside : lineInRange (houseLine h) ≡ true
-  unfolding lineInRange houseLine declarationInRange
+  pub house-inside : pathInRange (housePath h) ≡ true
+  unfolding pathInRange housePath declarationInRange
   house-inside =
       let within = house-within h inside in
       let declared = ap₂ both (m-inside h within) (in-range quotaRange (h .quota .0) (within .quota)) in
       let wanted = in-range wantedDelayRange (h .wanted .0) (within .wanted) in
-      ap₂ both declared (ap₂ both wanted (listed-inside (housePlace h) (h .hops .0 * hopLength h) (place-inside h within)))
+      ap₂ both declared (ap₂ both wanted (listed-inside (houseOperator h) (h .hops .0 * hopLength h) (linked-inside h within)))
 
   -- its value has that path written out
-  pub house-full : inFull (houseValue h) ≡ houseLine h
+  pub house-full : inFull (houseValue h) ≡ housePath h
   unfolding houseValue
-  house-full = value-full (Form.House h) (houseLine h) (let few = house-few in omega arith)
+  house-full = value-full (Form.House h) (housePath h) (let few = house-few in omega arith)
 
-pub house-stands : (h : House) → standsFor (houseValue h) ≡ houseLine h
+pub house-stands : (h : House) → standsFor (houseValue h) ≡ housePath h
 unfolding houseValue
 house-stands h = stands-in-house (houseValue h) h refl

@@ -8,7 +8,7 @@ use lib.Dec.{eqb}
 use Rattle.quantity.specs.Refusals.{Case, firstOf}
 use Rattle.quantity.specs.declared.refusal.Refusal.{Refusal}
 use Rattle.quantity.specs.declared.refusal.Refusal.the-variants.{OutOfRange}
-use Rattle.sheet.specs.declared.Path.{Path}
+use Rattle.sheet.specs.declared.PathValue.{PathValue}
 use Rattle.sheet.specs.declared.read.Verdict.{Verdict}
 use Rattle.sheet.specs.declared.read.ReadSheet.{ReadSheet}
 use Rattle.sheet.specs.declared.read.Due.{Due}
@@ -16,7 +16,7 @@ use Rattle.sheet.specs.House.{houseIn, houseFits}
 use Rattle.sheet.specs.Forms.{houseValue}
 use Rattle.sheet.specs.Fields.{houseFormat, bodyAt, fieldCases}
 use Rattle.sheet.specs.Sheets.{houseAt, houseLength, furtherCases, inHouseForm, refusedRead, readFields, readHouse, readSheet}
-use Rattle.sheet.proofs.Forms.{cases-in-house, path-in-house, cases-in-fields, path-in-fields}
+use Rattle.sheet.proofs.Forms.{cases-in-house, value-in-house, cases-in-fields, value-in-fields}
 use Rattle.sheet.proofs.ReadLaws.{any, judged-answer, field-refused, field-outside, field-passed}
 
 pub no-tag : (sheet : List ℕ) → length sheet ≤ 0 → inHouseForm sheet ≡ false
@@ -24,16 +24,16 @@ unfolding inHouseForm
 no-tag sheet none = ap (λ (byte : ℕ). eqb byte 4) (List·getD-eq-default sheet 0 {n = 0} none)
 
 module _ (sheet : List ℕ) where
-  abbrev answered : List Case → Path → ReadSheet
-  answered cases path = firstOf cases refusedRead (record { verdict = Verdict.Accepted; path = path })
+  abbrev answered : List Case → PathValue → ReadSheet
+  answered cases value = firstOf cases refusedRead (record { verdict = Verdict.Accepted; path = value })
 
   pub read-in-house : inHouseForm sheet ≡ true → readHouse sheet ≡ readSheet sheet
   unfolding readHouse readSheet refusedRead
-  read-in-house house = ap₂ answered (sym (cases-in-house sheet house)) (sym (path-in-house sheet house))
+  read-in-house house = ap₂ answered (sym (cases-in-house sheet house)) (sym (value-in-house sheet house))
 
   pub read-in-fields : inHouseForm sheet ≡ false → readFields sheet ≡ readSheet sheet
   unfolding readFields readSheet refusedRead
-  read-in-fields fields = ap₂ answered (sym (cases-in-fields sheet fields)) (sym (path-in-fields sheet fields))
+  read-in-fields fields = ap₂ answered (sym (cases-in-fields sheet fields)) (sym (value-in-fields sheet fields))
 
   abbrev body : List ℕ
   body = bodyAt sheet houseAt 22

@@ -1,4 +1,4 @@
--- A path whose numbers are in their ranges: so is each of its places, a link is at most 15, and the delay wanted at most 65,535.
+-- A path whose numbers are in their ranges: so is each of its operators, a link is at most 15, and the delay wanted at most 65,535.
 use mathlib.Core.Path.{_≡_}
 use mathlib.Core.Bool.{true}
 use mathlib.Core.List.{List, [], _∷_}
@@ -11,38 +11,38 @@ use Rattle.quantity.proofs.Laws.{le-largest}
 use Rattle.quantity.proofs.Sums.{both-true}
 use Rattle.operator.specs.Operators.{numberInRange}
 use Rattle.flow.specs.Declarations.{declarationInRange}
-use Rattle.sheet.specs.declared.Place.{Place}
-use Rattle.sheet.specs.Paths.{Line}
-use Rattle.sheet.specs.Bodies.{placeInRange}
-use Rattle.sheet.specs.Sheets.{placesInRange, lineInRange}
+use Rattle.sheet.specs.declared.LinkedOperator.{LinkedOperator}
+use Rattle.sheet.specs.Paths.{Path}
+use Rattle.sheet.specs.Bodies.{operatorInRange}
+use Rattle.sheet.specs.Sheets.{operatorsInRange, pathInRange}
 
 -- section 1: a link in its range is one byte
-pub link-small : (place : Place) → placeInRange place ≡ true → place .link .0 ≤ 15
-unfolding placeInRange
-link-small place h = le-largest linkRange (place .link .0) (both-true (numberInRange (place .operator)) (inRange linkRange (place .link .0)) h .1)
+pub link-small : (linked : LinkedOperator) → operatorInRange linked ≡ true → linked .link .0 ≤ 15
+unfolding operatorInRange
+link-small linked h = le-largest linkRange (linked .link .0) (both-true (numberInRange (linked .operator)) (inRange linkRange (linked .link .0)) h .1)
 
--- each of some places that are in range is
-pub places-at : (places : List Place) (k : ℕ) (d : Place) → placesInRange places ≡ true → k < length places → placeInRange (getD places k d) ≡ true
-unfolding placesInRange
-places-at [] k d h inside = absurd (not-suc-le-zero inside)
-places-at (place ∷ places) zero d h inside = both-true (placeInRange place) (placesInRange places) h .0
-places-at (place ∷ places) (suc k) d h inside = places-at places k d (both-true (placeInRange place) (placesInRange places) h .1) (le-of-suc-le-suc inside)
+-- each of some operators that are in range is
+pub operators-at : (operators : List LinkedOperator) (k : ℕ) (d : LinkedOperator) → operatorsInRange operators ≡ true → k < length operators → operatorInRange (getD operators k d) ≡ true
+unfolding operatorsInRange
+operators-at [] k d h inside = absurd (not-suc-le-zero inside)
+operators-at (linked ∷ operators) zero d h inside = both-true (operatorInRange linked) (operatorsInRange operators) h .0
+operators-at (linked ∷ operators) (suc k) d h inside = operators-at operators k d (both-true (operatorInRange linked) (operatorsInRange operators) h .1) (le-of-suc-le-suc inside)
 
-module _ (line : Line) (inside : lineInRange line ≡ true) where
-  inside-both : (declarationInRange (line .declaration) ≡ true) × (both (inRange wantedDelayRange (line .wanted)) (placesInRange (line .places)) ≡ true)
-  unfolding lineInRange
-  inside-both = both-true (declarationInRange (line .declaration)) (both (inRange wantedDelayRange (line .wanted)) (placesInRange (line .places))) inside
+module _ (path : Path) (inside : pathInRange path ≡ true) where
+  inside-both : (declarationInRange (path .declaration) ≡ true) × (both (inRange wantedDelayRange (path .wanted)) (operatorsInRange (path .operators)) ≡ true)
+  unfolding pathInRange
+  inside-both = both-true (declarationInRange (path .declaration)) (both (inRange wantedDelayRange (path .wanted)) (operatorsInRange (path .operators))) inside
 
-  pub declaration-of-path : declarationInRange (line .declaration) ≡ true
+  pub declaration-of-path : declarationInRange (path .declaration) ≡ true
   declaration-of-path = inside-both .0
 
-  pub places-of-path : placesInRange (line .places) ≡ true
-  places-of-path = both-true (inRange wantedDelayRange (line .wanted)) (placesInRange (line .places)) (inside-both .1) .1
+  pub operators-of-path : operatorsInRange (path .operators) ≡ true
+  operators-of-path = both-true (inRange wantedDelayRange (path .wanted)) (operatorsInRange (path .operators)) (inside-both .1) .1
 
   -- the delay wanted
-  pub wanted-of-path : line .wanted ≤ 65_535
-  wanted-of-path = le-largest wantedDelayRange (line .wanted) (both-true (inRange wantedDelayRange (line .wanted)) (placesInRange (line .places)) (inside-both .1) .0)
+  pub wanted-of-path : path .wanted ≤ 65_535
+  wanted-of-path = le-largest wantedDelayRange (path .wanted) (both-true (inRange wantedDelayRange (path .wanted)) (operatorsInRange (path .operators)) (inside-both .1) .0)
 
-  -- the link of each place
-  pub link-of-path : (k : ℕ) (d : Place) → k < length (line .places) → getD (line .places) k d .link .0 ≤ 15
-  link-of-path k d less = link-small (getD (line .places) k d) (places-at (line .places) k d places-of-path less)
+  -- the link of each operator
+  pub link-of-path : (k : ℕ) (d : LinkedOperator) → k < length (path .operators) → getD (path .operators) k d .link .0 ≤ 15
+  link-of-path k d less = link-small (getD (path .operators) k d) (operators-at (path .operators) k d operators-of-path less)

@@ -5,11 +5,11 @@ pub mod HouseLaws
 mod ProfileLaws
 mod Filling
 mod Fields
-mod Places
+mod OperatorRows
 pub mod Accepted
 mod Sheets
 pub mod RoundTrip
-mod PlacesRead
+mod OperatorsRead
 mod HeadRead
 mod HouseRead
 mod AnswerLaws

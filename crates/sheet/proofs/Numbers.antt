@@ -7,7 +7,7 @@ use native.Mathlib.Decide.{decLt}
 use native.Mathlib.Omega.{arith}
 use lib.ListN.{length, getD, take, drop, length-take, length-drop, take-append-drop, List·getD-eq-default}
 use lib.Seq.{getD-take, getD-drop, take-all, take-add, drop-drop}
-use Rattle.sheet.specs.Numbers.{numberOf, bytesOf}
+use Rattle.sheet.specs.Numbers.{valueOfBytes, bytesOf}
 use Rattle.sheet.specs.Bodies.{part}
 
 -- each element is a byte
@@ -25,11 +25,11 @@ length-part at width bytes h = simp (length-take, length-drop) (omega arith)
 
 pub part-bytes : (at width : ℕ) (bytes : List ℕ) → AreBytes bytes → AreBytes (part at width bytes)
 unfolding part
-part-bytes at width bytes each k = by-place (decLt k width)
+part-bytes at width bytes each k = by-linked (decLt k width)
   where
-    by-place : Dec (k < width) → getD (take width (drop at bytes)) k 0 < 256
-    by-place (yes h) = rw (getD-take, getD-drop) (each (at + k))
-    by-place (no h) =
+    by-linked : Dec (k < width) → getD (take width (drop at bytes)) k 0 < 256
+    by-linked (yes h) = rw (getD-take, getD-drop) (each (at + k))
+    by-linked (no h) =
         let size : length (take width (drop at bytes)) ≤ k = simp length-take (omega arith) in
         rw List·getD-eq-default (omega arith)
 
@@ -61,16 +61,16 @@ mod-split P n positive =
     sym (ap (λ (x : ℕ). x % (P * 256)) whole ∙ mul-add-mod-self-right (q / 256) (P * 256) (q % 256 * P + n % P) ∙ mod-eq-of-lt less)
 
 -- the bytes of a number keep its remainder
-numberOf-bytesOf-mod : (width n : ℕ) → numberOf (bytesOf width n) ≡ n % 256 ^ width
-unfolding numberOf bytesOf
-numberOf-bytesOf-mod zero n = sym (mod-one n)
-numberOf-bytesOf-mod (suc width) n =
+valueOfBytes-bytesOf-mod : (width n : ℕ) → valueOfBytes (bytesOf width n) ≡ n % 256 ^ width
+unfolding valueOfBytes bytesOf
+valueOfBytes-bytesOf-mod zero n = sym (mod-one n)
+valueOfBytes-bytesOf-mod (suc width) n =
     let size = length-bytesOf width n in
-    let ih = numberOf-bytesOf-mod width n in
-    simp (numberOf, bytesOf, size, ih, pow-suc) (mod-split (256 ^ width) n (one-le-pow width 256 (omega arith)))
+    let ih = valueOfBytes-bytesOf-mod width n in
+    simp (valueOfBytes, bytesOf, size, ih, pow-suc) (mod-split (256 ^ width) n (one-le-pow width 256 (omega arith)))
 
-pub numberOf-bytesOf : (width n : ℕ) → n < 256 ^ width → numberOf (bytesOf width n) ≡ n
-numberOf-bytesOf width n h = numberOf-bytesOf-mod width n ∙ mod-eq-of-lt h
+pub valueOfBytes-bytesOf : (width n : ℕ) → n < 256 ^ width → valueOfBytes (bytesOf width n) ≡ n
+valueOfBytes-bytesOf width n h = valueOfBytes-bytesOf-mod width n ∙ mod-eq-of-lt h
 
 -- a width's bytes of a number do not see what lies above them
 bytesOf-above : (width x n : ℕ) → bytesOf width (x * 256 ^ width + n) ≡ bytesOf width n
@@ -82,26 +82,26 @@ bytesOf-above (suc width) x n =
     let byte : (x * 256 * P + n) / P % 256 ≡ n / P % 256 = rw (mul-add-div-right (one-le-pow width 256 (omega arith))) (omega arith) in
     rw regrouped (ap₂ {B = List ℕ} {C = List ℕ} (λ b bs. b ∷ bs) byte (bytesOf-above width (x * 256) n))
 
-numberOf-below : (bytes : List ℕ) → AreBytes bytes → numberOf bytes < 256 ^ length bytes
-unfolding numberOf
-numberOf-below [] each = omega arith
-numberOf-below (byte ∷ bytes) each =
+valueOfBytes-below : (bytes : List ℕ) → AreBytes bytes → valueOfBytes bytes < 256 ^ length bytes
+unfolding valueOfBytes
+valueOfBytes-below [] each = omega arith
+valueOfBytes-below (byte ∷ bytes) each =
     let P = 256 ^ length bytes in
-    let rest = numberOf-below bytes (λ k. each (suc k)) in
+    let rest = valueOfBytes-below bytes (λ k. each (suc k)) in
     let bound = mul-le-mul-right {m = byte} {n = 255} P (let h = each 0 in omega arith) in
     rw pow-suc (omega arith)
 
-pub bytesOf-numberOf : (bytes : List ℕ) → AreBytes bytes → bytesOf (length bytes) (numberOf bytes) ≡ bytes
-unfolding numberOf bytesOf
-bytesOf-numberOf [] each = refl
-bytesOf-numberOf (byte ∷ bytes) each =
+pub bytesOf-valueOfBytes : (bytes : List ℕ) → AreBytes bytes → bytesOf (length bytes) (valueOfBytes bytes) ≡ bytes
+unfolding valueOfBytes bytesOf
+bytesOf-valueOfBytes [] each = refl
+bytesOf-valueOfBytes (byte ∷ bytes) each =
     let P = 256 ^ length bytes in
-    let below = numberOf-below bytes (λ k. each (suc k)) in
-    let first : (byte * P + numberOf bytes) / P % 256 ≡ byte =
+    let below = valueOfBytes-below bytes (λ k. each (suc k)) in
+    let first : (byte * P + valueOfBytes bytes) / P % 256 ≡ byte =
     rw (mul-add-div-right (one-le-pow (length bytes) 256 (omega arith)), div-eq-of-lt below) (let h = each 0 in omega arith) in
-    ap₂ {B = List ℕ} {C = List ℕ} (λ b bs. b ∷ bs) first (bytesOf-above (length bytes) byte (numberOf bytes) ∙ bytesOf-numberOf bytes (λ k. each (suc k)))
+    ap₂ {B = List ℕ} {C = List ℕ} (λ b bs. b ∷ bs) first (bytesOf-above (length bytes) byte (valueOfBytes bytes) ∙ bytesOf-valueOfBytes bytes (λ k. each (suc k)))
 
 -- a number that is read from so many bytes is written as those
-pub bytesOf-part : (at width : ℕ) (bytes : List ℕ) → AreBytes bytes → at + width ≤ length bytes → bytesOf width (numberOf (part at width bytes)) ≡ part at width bytes
+pub bytesOf-part : (at width : ℕ) (bytes : List ℕ) → AreBytes bytes → at + width ≤ length bytes → bytesOf width (valueOfBytes (part at width bytes)) ≡ part at width bytes
 bytesOf-part at width bytes each fits =
-    ap (λ (w : ℕ). bytesOf w (numberOf (part at width bytes))) (sym (length-part at width bytes fits)) ∙ bytesOf-numberOf (part at width bytes) (part-bytes at width bytes each)
+    ap (λ (w : ℕ). bytesOf w (valueOfBytes (part at width bytes))) (sym (length-part at width bytes fits)) ∙ bytesOf-valueOfBytes (part at width bytes) (part-bytes at width bytes each)

@@ -15,17 +15,17 @@ use Rattle.quantity.specs.declared.refusal.Refusal.{Refusal}
 use Rattle.quantity.specs.declared.refusal.Refusal.the-variants.{HeaderCutOff, FieldUnexpected, BodyCutOff, OutOfRange}
 use Rattle.quantity.proofs.Laws.{pick-true, pick-false}
 use Rattle.quantity.proofs.Refusals.{firstOf-map}
-use Rattle.sheet.specs.Numbers.{numberOf}
+use Rattle.sheet.specs.Numbers.{valueOfBytes}
 use Rattle.sheet.specs.Bodies.{part}
 use Rattle.sheet.specs.Fields.{Format, bodyAt, fieldMissing, headerCutOff, fieldUnexpected, bodyCutOff, bodyOutOfRange, fieldCases}
 use Rattle.sheet.specs.declared.read.Due.{Due}
 
 -- one byte more on the right: all before it goes up a place
-pub numberOf-snoc : (bytes : List ℕ) (byte : ℕ) → numberOf (bytes ++ (byte ∷ [])) ≡ numberOf bytes * 256 + byte
-unfolding numberOf
-numberOf-snoc [] byte = omega arith
-numberOf-snoc (high ∷ bytes) byte =
-    let ih = numberOf-snoc bytes byte in
+pub valueOfBytes-snoc : (bytes : List ℕ) (byte : ℕ) → valueOfBytes (bytes ++ (byte ∷ [])) ≡ valueOfBytes bytes * 256 + byte
+unfolding valueOfBytes
+valueOfBytes-snoc [] byte = omega arith
+valueOfBytes-snoc (high ∷ bytes) byte =
+    let ih = valueOfBytes-snoc bytes byte in
     let wider : 256 ^ length (bytes ++ (byte ∷ [])) ≡ 256 ^ length bytes * 256 = rw (length-append, add-one) (pow-suc 256 (length bytes)) in
     let raised : high * 256 ^ length (bytes ++ (byte ∷ [])) ≡ high * 256 ^ length bytes * 256 = rw wider (sym (mul-assoc high (256 ^ length bytes) 256)) in
     omega arith
@@ -42,9 +42,9 @@ power-small k h = pow-le-pow-right {n = 256} (omega arith) {i = k} {j = 3} (omeg
 pub power-next : (k : ℕ) → 256 ^ (k + 1) ≡ 256 ^ k * 256
 power-next k = rw add-one (pow-suc 256 k)
 
-pub number-next : (bytes : List ℕ) (at k value byte : ℕ) → at + k < length bytes → value ≡ numberOf (part at k bytes) → byte ≡ getD bytes (at + k) 0
-    → value * 256 + byte ≡ numberOf (part at (k + 1) bytes)
-number-next bytes at k value byte inside so-far here = rw (part-next at k bytes inside, numberOf-snoc, so-far, here)
+pub number-next : (bytes : List ℕ) (at k value byte : ℕ) → at + k < length bytes → value ≡ valueOfBytes (part at k bytes) → byte ≡ getD bytes (at + k) 0
+    → value * 256 + byte ≡ valueOfBytes (part at (k + 1) bytes)
+number-next bytes at k value byte inside so-far here = rw (part-next at k bytes inside, valueOfBytes-snoc, so-far, here)
 
 -- the conditions of a field, from what the reader's tests showed
 module _ (sheet : List ℕ) (at : ℕ) where

@@ -19,15 +19,15 @@ use Rattle.quantity.proofs.Refusals.{NoneStands, firstOf-none}
 use Rattle.flow.specs.Declarations.{declarationInRange}
 use Rattle.sheet.specs.declared.House.{House}
 use Rattle.sheet.specs.declared.Form.{Form}
-use Rattle.sheet.specs.declared.Path.{Path}
+use Rattle.sheet.specs.declared.PathValue.{PathValue}
 use Rattle.sheet.specs.declared.write.Written.{Written}
 use Rattle.sheet.specs.Numbers.{bytesOf}
-use Rattle.sheet.specs.Paths.{Line}
+use Rattle.sheet.specs.Paths.{Path}
 use Rattle.sheet.specs.Bodies.{declarationBody, wantedBody}
 use Rattle.sheet.specs.House.{houseBody, houseInRange}
 use Rattle.sheet.specs.Forms.{inFull, standsFor}
 use Rattle.sheet.specs.Fields.{fieldOf}
-use Rattle.sheet.specs.Sheets.{placeFields, placesInRange, sheetOf, lineInRange, sheetOfPath, writeCases, writeAnswer, bytesAfter, behindSheet}
+use Rattle.sheet.specs.Sheets.{operatorFields, operatorsInRange, sheetOf, pathInRange, sheetOfValue, writeCases, writeAnswer, bytesWritten, behindSheet}
 use Rattle.sheet.proofs.Forms.{stands-in-fields, sheet-in-fields, refusals-in-fields, sheet-in-house, refusals-in-house}
 use Rattle.sheet.proofs.HouseLaws.{length-houseBody}
 use Rattle.sheet.proofs.Runs.{stored-first}
@@ -36,23 +36,23 @@ wrong-either : (count : ℕ) → (count ≡ 0) ⊎ (16 < count) → either (eqb 
 wrong-either count (inl none) = rw (eq-eqb count 0 none)
 wrong-either count (inr many) = rw (ne-eqb count 0 (λ none. omega arith), lt-ltb 16 count many)
 
-module _ {A : Type 0} (refused : Refusal → A) (result : A) (path : Path) (lent : List ℕ) where
-  first-length : (length lent ≡ 256 → ⊥) → refused Unusable ≡ firstOf (writeCases path lent) refused result
+module _ {A : Type 0} (refused : Refusal → A) (result : A) (value : PathValue) (lent : List ℕ) where
+  first-length : (length lent ≡ 256 → ⊥) → refused Unusable ≡ firstOf (writeCases value lent) refused result
   unfolding writeCases
   first-length other = simp (ne-eqb (length lent) 256 other)
 
   module _ (full : length lent ≡ 256) where
-    module _ (fields : path .form ≡ Form.Fields) where
-      first-count : (path .count ≡ 0) ⊎ (16 < path .count) → refused (FieldUnexpected 0) ≡ firstOf (writeCases path lent) refused result
-      first-count wrong = rw (refusals-in-fields path fields lent) (simp (eq-eqb (length lent) 256 full, wrong-either (path .count) wrong))
+    module _ (fields : value .form ≡ Form.Fields) where
+      first-count : (value .count ≡ 0) ⊎ (16 < value .count) → refused (FieldUnexpected 0) ≡ firstOf (writeCases value lent) refused result
+      first-count wrong = rw (refusals-in-fields value fields lent) (simp (eq-eqb (length lent) 256 full, wrong-either (value .count) wrong))
 
-      module _ (some : path .count ≡ 0 → ⊥) (few : path .count ≤ 16) where
-        first-number : lineInRange (standsFor path) ≡ false → refused (OutOfRange 0) ≡ firstOf (writeCases path lent) refused result
-        first-number out = rw (refusals-in-fields path fields lent) (simp (eq-eqb (length lent) 256 full, ne-eqb (path .count) 0 some, le-ltb 16 (path .count) few, out))
+      module _ (some : value .count ≡ 0 → ⊥) (few : value .count ≤ 16) where
+        first-number : pathInRange (standsFor value) ≡ false → refused (OutOfRange 0) ≡ firstOf (writeCases value lent) refused result
+        first-number out = rw (refusals-in-fields value fields lent) (simp (eq-eqb (length lent) 256 full, ne-eqb (value .count) 0 some, le-ltb 16 (value .count) few, out))
 
-    module _ (h : House) (house : path .form ≡ Form.House h) where
-      first-house : houseInRange h ≡ false → refused (OutOfRange 0) ≡ firstOf (writeCases path lent) refused result
-      first-house out = rw (refusals-in-house path h house lent) (simp (eq-eqb (length lent) 256 full, out))
+    module _ (h : House) (house : value .form ≡ Form.House h) where
+      first-house : houseInRange h ≡ false → refused (OutOfRange 0) ≡ firstOf (writeCases value lent) refused result
+      first-house out = rw (refusals-in-house value h house lent) (simp (eq-eqb (length lent) 256 full, out))
 
 -- the sheet, stored from the start on, and behind it what the bytes held
 stored-sheet : (sheet lent : List ℕ) → length sheet ≤ length lent → sets lent 0 sheet ≡ behindSheet sheet lent
@@ -65,66 +65,66 @@ unfolding fieldOf bytesOf
 length-houseField h = omega (arith, length-houseBody h)
 
 -- the answer and the bytes that are left are the definition's
-abbrev pub Answers : Path → List ℕ → Written → List ℕ → Type 0
-Answers path lent answer left = (answer ≡ writeAnswer path lent) × (left ≡ bytesAfter path lent)
+abbrev pub Answers : PathValue → List ℕ → Written → List ℕ → Type 0
+Answers value lent answer left = (answer ≡ writeAnswer value lent) × (left ≡ bytesWritten value lent)
 
-module _ (path : Path) (lent : List ℕ) where
+module _ (value : PathValue) (lent : List ℕ) where
   abbrev sheet : List ℕ
-  sheet = sheetOfPath path
+  sheet = sheetOfValue value
 
   abbrev kept : Refusal → List ℕ
   kept why = lent
 
-  pub wrong-length : (length lent ≡ 256 → ⊥) → Answers path lent (Written.Refused Unusable) lent
-  unfolding writeAnswer bytesAfter
-  wrong-length h = (first-length Written.Refused (Written.Length (length sheet)) path lent h, first-length kept (behindSheet sheet lent) path lent h)
+  pub wrong-length : (length lent ≡ 256 → ⊥) → Answers value lent (Written.Refused Unusable) lent
+  unfolding writeAnswer bytesWritten
+  wrong-length h = (first-length Written.Refused (Written.Length (length sheet)) value lent h, first-length kept (behindSheet sheet lent) value lent h)
 
   -- behind all tests
-  all-passed : length lent ≡ 256 → NoneStands (writeCases path lent) → {stored left : List ℕ} → sheetOfPath path ≡ stored → left ≡ sets lent 0 stored → length stored ≤ 256
-      → Answers path lent (Written.Length (length stored)) left
-  unfolding writeAnswer bytesAfter
+  all-passed : length lent ≡ 256 → NoneStands (writeCases value lent) → {stored left : List ℕ} → sheetOfValue value ≡ stored → left ≡ sets lent 0 stored → length stored ≤ 256
+      → Answers value lent (Written.Length (length stored)) left
+  unfolding writeAnswer bytesWritten
   all-passed full stands {stored} same held room =
       rw same (
-        sym (firstOf-none Written.Refused (Written.Length (length stored)) (writeCases path lent) stands),
-        held ∙ stored-sheet stored lent (rw full room) ∙ sym (firstOf-none kept (behindSheet stored lent) (writeCases path lent) stands),
+        sym (firstOf-none Written.Refused (Written.Length (length stored)) (writeCases value lent) stands),
+        held ∙ stored-sheet stored lent (rw full room) ∙ sym (firstOf-none kept (behindSheet stored lent) (writeCases value lent) stands),
       )
 
   module _ (full : length lent ≡ 256) where
-    module _ (fields : path .form ≡ Form.Fields) where
-      pub wrong-count : (path .count ≡ 0) ⊎ (16 < path .count) → Answers path lent (Written.Refused (FieldUnexpected 0)) lent
-      unfolding writeAnswer bytesAfter
-      wrong-count h = (first-count Written.Refused (Written.Length (length sheet)) path lent full fields h, first-count kept (behindSheet sheet lent) path lent full fields h)
+    module _ (fields : value .form ≡ Form.Fields) where
+      pub wrong-count : (value .count ≡ 0) ⊎ (16 < value .count) → Answers value lent (Written.Refused (FieldUnexpected 0)) lent
+      unfolding writeAnswer bytesWritten
+      wrong-count h = (first-count Written.Refused (Written.Length (length sheet)) value lent full fields h, first-count kept (behindSheet sheet lent) value lent full fields h)
 
-      module _ (some : path .count ≡ 0 → ⊥) (few : path .count ≤ 16) where
-        pub wrong-number : lineInRange (standsFor path) ≡ false → Answers path lent (Written.Refused (OutOfRange 0)) lent
-        unfolding writeAnswer bytesAfter
-        wrong-number h = (first-number Written.Refused (Written.Length (length sheet)) path lent full fields some few h, first-number kept (behindSheet sheet lent) path lent full fields some few h)
+      module _ (some : value .count ≡ 0 → ⊥) (few : value .count ≤ 16) where
+        pub wrong-number : pathInRange (standsFor value) ≡ false → Answers value lent (Written.Refused (OutOfRange 0)) lent
+        unfolding writeAnswer bytesWritten
+        wrong-number h = (first-number Written.Refused (Written.Length (length sheet)) value lent full fields some few h, first-number kept (behindSheet sheet lent) value lent full fields some few h)
 
-        pub all-right : lineInRange (standsFor path) ≡ true → {left : List ℕ} → left ≡ sets lent 0 (sheetOf (standsFor path)) → length (sheetOf (standsFor path)) ≤ 256
-            → Answers path lent (Written.Length (length (sheetOf (standsFor path)))) left
+        pub all-right : pathInRange (standsFor value) ≡ true → {left : List ℕ} → left ≡ sets lent 0 (sheetOf (standsFor value)) → length (sheetOf (standsFor value)) ≤ 256
+            → Answers value lent (Written.Length (length (sheetOf (standsFor value)))) left
         all-right h =
             all-passed full
-            (rw (refusals-in-fields path fields lent) (rw (eq-eqb (length lent) 256 full), (rw (ne-eqb (path .count) 0 some, le-ltb 16 (path .count) few), (rw h, tt))))
-            (sheet-in-fields path fields)
+            (rw (refusals-in-fields value fields lent) (rw (eq-eqb (length lent) 256 full), (rw (ne-eqb (value .count) 0 some, le-ltb 16 (value .count) few), (rw h, tt))))
+            (sheet-in-fields value fields)
 
-    module _ (h : House) (house : path .form ≡ Form.House h) where
-      pub wrong-house : houseInRange h ≡ false → Answers path lent (Written.Refused (OutOfRange 0)) lent
-      unfolding writeAnswer bytesAfter
-      wrong-house out = (first-house Written.Refused (Written.Length (length sheet)) path lent full h house out, first-house kept (behindSheet sheet lent) path lent full h house out)
+    module _ (h : House) (house : value .form ≡ Form.House h) where
+      pub wrong-house : houseInRange h ≡ false → Answers value lent (Written.Refused (OutOfRange 0)) lent
+      unfolding writeAnswer bytesWritten
+      wrong-house out = (first-house Written.Refused (Written.Length (length sheet)) value lent full h house out, first-house kept (behindSheet sheet lent) value lent full h house out)
 
-      pub house-right : houseInRange h ≡ true → {left : List ℕ} → left ≡ sets lent 0 (fieldOf 0x04 (houseBody h)) → Answers path lent (Written.Length 25) left
+      pub house-right : houseInRange h ≡ true → {left : List ℕ} → left ≡ sets lent 0 (fieldOf 0x04 (houseBody h)) → Answers value lent (Written.Length 25) left
       house-right in-range stored =
           let passed =
-          all-passed full (rw (refusals-in-house path h house lent) (rw (eq-eqb (length lent) 256 full), (rw in-range, tt))) (sheet-in-house path h house) stored (rw (length-houseField h) (omega arith)) in
+          all-passed full (rw (refusals-in-house value h house lent) (rw (eq-eqb (length lent) 256 full), (rw in-range, tt))) (sheet-in-house value h house) stored (rw (length-houseField h) (omega arith)) in
           rw (length-houseField h) at passed
 
--- a path in fields is in range where its first two fields are and its places are
-pub line-in-range : (path : Path) → path .form ≡ Form.Fields
-    → lineInRange (standsFor path) ≡ both (both (declarationInRange (path .declaration)) (inRange wantedDelayRange (path .wanted .0))) (placesInRange (take (path .count) (path .places)))
-unfolding inFull lineInRange
-line-in-range path fields = ap lineInRange (stands-in-fields path fields) ∙ sym (both-assoc (declarationInRange (path .declaration)) (inRange wantedDelayRange (path .wanted .0)) (placesInRange (take (path .count) (path .places))))
+-- a path in fields is in range where its first two fields are and its operators are
+pub path-in-range : (value : PathValue) → value .form ≡ Form.Fields
+    → pathInRange (standsFor value) ≡ both (both (declarationInRange (value .declaration)) (inRange wantedDelayRange (value .wanted .0))) (operatorsInRange (take (value .count) (value .operators)))
+unfolding inFull pathInRange
+path-in-range value fields = ap pathInRange (stands-in-fields value fields) ∙ sym (both-assoc (declarationInRange (value .declaration)) (inRange wantedDelayRange (value .wanted .0)) (operatorsInRange (take (value .count) (value .operators))))
 
 -- the first two fields have 17 bytes
-pub length-sheet : (line : Line) → length (sheetOf line) ≡ 17 + length (placeFields (line .places))
+pub length-sheet : (path : Path) → length (sheetOf path) ≡ 17 + length (operatorFields (path .operators))
 unfolding sheetOf fieldOf declarationBody wantedBody bytesOf
-length-sheet line = omega arith
+length-sheet path = omega arith

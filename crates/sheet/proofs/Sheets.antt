@@ -18,23 +18,23 @@ use Rattle.quantity.proofs.Refusals.{NoneStands, none-of-both, none-of-each, fi
 use Rattle.flow.specs.Declarations.{declarationInRange}
 use Rattle.sheet.specs.declared.House.{House}
 use Rattle.sheet.specs.declared.Form.{Form}
-use Rattle.sheet.specs.declared.Path.{Path}
+use Rattle.sheet.specs.declared.PathValue.{PathValue}
 use Rattle.sheet.specs.declared.read.Verdict.{Verdict}
 use Rattle.sheet.specs.declared.read.ReadSheet.{ReadSheet}
 use Rattle.sheet.specs.declared.write.Written.{Written}
-use Rattle.sheet.specs.Paths.{Line}
+use Rattle.sheet.specs.Paths.{Path}
 use Rattle.sheet.specs.Bodies.{declarationIn, wantedIn, declarationBody, wantedBody}
 use Rattle.sheet.specs.House.{houseIn, houseBody, houseInRange}
-use Rattle.sheet.specs.Forms.{inFull, standsFor, valueIn, houseValue, noPath}
-use Rattle.sheet.specs.Fields.{declarationFormat, wantedFormat, placeFormat, houseFormat, fieldOf, bodyAt, fieldCases}
-use Rattle.sheet.specs.Sheets.{fieldsCases, houseCases, inHouseForm, sheetCases, furtherCases, placesFrom, fieldsLine, pathIn, readSheet, placeFields, placesInRange, sheetOf, lineInRange, sheetOfPath, writeCases, writeAnswer, bytesAfter}
+use Rattle.sheet.specs.Forms.{inFull, standsFor, valueOfPath, houseValue, noPath}
+use Rattle.sheet.specs.Fields.{declarationFormat, wantedFormat, operatorFormat, houseFormat, fieldOf, bodyAt, fieldCases}
+use Rattle.sheet.specs.Sheets.{fieldsCases, houseCases, inHouseForm, sheetCases, furtherCases, operatorsFrom, fieldsPath, valueIn, readSheet, operatorFields, operatorsInRange, sheetOf, pathInRange, sheetOfValue, writeCases, writeAnswer, bytesWritten}
 use Rattle.sheet.proofs.Numbers.{AreBytes}
 use Rattle.sheet.proofs.Bodies.{length-declarationBody, declaration-read, declaration-fits, declaration-written, length-wantedBody, wanted-read, wanted-fits, wanted-written}
-use Rattle.sheet.proofs.Forms.{value-full, either-form, stands-in-fields, sheet-in-fields, refusals-in-fields, stands-in-house, sheet-in-house, refusals-in-house, cases-in-house, path-in-house, cases-in-fields, path-in-fields}
+use Rattle.sheet.proofs.Forms.{value-full, either-form, stands-in-fields, sheet-in-fields, refusals-in-fields, stands-in-house, sheet-in-house, refusals-in-house, cases-in-house, value-in-house, cases-in-fields, value-in-fields}
 use Rattle.sheet.proofs.HouseLaws.{length-houseBody, house-read, house-fits, house-written, house-stands}
 use Rattle.sheet.proofs.Fields.{field-read, field-accepted, field-written}
-use Rattle.sheet.proofs.Places.{length-placeFields, further-begun, further-ended, places-read, places-written}
-use Rattle.sheet.proofs.Accepted.{fields-line, profile-inside, never-accepted}
+use Rattle.sheet.proofs.OperatorRows.{length-operatorFields, further-begun, further-ended, operators-read, operators-written}
+use Rattle.sheet.proofs.Accepted.{fields-path, profile-inside, never-accepted}
 
 -- fields 01, 02 and 03
 
@@ -42,45 +42,45 @@ use Rattle.sheet.proofs.Accepted.{fields-line, profile-inside, never-ac
 begun-cases : (sheet : List ℕ) → 17 < length sheet → fieldCases sheet 0 declarationFormat ++ (fieldCases sheet 10 wantedFormat ++ furtherCases 16 17 sheet) ≡ fieldsCases sheet
 begun-cases sheet begun = rw (further-begun sheet 15 17 begun)
 
--- a line as it is written is accepted, and read as it is
-fields-read : (line : Line) → 1 ≤ length (line .places) → length (line .places) ≤ 16 → lineInRange line ≡ true
-    → NoneStands (fieldsCases (sheetOf line)) × (fieldsLine (sheetOf line) ≡ line)
-unfolding lineInRange sheetOf fieldsLine
-fields-read line some few inside =
-    let sheet = sheetOf line in
-    let declared = line .declaration in
-    let wanted = line .wanted in
-    let places = line .places in
-    let fields = placeFields places in
-    let (declared-inside, others) = both-true (declarationInRange declared) (both (inRange wantedDelayRange wanted) (placesInRange places)) inside in
-    let (wanted-in, places-inside) = both-true (inRange wantedDelayRange wanted) (placesInRange places) others in
+-- a path as it is written is accepted, and read as it is
+fields-read : (path : Path) → 1 ≤ length (path .operators) → length (path .operators) ≤ 16 → pathInRange path ≡ true
+    → NoneStands (fieldsCases (sheetOf path)) × (fieldsPath (sheetOf path) ≡ path)
+unfolding pathInRange sheetOf fieldsPath
+fields-read path some few inside =
+    let sheet = sheetOf path in
+    let declared = path .declaration in
+    let wanted = path .wanted in
+    let operators = path .operators in
+    let fields = operatorFields operators in
+    let (declared-inside, others) = both-true (declarationInRange declared) (both (inRange wantedDelayRange wanted) (operatorsInRange operators)) inside in
+    let (wanted-in, operators-inside) = both-true (inRange wantedDelayRange wanted) (operatorsInRange operators) others in
     let first =
     field-read sheet 0 declarationFormat (declarationBody declared) (fieldOf 2 (wantedBody wanted) ++ fields) (omega arith) (length-declarationBody declared)
     (append-assoc (fieldOf 1 (declarationBody declared)) (fieldOf 2 (wantedBody wanted)) fields) (declaration-fits declared declared-inside) in
     let second = field-read sheet 10 wantedFormat (wantedBody wanted) fields (omega arith) (length-wantedBody wanted) (first .behind) (wanted-fits wanted wanted-in) in
     let long = second .long in
-    let third = places-read sheet 16 17 places few (omega arith) (sym (second .behind), places-inside) in
+    let third = operators-read sheet 16 17 operators few (omega arith) (sym (second .behind), operators-inside) in
     let declared-read = ap declarationIn (first .read) ∙ declaration-read declared declared-inside in
     let wanted-read = ap wantedIn (second .read) ∙ wanted-read wanted wanted-in in (
-      subst NoneStands (begun-cases sheet (omega (arith, length-placeFields places)))
+      subst NoneStands (begun-cases sheet (omega (arith, length-operatorFields operators)))
           (none-of-both (fieldCases sheet 0 declarationFormat) (fieldCases sheet 10 wantedFormat ++ furtherCases 16 17 sheet) (first .stands)
           (none-of-both (fieldCases sheet 10 wantedFormat) (furtherCases 16 17 sheet) (second .stands) (third .0))),
-      λ i. record { declaration = declared-read i; wanted = wanted-read i; places = third .1 i },
+      λ i. record { declaration = declared-read i; wanted = wanted-read i; operators = third .1 i },
     )
 
--- and accepted fields are what is written of the line that they are read as
-fields-written : (sheet : List ℕ) → AreBytes sheet → NoneStands (fieldsCases sheet) → sheetOf (fieldsLine sheet) ≡ sheet
-unfolding sheetOf fieldsLine
+-- and accepted fields are what is written of the path that they are read as
+fields-written : (sheet : List ℕ) → AreBytes sheet → NoneStands (fieldsCases sheet) → sheetOf (fieldsPath sheet) ≡ sheet
+unfolding sheetOf fieldsPath
 fields-written sheet each stands =
-    let (first-stands, others) = none-of-each (fieldCases sheet 0 declarationFormat) (fieldCases sheet 10 wantedFormat ++ (fieldCases sheet 17 placeFormat ++ furtherCases 15 26 sheet)) stands in
-    let (second-stands, third-stands) = none-of-each (fieldCases sheet 10 wantedFormat) (fieldCases sheet 17 placeFormat ++ furtherCases 15 26 sheet) others in
+    let (first-stands, others) = none-of-each (fieldCases sheet 0 declarationFormat) (fieldCases sheet 10 wantedFormat ++ (fieldCases sheet 17 operatorFormat ++ furtherCases 15 26 sheet)) stands in
+    let (second-stands, third-stands) = none-of-each (fieldCases sheet 10 wantedFormat) (fieldCases sheet 17 operatorFormat ++ furtherCases 15 26 sheet) others in
     let first = field-accepted sheet 0 declarationFormat first-stands in
     let first-bytes = field-written sheet 0 declarationFormat each first-stands in
     let second = field-accepted sheet 10 wantedFormat second-stands in
     let second-bytes = field-written sheet 10 wantedFormat each second-stands in
-    let third = field-accepted sheet 17 placeFormat (none-of-each (fieldCases sheet 17 placeFormat) (furtherCases 15 26 sheet) third-stands .0) in
+    let third = field-accepted sheet 17 operatorFormat (none-of-each (fieldCases sheet 17 operatorFormat) (furtherCases 15 26 sheet) third-stands .0) in
     let begun : 17 < length sheet = let ends = third .ends in omega arith in
-    let written = places-written sheet 16 17 each (omega arith) (rw (further-begun sheet 15 17 begun) third-stands) in
+    let written = operators-written sheet 16 17 each (omega arith) (rw (further-begun sheet 15 17 begun) third-stands) in
     let declared = declaration-written (bodyAt sheet 0 7) (first .fits) (first-bytes .bytes) (first .size) in
     let wanted = wanted-written (bodyAt sheet 10 4) (second-bytes .bytes) (second .size) in
     rw (declared, wanted, written, append-assoc, second-bytes .written) (first-bytes .written)
@@ -97,106 +97,106 @@ profile-read h inside =
     )
 
 profile-written : (sheet : List ℕ) → AreBytes sheet → NoneStands (houseCases sheet) → fieldOf 0x04 (houseBody (houseIn (bodyAt sheet 0 22))) ≡ sheet
-unfolding placeFields placesFrom
+unfolding operatorFields operatorsFrom
 profile-written sheet each stands =
     let (here, behind) = none-of-each (fieldCases sheet 0 houseFormat) (furtherCases 0 25 sheet) stands in
     let field = field-accepted sheet 0 houseFormat here in
     let bytes = field-written sheet 0 houseFormat each here in
-    let ended : [] ≡ drop 25 sheet = places-written sheet 0 25 each (field .ends) behind in
+    let ended : [] ≡ drop 25 sheet = operators-written sheet 0 25 each (field .ends) behind in
     rw (house-written (bodyAt sheet 0 22) (bytes .bytes) (field .size)) (sym (append-nil (fieldOf 0x04 (bodyAt sheet 0 22))) ∙ rw ended (bytes .written))
 
 -- either form
 
--- a line's sheet does not begin with the tag 04, that of a profile does
-line-form : (line : Line) → inHouseForm (sheetOf line) ≡ false
+-- the sheet of a path written out does not begin with the tag 04, that of a profile does
+path-form : (path : Path) → inHouseForm (sheetOf path) ≡ false
 unfolding inHouseForm sheetOf fieldOf
-line-form line = refl
+path-form path = refl
 
 profile-form : (h : House) → inHouseForm (fieldOf 0x04 (houseBody h)) ≡ true
 unfolding inHouseForm fieldOf
 profile-form h = refl
 
 -- the sheet of a value is accepted, and read as a value of its form that stands for its path
-pub record PathRead (path : Path) (sheet : List ℕ) : Type 0 where
+pub record PathRead (value : PathValue) (sheet : List ℕ) : Type 0 where
   pub stands : NoneStands (sheetCases sheet)
-  pub form : pathIn sheet .form ≡ path .form
-  pub line : standsFor (pathIn sheet) ≡ standsFor path
+  pub form : valueIn sheet .form ≡ value .form
+  pub path : standsFor (valueIn sheet) ≡ standsFor value
 
-module _ (path : Path) (lent : List ℕ) (stands : NoneStands (writeCases path lent)) where
-  read-in-fields : length (path .places) ≡ 16 → path .form ≡ Form.Fields → PathRead path (sheetOfPath path)
-  unfolding inFull valueIn
+module _ (value : PathValue) (lent : List ℕ) (stands : NoneStands (writeCases value lent)) where
+  read-in-fields : length (value .operators) ≡ 16 → value .form ≡ Form.Fields → PathRead value (sheetOfValue value)
+  unfolding inFull valueOfPath
   read-in-fields whole fields =
-      let line = inFull path in
-      let sheet = sheetOf line in
-      let stood = stands-in-fields path fields in
-      let tests = rw (refusals-in-fields path fields lent) at stands in
-      let (full, fits) = either-false (eqb (path .count) 0) (ltb 16 (path .count)) (tests .1 .0) in
-      let few : path .count ≤ 16 = ltb-false 16 (path .count) fits in
-      let some : path .count ≢ 0 = eqb-false (path .count) 0 full in
-      let size = length-take-le (path .count) (path .places) (omega arith) in
-      let (accepted, same) = fields-read line (omega arith) (omega arith) (rw stood at (not-false (lineInRange (standsFor path)) (tests .1 .1 .0))) in
-      let read : pathIn sheet ≡ valueIn Form.Fields line = path-in-fields sheet (line-form line) ∙ ap (valueIn Form.Fields) same in
-      rw (sheet-in-fields path fields, stood)
+      let path = inFull value in
+      let sheet = sheetOf path in
+      let stood = stands-in-fields value fields in
+      let tests = rw (refusals-in-fields value fields lent) at stands in
+      let (full, fits) = either-false (eqb (value .count) 0) (ltb 16 (value .count)) (tests .1 .0) in
+      let few : value .count ≤ 16 = ltb-false 16 (value .count) fits in
+      let some : value .count ≢ 0 = eqb-false (value .count) 0 full in
+      let size = length-take-le (value .count) (value .operators) (omega arith) in
+      let (accepted, same) = fields-read path (omega arith) (omega arith) (rw stood at (not-false (pathInRange (standsFor value)) (tests .1 .1 .0))) in
+      let read : valueIn sheet ≡ valueOfPath Form.Fields path = value-in-fields sheet (path-form path) ∙ ap (valueOfPath Form.Fields) same in
+      rw (sheet-in-fields value fields, stood)
       (record {
-        stands = rw (cases-in-fields sheet (line-form line)) accepted;
-        form = ap (λ (back : Path). back .form) read ∙ sym fields;
-        line = ap standsFor read ∙ stands-in-fields (valueIn Form.Fields line) refl ∙ value-full Form.Fields line (omega arith) ∙ sym stood;
+        stands = rw (cases-in-fields sheet (path-form path)) accepted;
+        form = ap (λ (back : PathValue). back .form) read ∙ sym fields;
+        path = ap standsFor read ∙ stands-in-fields (valueOfPath Form.Fields path) refl ∙ value-full Form.Fields path (omega arith) ∙ sym stood;
       })
 
-  read-in-house : (h : House) → path .form ≡ Form.House h → PathRead path (sheetOfPath path)
+  read-in-house : (h : House) → value .form ≡ Form.House h → PathRead value (sheetOfValue value)
   unfolding houseValue
   read-in-house h house =
       let sheet = fieldOf 0x04 (houseBody h) in
-      let tests = rw (refusals-in-house path h house lent) at stands in
+      let tests = rw (refusals-in-house value h house lent) at stands in
       let (accepted, same) = profile-read h (not-false (houseInRange h) (tests .1 .0)) in
-      let read : pathIn sheet ≡ houseValue h = path-in-house sheet (profile-form h) ∙ ap houseValue same in
-      rw (sheet-in-house path h house)
+      let read : valueIn sheet ≡ houseValue h = value-in-house sheet (profile-form h) ∙ ap houseValue same in
+      rw (sheet-in-house value h house)
       (record {
         stands = rw (cases-in-house sheet (profile-form h)) accepted;
-        form = ap (λ (back : Path). back .form) read ∙ sym house;
-        line = ap standsFor read ∙ house-stands h ∙ sym (stands-in-house path h house);
+        form = ap (λ (back : PathValue). back .form) read ∙ sym house;
+        path = ap standsFor read ∙ house-stands h ∙ sym (stands-in-house value h house);
       })
 
-  pub path-read : length (path .places) ≡ 16 → PathRead path (sheetOfPath path)
-  path-read whole = ⊎-elim (read-in-fields whole) (λ (h, house). read-in-house h house) (either-form (path .form))
+  pub value-read : length (value .operators) ≡ 16 → PathRead value (sheetOfValue value)
+  value-read whole = ⊎-elim (read-in-fields whole) (λ (h, house). read-in-house h house) (either-form (value .form))
 
 -- an accepted sheet is what is written of the value that it is read as, which the writer does not refuse
-pub record SheetWritten (sheet : List ℕ) (path : Path) : Type 0 where
-  pub stands : (lent : List ℕ) → length lent ≡ 256 → NoneStands (writeCases path lent)
-  pub written : AreBytes sheet → sheetOfPath path ≡ sheet
+pub record SheetWritten (sheet : List ℕ) (value : PathValue) : Type 0 where
+  pub stands : (lent : List ℕ) → length lent ≡ 256 → NoneStands (writeCases value lent)
+  pub written : AreBytes sheet → sheetOfValue value ≡ sheet
 
 module _ (sheet : List ℕ) (stands : NoneStands (sheetCases sheet)) where
-  written-in-fields : inHouseForm sheet ≡ false → SheetWritten sheet (pathIn sheet)
-  unfolding valueIn
+  written-in-fields : inHouseForm sheet ≡ false → SheetWritten sheet (valueIn sheet)
+  unfolding valueOfPath
   written-in-fields fields =
-      let line = fieldsLine sheet in
-      let value = valueIn Form.Fields line in
+      let path = fieldsPath sheet in
+      let value = valueOfPath Form.Fields path in
       let accepted = rw (cases-in-fields sheet fields) at stands in
-      let record { some = some; few = few; inside = inside } = fields-line sheet accepted in
-      let stood : standsFor value ≡ line = stands-in-fields value refl ∙ value-full Form.Fields line few in
+      let record { some = some; few = few; inside = inside } = fields-path sheet accepted in
+      let stood : standsFor value ≡ path = stands-in-fields value refl ∙ value-full Form.Fields path few in
       let full : eqb (value .count) 0 ≡ false = ne-eqb (value .count) 0 (omega arith) in
       let fits : ltb 16 (value .count) ≡ false = le-ltb 16 (value .count) few in
-      rw (path-in-fields sheet fields)
+      rw (value-in-fields sheet fields)
       (record {
         stands = λ lent size. rw (refusals-in-fields value refl lent) (rw (eq-eqb _ _ size), (rw (full, fits), (rw (stood, inside), tt)));
         written = λ each. sheet-in-fields value refl ∙ ap sheetOf stood ∙ fields-written sheet each accepted;
       })
 
-  written-in-house : inHouseForm sheet ≡ true → SheetWritten sheet (pathIn sheet)
+  written-in-house : inHouseForm sheet ≡ true → SheetWritten sheet (valueIn sheet)
   unfolding houseValue
   written-in-house house =
       let h = houseIn (bodyAt sheet 0 22) in
       let accepted = rw (cases-in-house sheet house) at stands in
-      rw (path-in-house sheet house)
+      rw (value-in-house sheet house)
       (record {
         stands = λ lent size. rw (refusals-in-house (houseValue h) h refl lent) (rw (eq-eqb _ _ size), (rw (profile-inside sheet accepted), tt));
         written = λ each. sheet-in-house (houseValue h) h refl ∙ profile-written sheet each accepted;
       })
 
-  pub sheet-written : SheetWritten sheet (pathIn sheet)
+  pub sheet-written : SheetWritten sheet (valueIn sheet)
   sheet-written = by-form (inHouseForm sheet) refl
     where
-      by-form : (t : Bool) → inHouseForm sheet ≡ t → SheetWritten sheet (pathIn sheet)
+      by-form : (t : Bool) → inHouseForm sheet ≡ t → SheetWritten sheet (valueIn sheet)
       by-form true house = written-in-house house
       by-form false fields = written-in-fields fields
 
@@ -207,7 +207,7 @@ never-written n why e = let never : _≡_ {A = ℕ} 0 1 = cc in omega arith
 
 module _ (sheet : List ℕ) where
   abbrev read-as : ReadSheet
-  read-as = record { verdict = Verdict.Accepted; path = pathIn sheet }
+  read-as = record { verdict = Verdict.Accepted; path = valueIn sheet }
 
   abbrev refused-for : Refusal → ReadSheet
   refused-for why = record { verdict = Verdict.Refused why; path = noPath }
@@ -218,25 +218,25 @@ module _ (sheet : List ℕ) where
   accepted-stands = none-where-result refused-for read-as (λ (answer : ReadSheet). answer .verdict ≡ Verdict.Accepted) never-accepted (sheetCases sheet)
 
   -- and that is read as the value of the path in it
-  pub standing-read : NoneStands (sheetCases sheet) → readSheet sheet ≡ record { verdict = Verdict.Accepted; path = pathIn sheet }
+  pub standing-read : NoneStands (sheetCases sheet) → readSheet sheet ≡ record { verdict = Verdict.Accepted; path = valueIn sheet }
   unfolding readSheet
   standing-read = firstOf-none refused-for read-as (sheetCases sheet)
 
-module _ (path : Path) (lent : List ℕ) where
+module _ (value : PathValue) (lent : List ℕ) where
   -- a path of which a length is answered is one in which no refusal stands
-  pub written-stands : (n : ℕ) → writeAnswer path lent ≡ Written.Length n → NoneStands (writeCases path lent)
+  pub written-stands : (n : ℕ) → writeAnswer value lent ≡ Written.Length n → NoneStands (writeCases value lent)
   unfolding writeAnswer
-  written-stands n = none-where-result Written.Refused (Written.Length (length (sheetOfPath path))) (λ (written : Written). written ≡ Written.Length n) (never-written n) (writeCases path lent)
+  written-stands n = none-where-result Written.Refused (Written.Length (length (sheetOfValue value))) (λ (written : Written). written ≡ Written.Length n) (never-written n) (writeCases value lent)
 
   -- the writer's answer, and the lent bytes after it, where no refusal stands
-  module _ (stands : NoneStands (writeCases path lent)) where
-    pub standing-answer : writeAnswer path lent ≡ Written.Length (length (sheetOfPath path))
+  module _ (stands : NoneStands (writeCases value lent)) where
+    pub standing-answer : writeAnswer value lent ≡ Written.Length (length (sheetOfValue value))
     unfolding writeAnswer
-    standing-answer = firstOf-none Written.Refused (Written.Length (length (sheetOfPath path))) (writeCases path lent) stands
+    standing-answer = firstOf-none Written.Refused (Written.Length (length (sheetOfValue value))) (writeCases value lent) stands
 
-    pub standing-bytes : take (length (sheetOfPath path)) (bytesAfter path lent) ≡ sheetOfPath path
-    unfolding bytesAfter
+    pub standing-bytes : take (length (sheetOfValue value)) (bytesWritten value lent) ≡ sheetOfValue value
+    unfolding bytesWritten
     standing-bytes =
-        let sheet = sheetOfPath path in
+        let sheet = sheetOfValue value in
         let after = sheet ++ drop (length sheet) lent in
-        ap (take (length sheet)) (firstOf-none (λ (why : Refusal). lent) after (writeCases path lent) stands) ∙ take-append-seam sheet (drop (length sheet) lent)
+        ap (take (length sheet)) (firstOf-none (λ (why : Refusal). lent) after (writeCases value lent) stands) ∙ take-append-seam sheet (drop (length sheet) lent)

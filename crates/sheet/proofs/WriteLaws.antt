@@ -1,4 +1,4 @@
--- What the writer's functions rest on: a number's bytes, and the fields of the places, each where the definition puts it.
+-- What the writer's functions rest on: a number's bytes, and the fields of the operators, each where the definition puts it.
 use mathlib.Core.Path.{_≡_, refl, sym, ap, _∙_}
 use mathlib.Core.Bool.{Bool, true}
 use mathlib.Core.List.{List, [], _∷_, _++_, append-nil, append-assoc}
@@ -9,11 +9,11 @@ use native.Mathlib.Omega.{arith}
 use lib.ListN.{length, getD, set, take, drop, length-append, drop-of-length-le, length-take}
 use lib.Seq.{sets, drop-cons, getD-take, take-suc, length-take-le}
 use Rattle.quantity.specs.Choice.{both}
-use Rattle.sheet.specs.declared.Place.{Place}
+use Rattle.sheet.specs.declared.LinkedOperator.{LinkedOperator}
 use Rattle.sheet.specs.Numbers.{bytesOf}
-use Rattle.sheet.specs.Bodies.{placeBody, placeInRange}
+use Rattle.sheet.specs.Bodies.{operatorBody, operatorInRange}
 use Rattle.sheet.specs.Fields.{fieldOf}
-use Rattle.sheet.specs.Sheets.{placeFields, placesInRange}
+use Rattle.sheet.specs.Sheets.{operatorFields, operatorsInRange}
 use Rattle.sheet.proofs.Runs.{set-before}
 
 -- a number is written from its low byte: one byte more, before those that are written
@@ -30,44 +30,44 @@ number-left k width value left some inside rest =
     let longer : width - (k - 1) ≡ suc (width - k) = omega arith in
     rw (longer, pow-suc, rest) (div-div-eq-div-mul value (256 ^ (width - k)) 256)
 
--- the first `count` places, tested one by one: those from k on are the place at k and those behind it
-pub places-tested : (places : List Place) (count k : ℕ) (d : Place) {tested : Bool} → k < count → count ≤ length places → tested ≡ placeInRange (getD places k d)
-    → placesInRange (drop k (take count places)) ≡ both tested (placesInRange (drop (k + 1) (take count places)))
-unfolding placesInRange
-places-tested places count k d here inside e =
-    let in-part : k < length (take count places) = rw (length-take-le count places inside) here in
-    rw (e, ← getD-take count places k d here, add-one, drop-cons (take count places) k d in-part)
+-- the first `count` operators, tested one by one: those from k on are the operator at k and those behind it
+pub operators-tested : (operators : List LinkedOperator) (count k : ℕ) (d : LinkedOperator) {tested : Bool} → k < count → count ≤ length operators → tested ≡ operatorInRange (getD operators k d)
+    → operatorsInRange (drop k (take count operators)) ≡ both tested (operatorsInRange (drop (k + 1) (take count operators)))
+unfolding operatorsInRange
+operators-tested operators count k d here inside e =
+    let in-part : k < length (take count operators) = rw (length-take-le count operators inside) here in
+    rw (e, ← getD-take count operators k d here, add-one, drop-cons (take count operators) k d in-part)
 
-pub none-left : (places : List Place) (count : ℕ) → count ≤ length places → placesInRange (drop count (take count places)) ≡ true
-unfolding placesInRange
-none-left places count inside = rw (drop-of-length-le (take count places) {i = count} (rw (length-take-le count places inside) (le-refl count)))
+pub none-left : (operators : List LinkedOperator) (count : ℕ) → count ≤ length operators → operatorsInRange (drop count (take count operators)) ≡ true
+unfolding operatorsInRange
+none-left operators count inside = rw (drop-of-length-le (take count operators) {i = count} (rw (length-take-le count operators inside) (le-refl count)))
 
-placeFields-snoc : (places : List Place) (place : Place) → placeFields (places ++ (place ∷ [])) ≡ placeFields places ++ fieldOf 0x03 (placeBody place)
-unfolding placeFields
-placeFields-snoc [] place = append-nil (fieldOf 0x03 (placeBody place))
-placeFields-snoc (first ∷ places) place = rw (placeFields-snoc places place) (sym (append-assoc (fieldOf 0x03 (placeBody first)) (placeFields places) (fieldOf 0x03 (placeBody place))))
+operatorFields-snoc : (operators : List LinkedOperator) (linked : LinkedOperator) → operatorFields (operators ++ (linked ∷ [])) ≡ operatorFields operators ++ fieldOf 0x03 (operatorBody linked)
+unfolding operatorFields
+operatorFields-snoc [] linked = append-nil (fieldOf 0x03 (operatorBody linked))
+operatorFields-snoc (first ∷ operators) linked = rw (operatorFields-snoc operators linked) (sym (append-assoc (fieldOf 0x03 (operatorBody first)) (operatorFields operators) (fieldOf 0x03 (operatorBody linked))))
 
--- the field of the place at k, behind those of the first k
-pub placeFields-next : (places : List Place) (k : ℕ) (d : Place) → k < length places
-    → placeFields (take (k + 1) places) ≡ placeFields (take k places) ++ fieldOf 0x03 (placeBody (getD places k d))
-placeFields-next places k d inside = rw (add-one, take-suc places k d) (placeFields-snoc (take k places) (getD places k d))
+-- the field of the operator at k, behind those of the first k
+pub operatorFields-next : (operators : List LinkedOperator) (k : ℕ) (d : LinkedOperator) → k < length operators
+    → operatorFields (take (k + 1) operators) ≡ operatorFields (take k operators) ++ fieldOf 0x03 (operatorBody (getD operators k d))
+operatorFields-next operators k d inside = rw (add-one, take-suc operators k d) (operatorFields-snoc (take k operators) (getD operators k d))
 
-length-place : (place : Place) → length (fieldOf 0x03 (placeBody place)) ≡ 9
-unfolding fieldOf placeBody bytesOf
-length-place place = refl
+length-linked : (linked : LinkedOperator) → length (fieldOf 0x03 (operatorBody linked)) ≡ 9
+unfolding fieldOf operatorBody bytesOf
+length-linked linked = refl
 
--- a place's field has 9 bytes
-pub length-placeFields : (places : List Place) → length (placeFields places) ≡ 9 * length places
-unfolding placeFields
-length-placeFields [] = refl
-length-placeFields (place ∷ places) =
-    let rest = length-placeFields places in
-    rw (length-append, length-place) (omega arith)
+-- an operator's field has 9 bytes
+pub length-operatorFields : (operators : List LinkedOperator) → length (operatorFields operators) ≡ 9 * length operators
+unfolding operatorFields
+length-operatorFields [] = refl
+length-operatorFields (linked ∷ operators) =
+    let rest = length-operatorFields operators in
+    rw (length-append, length-linked) (omega arith)
 
-pub length-placeFields-take : (places : List Place) (k : ℕ) → k ≤ length places → length (placeFields (take k places)) ≡ 9 * k
-length-placeFields-take places k inside = length-placeFields (take k places) ∙ ap (λ (n : ℕ). 9 * n) (length-take-le k places inside)
+pub length-operatorFields-take : (operators : List LinkedOperator) (k : ℕ) → k ≤ length operators → length (operatorFields (take k operators)) ≡ 9 * k
+length-operatorFields-take operators k inside = length-operatorFields (take k operators) ∙ ap (λ (n : ℕ). 9 * n) (length-take-le k operators inside)
 
-pub length-placeFields-most : (places : List Place) (k : ℕ) → length (placeFields (take k places)) ≤ 9 * k
-length-placeFields-most places k =
-    let few : length (take k places) ≤ k = rw length-take (min-le-left k (length places)) in
-    omega (arith, length-placeFields (take k places))
+pub length-operatorFields-most : (operators : List LinkedOperator) (k : ℕ) → length (operatorFields (take k operators)) ≤ 9 * k
+length-operatorFields-most operators k =
+    let few : length (take k operators) ≤ k = rw length-take (min-le-left k (length operators)) in
+    omega (arith, length-operatorFields (take k operators))

@@ -11,8 +11,8 @@ use Rattle.flow.specs.Declarations.{declarationInRange}
 use Rattle.flow.specs.declared.Kind.{Kind}
 use Rattle.flow.specs.declared.Declaration.{Declaration}
 use Rattle.operator.specs.declared.Operator.{Operator}
-use Rattle.sheet.specs.declared.Place.{Place}
-use Rattle.sheet.specs.Numbers.{numberOf, bytesOf}
+use Rattle.sheet.specs.declared.LinkedOperator.{LinkedOperator}
+use Rattle.sheet.specs.Numbers.{valueOfBytes, bytesOf}
 
 -- so many bytes from a byte on
 unfoldable pub part : ℕ → ℕ → List ℕ → List ℕ
@@ -21,7 +21,7 @@ part at width bytes = take width (drop at bytes)
 -- 01, 7 bytes: kind (0 smooth, 1 uniform), m in 2, Q in 4
 unfoldable pub declarationIn : List ℕ → Declaration
 declarationIn body =
-    record { kind = pick (eqb (getD body 0 0) 0) Kind.Smooth Kind.Uniform; interval = record { 0 = numberOf (part 1 2 body) }; quota = record { 0 = numberOf (part 3 4 body) } }
+    record { kind = pick (eqb (getD body 0 0) 0) Kind.Smooth Kind.Uniform; interval = record { 0 = valueOfBytes (part 1 2 body) }; quota = record { 0 = valueOfBytes (part 3 4 body) } }
 
 unfoldable pub declarationFits : List ℕ → Bool
 declarationFits body = both (leb (getD body 0 0) 1) (declarationInRange (declarationIn body))
@@ -36,7 +36,7 @@ declarationBody declared = kindByte (declared .kind) ∷ bytesOf 2 (declared .in
 
 -- 02, 4 bytes: delay wanted
 unfoldable pub wantedIn : List ℕ → ℕ
-wantedIn body = numberOf (part 0 4 body)
+wantedIn body = valueOfBytes (part 0 4 body)
 
 unfoldable pub wantedFits : List ℕ → Bool
 wantedFits body = inRange wantedDelayRange (wantedIn body)
@@ -52,14 +52,14 @@ operatorOf kind number =
     (pick (eqb kind 2) (expander number)
     (pick (eqb kind 3) (filter number) (delayer number))))
 
-unfoldable pub placeIn : List ℕ → Place
-placeIn body = record { operator = operatorOf (getD body 0 0) (numberOf (part 2 4 body)); link = record { 0 = getD body 1 0 } }
+unfoldable pub operatorIn : List ℕ → LinkedOperator
+operatorIn body = record { operator = operatorOf (getD body 0 0) (valueOfBytes (part 2 4 body)); link = record { 0 = getD body 1 0 } }
 
-unfoldable pub placeInRange : Place → Bool
-placeInRange place = both (numberInRange (place .operator)) (inRange linkRange (place .link .0))
+unfoldable pub operatorInRange : LinkedOperator → Bool
+operatorInRange linked = both (numberInRange (linked .operator)) (inRange linkRange (linked .link .0))
 
-unfoldable pub placeFits : List ℕ → Bool
-placeFits body = both (leb (getD body 0 0) 4) (placeInRange (placeIn body))
+unfoldable pub operatorFits : List ℕ → Bool
+operatorFits body = both (leb (getD body 0 0) 4) (operatorInRange (operatorIn body))
 
 unfoldable pub operatorByte : Operator → ℕ
 operatorByte (Operator.Limiter R) = 0
@@ -75,5 +75,5 @@ operatorNumber (Operator.Expander m) = m .0
 operatorNumber (Operator.Filter R) = R .0
 operatorNumber (Operator.Delayer d) = d .0
 
-unfoldable pub placeBody : Place → List ℕ
-placeBody place = operatorByte (place .operator) ∷ place .link .0 ∷ bytesOf 4 (operatorNumber (place .operator))
+unfoldable pub operatorBody : LinkedOperator → List ℕ
+operatorBody linked = operatorByte (linked .operator) ∷ linked .link .0 ∷ bytesOf 4 (operatorNumber (linked .operator))

@@ -7,8 +7,8 @@ use lib.Dec.{leb, ltb, eqb}
 use Rattle.quantity.specs.Choice.{both}
 use Rattle.quantity.specs.Refusals.{Case, _⇒_}
 use Rattle.quantity.specs.declared.refusal.Refusal.the-variants.{HeaderCutOff, FieldUnexpected, BodyCutOff, OutOfRange}
-use Rattle.sheet.specs.Numbers.{numberOf, bytesOf}
-use Rattle.sheet.specs.Bodies.{part, declarationFits, wantedFits, placeFits}
+use Rattle.sheet.specs.Numbers.{valueOfBytes, bytesOf}
+use Rattle.sheet.specs.Bodies.{part, declarationFits, wantedFits, operatorFits}
 use Rattle.sheet.specs.House.{houseFits}
 
 -- a field's tag, its body's length, and whether a body's kind and numbers are in their ranges
@@ -23,8 +23,8 @@ declarationFormat = record { tag = 0x01; width = 7; fits = declarationFits }
 abbrev pub wantedFormat : Format
 wantedFormat = record { tag = 0x02; width = 4; fits = wantedFits }
 
-abbrev pub placeFormat : Format
-placeFormat = record { tag = 0x03; width = 6; fits = placeFits }
+abbrev pub operatorFormat : Format
+operatorFormat = record { tag = 0x03; width = 6; fits = operatorFits }
 
 abbrev pub houseFormat : Format
 houseFormat = record { tag = 0x04; width = 22; fits = houseFits }
@@ -47,7 +47,7 @@ headerCutOff sheet at = ltb (length sheet) (at + 3)
 
 -- 3: the field is not the one that is due here, or of another length
 unfoldable pub fieldUnexpected : List ℕ → ℕ → Format → Bool
-fieldUnexpected sheet at due = not (both (eqb (getD sheet at 0) (due .tag)) (eqb (numberOf (part (at + 1) 2 sheet)) (due .width)))
+fieldUnexpected sheet at due = not (both (eqb (getD sheet at 0) (due .tag)) (eqb (valueOfBytes (part (at + 1) 2 sheet)) (due .width)))
 
 -- 4: the body is cut off
 unfoldable pub bodyCutOff : List ℕ → ℕ → Format → Bool

@@ -4,39 +4,39 @@ use lib.ListN.{length, take, replicate}
 use Rattle.flow.specs.declared.Kind.{Kind}
 use Rattle.sheet.specs.declared.House.{House}
 use Rattle.sheet.specs.declared.Form.{Form}
-use Rattle.sheet.specs.declared.Path.{Path}
-use Rattle.sheet.specs.Paths.{Line, noPlace}
-use Rattle.sheet.specs.House.{houseLine}
+use Rattle.sheet.specs.declared.PathValue.{PathValue}
+use Rattle.sheet.specs.Paths.{Path, noLinkedOperator}
+use Rattle.sheet.specs.House.{housePath}
 
 -- the path that a value has written out: its declaration, its delay wanted and its first `count` operators
-unfoldable pub inFull : Path → Line
-inFull p = record { declaration = p .declaration; wanted = p .wanted .0; places = take (p .count) (p .places) }
+unfoldable pub inFull : PathValue → Path
+inFull p = record { declaration = p .declaration; wanted = p .wanted .0; operators = take (p .count) (p .operators) }
 
-standsIn : Form → Line → Line
-standsIn Form.Fields line = line
-standsIn (Form.House h) line = houseLine h
+standsIn : Form → Path → Path
+standsIn Form.Fields path = path
+standsIn (Form.House h) path = housePath h
 
 -- the path that a value stands for: in the house form that of the nine numbers, whatever else it has
-unfoldable pub standsFor : Path → Line
+unfoldable pub standsFor : PathValue → Path
 unfolding standsIn
 standsFor p = standsIn (p .form) (inFull p)
 
--- the value of a path of at most sixteen operators in a form: the places behind them are empty
-unfoldable pub valueIn : Form → Line → Path
-valueIn form line =
+-- the value of a path of at most sixteen operators in a form: the operators behind them are empty
+unfoldable pub valueOfPath : Form → Path → PathValue
+valueOfPath form path =
     record {
       form = form;
-      declaration = line .declaration;
-      wanted = record { 0 = line .wanted };
-      count = length (line .places);
-      places = take 16 (line .places ++ replicate 16 noPlace);
+      declaration = path .declaration;
+      wanted = record { 0 = path .wanted };
+      count = length (path .operators);
+      operators = take 16 (path .operators ++ replicate 16 noLinkedOperator);
     }
 
 -- the value of a house profile: the nine numbers, and the path that they stand for written out
-unfoldable pub houseValue : House → Path
-unfolding valueIn
-houseValue h = valueIn (Form.House h) (houseLine h)
+unfoldable pub houseValue : House → PathValue
+unfolding valueOfPath
+houseValue h = valueOfPath (Form.House h) (housePath h)
 
 -- the path handed back beside a refusal
-abbrev pub noPath : Path
-noPath = record { form = Form.Fields; declaration = record { kind = Kind.Smooth; interval = record { 0 = 0 }; quota = record { 0 = 0 } }; wanted = record { 0 = 0 }; count = 0; places = replicate 16 noPlace }
+abbrev pub noPath : PathValue
+noPath = record { form = Form.Fields; declaration = record { kind = Kind.Smooth; interval = record { 0 = 0 }; quota = record { 0 = 0 } }; wanted = record { 0 = 0 }; count = 0; operators = replicate 16 noLinkedOperator }

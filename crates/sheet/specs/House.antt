@@ -11,11 +11,11 @@ use Rattle.quantity.specs.Ranges.{inRange, hopsRange, wantedDelayRange, interva
 use Rattle.operator.specs.Operators.{limiter, compactor, expander, filter, delayer}
 use Rattle.flow.specs.declared.Kind.{Kind}
 use Rattle.operator.specs.declared.Operator.{Operator}
-use Rattle.sheet.specs.declared.Place.{Place}
+use Rattle.sheet.specs.declared.LinkedOperator.{LinkedOperator}
 use Rattle.sheet.specs.declared.House.{House}
-use Rattle.sheet.specs.Numbers.{numberOf, bytesOf}
+use Rattle.sheet.specs.Numbers.{valueOfBytes, bytesOf}
 use Rattle.sheet.specs.Bodies.{part}
-use Rattle.sheet.specs.Paths.{Line}
+use Rattle.sheet.specs.Paths.{Path}
 
 -- 04, 22 bytes: profile in 1, hops in 1, delay wanted in 4, m in 2, Q in 4, R in 4, own longest packet L in 2, longest packet of all X in 2, link rate C in 2
 unfoldable pub houseIn : List ℕ → House
@@ -23,13 +23,13 @@ houseIn body =
     record {
       profile = getD body 0 0;
       hops = record { 0 = getD body 1 0 };
-      wanted = record { 0 = numberOf (part 2 4 body) };
-      interval = record { 0 = numberOf (part 6 2 body) };
-      quota = record { 0 = numberOf (part 8 4 body) };
-      rate = record { 0 = numberOf (part 12 4 body) };
-      own = record { 0 = numberOf (part 16 2 body) };
-      longest = record { 0 = numberOf (part 18 2 body) };
-      carrying = record { 0 = numberOf (part 20 2 body) };
+      wanted = record { 0 = valueOfBytes (part 2 4 body) };
+      interval = record { 0 = valueOfBytes (part 6 2 body) };
+      quota = record { 0 = valueOfBytes (part 8 4 body) };
+      rate = record { 0 = valueOfBytes (part 12 4 body) };
+      «own_packet» = record { 0 = valueOfBytes (part 16 2 body) };
+      «longest_packet» = record { 0 = valueOfBytes (part 18 2 body) };
+      «link_rate» = record { 0 = valueOfBytes (part 20 2 body) };
     }
 
 unfoldable pub houseBody : House → List ℕ
@@ -40,13 +40,13 @@ houseBody h =
     ++ bytesOf 2 (h .interval .0)
     ++ bytesOf 4 (h .quota .0)
     ++ bytesOf 4 (h .rate .0)
-    ++ bytesOf 2 (h .own .0)
-    ++ bytesOf 2 (h .longest .0)
-    ++ bytesOf 2 (h .carrying .0)
+    ++ bytesOf 2 (h .«own_packet» .0)
+    ++ bytesOf 2 (h .«longest_packet» .0)
+    ++ bytesOf 2 (h .«link_rate» .0)
 
 -- the slots of profile 2's delayers: ⌈(L·C + X·R)/(R·C)⌉
 unfoldable pub delayerSlots : House → ℕ
-delayerSlots h = roundUp (h .own .0 * h .carrying .0 + h .longest .0 * h .rate .0) (h .rate .0 * h .carrying .0)
+delayerSlots h = roundUp (h .«own_packet» .0 * h .«link_rate» .0 + h .«longest_packet» .0 * h .rate .0) (h .rate .0 * h .«link_rate» .0)
 
 -- by the profile, 0, 1 or 2
 abbrev pub byProfile : {A : Type 0} → House → A → A → A → A
@@ -54,11 +54,11 @@ byProfile h first second third = pick (eqb (h .profile) 0) first (pick (eqb (h .
 
 -- L, X and C are not used
 unfoldable pub packetsUnused : House → Bool
-packetsUnused h = both (eqb (h .own .0) 0) (both (eqb (h .longest .0) 0) (eqb (h .carrying .0) 0))
+packetsUnused h = both (eqb (h .«own_packet» .0) 0) (both (eqb (h .«longest_packet» .0) 0) (eqb (h .«link_rate» .0) 0))
 
 -- L, X and C are at least 1, and the delayer has at most 64 slots
 unfoldable pub packetsInRange : House → Bool
-packetsInRange h = both (inRange packetRange (h .own .0)) (both (inRange packetRange (h .longest .0)) (both (inRange rateRange (h .carrying .0)) (inRange delayRange (delayerSlots h))))
+packetsInRange h = both (inRange packetRange (h .«own_packet» .0)) (both (inRange packetRange (h .«longest_packet» .0)) (both (inRange rateRange (h .«link_rate» .0)) (inRange delayRange (delayerSlots h))))
 
 -- the numbers that a profile uses are in their ranges, the others are 0
 unfoldable pub profileInRange : House → Bool
@@ -94,16 +94,16 @@ hopOperator h i =
     (pick (eqb i 0) (filter (h .rate .0)) (delayer (delayerSlots h)))
 
 -- operator k: hop j, counted from 0, is on link j
-unfoldable pub housePlace : House → ℕ → Place
+unfoldable pub houseOperator : House → ℕ → LinkedOperator
 unfolding hopLength hopOperator
-housePlace h k = record { operator = hopOperator h (k % hopLength h); link = record { 0 = k / hopLength h } }
+houseOperator h k = record { operator = hopOperator h (k % hopLength h); link = record { 0 = k / hopLength h } }
 
 -- the path that the numbers stand for: smooth (m, Q), and the operators hop by hop
-unfoldable pub houseLine : House → Line
-unfolding housePlace
-houseLine h =
+unfoldable pub housePath : House → Path
+unfolding houseOperator
+housePath h =
     record {
       declaration = record { kind = Kind.Smooth; interval = h .interval; quota = h .quota };
       wanted = h .wanted .0;
-      places = listOf (housePlace h) (h .hops .0 * hopLength h);
+      operators = listOf (houseOperator h) (h .hops .0 * hopLength h);
     }

@@ -4,9 +4,9 @@ use mathlib.Core.List.{List, [], _∷_}
 use lib.ListN.{length}
 
 -- the number that a list of bytes stands for
-unfoldable pub numberOf : List ℕ → ℕ
-numberOf [] = 0
-numberOf (byte ∷ bytes) = byte * 256 ^ length bytes + numberOf bytes
+unfoldable pub valueOfBytes : List ℕ → ℕ
+valueOfBytes [] = 0
+valueOfBytes (byte ∷ bytes) = byte * 256 ^ length bytes + valueOfBytes bytes
 
 -- a number in so many bytes
 unfoldable pub bytesOf : ℕ → ℕ → List ℕ

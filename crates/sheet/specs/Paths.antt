@@ -4,17 +4,17 @@ use mathlib.Core.List.{List}
 use lib.ListN.{getD}
 use Rattle.operator.specs.declared.Operator.{Operator}
 use Rattle.flow.specs.declared.Declaration.{Declaration}
-use Rattle.sheet.specs.declared.Place.{Place}
+use Rattle.sheet.specs.declared.LinkedOperator.{LinkedOperator}
 
-pub record Line : Type 0 where
+pub record Path : Type 0 where
   pub declaration : Declaration
   pub wanted : ℕ
-  pub places : List Place
+  pub operators : List LinkedOperator
 
--- a place that no operator has
-abbrev pub noPlace : Place
-noPlace = record { operator = Operator.Limiter (record { 0 = 0 }); link = record { 0 = 0 } }
+-- what stands behind the last operator of a path value
+abbrev pub noLinkedOperator : LinkedOperator
+noLinkedOperator = record { operator = Operator.Limiter (record { 0 = 0 }); link = record { 0 = 0 } }
 
 -- the link of operator k
-abbrev pub linkAt : Line → ℕ → ℕ
-linkAt line k = getD (line .places) k noPlace .link .0
+abbrev pub linkAt : Path → ℕ → ℕ
+linkAt path k = getD (path .operators) k noLinkedOperator .link .0

@@ -9,18 +9,18 @@ use Rattle.quantity.specs.Ranges.{inRange, wantedDelayRange}
 use Rattle.quantity.specs.Refusals.{Case, _⇒_, firstOf}
 use Rattle.quantity.specs.declared.refusal.Refusal.the-variants.{Unusable, HeaderCutOff, FieldUnexpected, OutOfRange}
 use Rattle.flow.specs.Declarations.{declarationInRange}
-use Rattle.sheet.specs.declared.Place.{Place}
-use Rattle.sheet.specs.declared.Path.{Path}
+use Rattle.sheet.specs.declared.LinkedOperator.{LinkedOperator}
+use Rattle.sheet.specs.declared.PathValue.{PathValue}
 use Rattle.sheet.specs.declared.read.Verdict.{Verdict}
 use Rattle.sheet.specs.declared.read.ReadSheet.{ReadSheet}
 use Rattle.sheet.specs.declared.write.Written.{Written}
 use Rattle.sheet.specs.declared.House.{House}
 use Rattle.sheet.specs.declared.Form.{Form}
-use Rattle.sheet.specs.Paths.{Line}
+use Rattle.sheet.specs.Paths.{Path}
 use Rattle.sheet.specs.House.{houseIn, houseBody, houseInRange}
-use Rattle.sheet.specs.Forms.{standsFor, valueIn, houseValue, noPath}
-use Rattle.sheet.specs.Bodies.{declarationIn, wantedIn, placeIn, placeInRange, declarationBody, wantedBody, placeBody}
-use Rattle.sheet.specs.Fields.{declarationFormat, wantedFormat, placeFormat, houseFormat, fieldOf, bodyAt, headerCutOff, fieldCases}
+use Rattle.sheet.specs.Forms.{standsFor, valueOfPath, houseValue, noPath}
+use Rattle.sheet.specs.Bodies.{declarationIn, wantedIn, operatorIn, operatorInRange, declarationBody, wantedBody, operatorBody}
+use Rattle.sheet.specs.Fields.{declarationFormat, wantedFormat, operatorFormat, houseFormat, fieldOf, bodyAt, headerCutOff, fieldCases}
 
 -- where the fields begin: 01 at the sheet's start, 02 behind its 10 bytes, the first 03 behind 7 more, each next one 9 bytes on
 abbrev pub declarationAt : ℕ
@@ -29,24 +29,24 @@ declarationAt = 0
 abbrev pub wantedAt : ℕ
 wantedAt = 10
 
-abbrev pub placesAt : ℕ
-placesAt = 17
+abbrev pub operatorsAt : ℕ
+operatorsAt = 17
 
-abbrev pub placeLength : ℕ
-placeLength = 9
+abbrev pub operatorLength : ℕ
+operatorLength = 9
 
 -- the operators behind the first, so many more at the most: either the sheet ends, or one more field begins
 unfoldable pub furtherCases : ℕ → ℕ → List ℕ → List Case
 furtherCases zero at sheet = pick (eqb at (length sheet)) [] ((headerCutOff sheet at ⇒ HeaderCutOff at) ∷ (true ⇒ FieldUnexpected at) ∷ [])
-furtherCases (suc more) at sheet = pick (eqb at (length sheet)) [] (fieldCases sheet at placeFormat ++ furtherCases more (at + placeLength) sheet)
+furtherCases (suc more) at sheet = pick (eqb at (length sheet)) [] (fieldCases sheet at operatorFormat ++ furtherCases more (at + operatorLength) sheet)
 
 -- fields 01 and 02, and the operators
 abbrev pub fieldsCases : List ℕ → List Case
 fieldsCases sheet =
     fieldCases sheet declarationAt declarationFormat
     ++ fieldCases sheet wantedAt wantedFormat
-    ++ fieldCases sheet placesAt placeFormat
-    ++ furtherCases 15 (placesAt + placeLength) sheet
+    ++ fieldCases sheet operatorsAt operatorFormat
+    ++ furtherCases 15 (operatorsAt + operatorLength) sheet
 
 -- one field 04 begins at the sheet's start and is 25 bytes long; what begins behind it is refused as behind the sixteenth operator
 abbrev pub houseAt : ℕ
@@ -67,26 +67,26 @@ unfoldable pub sheetCases : List ℕ → List Case
 sheetCases sheet = pick (inHouseForm sheet) (houseCases sheet) (fieldsCases sheet)
 
 -- the operators of a sheet from a byte on, so many at the most
-unfoldable pub placesFrom : ℕ → ℕ → List ℕ → List Place
-placesFrom zero at sheet = []
-placesFrom (suc more) at sheet = pick (leb (length sheet) at) [] (placeIn (bodyAt sheet at (placeFormat .width)) ∷ placesFrom more (at + placeLength) sheet)
+unfoldable pub operatorsFrom : ℕ → ℕ → List ℕ → List LinkedOperator
+operatorsFrom zero at sheet = []
+operatorsFrom (suc more) at sheet = pick (leb (length sheet) at) [] (operatorIn (bodyAt sheet at (operatorFormat .width)) ∷ operatorsFrom more (at + operatorLength) sheet)
 
 -- the path of a sheet of fields 01, 02 and 03 that is not refused
-unfoldable pub fieldsLine : List ℕ → Line
-fieldsLine sheet =
+unfoldable pub fieldsPath : List ℕ → Path
+fieldsPath sheet =
     record {
       declaration = declarationIn (bodyAt sheet declarationAt (declarationFormat .width));
       wanted = wantedIn (bodyAt sheet wantedAt (wantedFormat .width));
-      places = placesFrom 16 placesAt sheet;
+      operators = operatorsFrom 16 operatorsAt sheet;
     }
 
 -- the value of the path of a sheet that is not refused
-unfoldable pub pathIn : List ℕ → Path
-pathIn sheet = pick (inHouseForm sheet) (houseValue (houseIn (bodyAt sheet houseAt (houseFormat .width)))) (valueIn Form.Fields (fieldsLine sheet))
+unfoldable pub valueIn : List ℕ → PathValue
+valueIn sheet = pick (inHouseForm sheet) (houseValue (houseIn (bodyAt sheet houseAt (houseFormat .width)))) (valueOfPath Form.Fields (fieldsPath sheet))
 
 -- the path that a sheet counts as: all that is above the sheet goes by it, and asks for no form
-unfoldable pub lineIn : List ℕ → Line
-lineIn sheet = standsFor (pathIn sheet)
+unfoldable pub pathIn : List ℕ → Path
+pathIn sheet = standsFor (valueIn sheet)
 
 unfoldable pub refusedRead : Rattle.quantity.specs.declared.refusal.Refusal.Refusal → ReadSheet
 refusedRead why = record { verdict = Verdict.Refused why; path = noPath }
@@ -94,7 +94,7 @@ refusedRead why = record { verdict = Verdict.Refused why; path = noPath }
 -- what reading a sheet of fields 01, 02 and 03 answers, and one of a field 04
 unfoldable pub readFields : List ℕ → ReadSheet
 unfolding refusedRead
-readFields sheet = firstOf (fieldsCases sheet) refusedRead (record { verdict = Verdict.Accepted; path = valueIn Form.Fields (fieldsLine sheet) })
+readFields sheet = firstOf (fieldsCases sheet) refusedRead (record { verdict = Verdict.Accepted; path = valueOfPath Form.Fields (fieldsPath sheet) })
 
 unfoldable pub readHouse : List ℕ → ReadSheet
 unfolding refusedRead
@@ -103,59 +103,59 @@ readHouse sheet = firstOf (houseCases sheet) refusedRead (record { verdict = Ver
 -- what reading answers
 unfoldable pub readSheet : List ℕ → ReadSheet
 unfolding refusedRead
-readSheet sheet = firstOf (sheetCases sheet) refusedRead (record { verdict = Verdict.Accepted; path = pathIn sheet })
+readSheet sheet = firstOf (sheetCases sheet) refusedRead (record { verdict = Verdict.Accepted; path = valueIn sheet })
 
-unfoldable pub placeFields : List Place → List ℕ
-placeFields [] = []
-placeFields (place ∷ places) = fieldOf (placeFormat .tag) (placeBody place) ++ placeFields places
+unfoldable pub operatorFields : List LinkedOperator → List ℕ
+operatorFields [] = []
+operatorFields (linked ∷ operators) = fieldOf (operatorFormat .tag) (operatorBody linked) ++ operatorFields operators
 
 -- the sheet of a path
-unfoldable pub sheetOf : Line → List ℕ
-unfolding placeFields
-sheetOf line =
-    fieldOf (declarationFormat .tag) (declarationBody (line .declaration))
-    ++ fieldOf (wantedFormat .tag) (wantedBody (line .wanted))
-    ++ placeFields (line .places)
+unfoldable pub sheetOf : Path → List ℕ
+unfolding operatorFields
+sheetOf path =
+    fieldOf (declarationFormat .tag) (declarationBody (path .declaration))
+    ++ fieldOf (wantedFormat .tag) (wantedBody (path .wanted))
+    ++ operatorFields (path .operators)
 
-unfoldable pub placesInRange : List Place → Bool
-placesInRange [] = true
-placesInRange (place ∷ places) = both (placeInRange place) (placesInRange places)
+unfoldable pub operatorsInRange : List LinkedOperator → Bool
+operatorsInRange [] = true
+operatorsInRange (linked ∷ operators) = both (operatorInRange linked) (operatorsInRange operators)
 
 -- every number of the path is in its range
-unfoldable pub lineInRange : Line → Bool
-unfolding placesInRange
-lineInRange line = both (declarationInRange (line .declaration)) (both (inRange wantedDelayRange (line .wanted)) (placesInRange (line .places)))
+unfoldable pub pathInRange : Path → Bool
+unfolding operatorsInRange
+pathInRange path = both (declarationInRange (path .declaration)) (both (inRange wantedDelayRange (path .wanted)) (operatorsInRange (path .operators)))
 
 -- the sheet of a path value: in the house form the field of its nine numbers
-sheetIn : Form → Line → List ℕ
-sheetIn Form.Fields line = sheetOf line
-sheetIn (Form.House h) line = fieldOf (houseFormat .tag) (houseBody h)
+sheetIn : Form → Path → List ℕ
+sheetIn Form.Fields path = sheetOf path
+sheetIn (Form.House h) path = fieldOf (houseFormat .tag) (houseBody h)
 
-unfoldable pub sheetOfPath : Path → List ℕ
+unfoldable pub sheetOfValue : PathValue → List ℕ
 unfolding sheetIn
-sheetOfPath path = sheetIn (path .form) (standsFor path)
+sheetOfValue value = sheetIn (value .form) (standsFor value)
 
 -- 3: a path written out has 0 or over 16 operators; 5: a number is out of its range
-formCases : Form → Path → List Case
-formCases Form.Fields path =
-    (either (eqb (path .count) 0) (ltb 16 (path .count)) ⇒ FieldUnexpected 0)
-    ∷ (not (lineInRange (standsFor path)) ⇒ OutOfRange 0)
+formCases : Form → PathValue → List Case
+formCases Form.Fields value =
+    (either (eqb (value .count) 0) (ltb 16 (value .count)) ⇒ FieldUnexpected 0)
+    ∷ (not (pathInRange (standsFor value)) ⇒ OutOfRange 0)
     ∷ []
-formCases (Form.House h) path = (not (houseInRange h) ⇒ OutOfRange 0) ∷ []
+formCases (Form.House h) value = (not (houseInRange h) ⇒ OutOfRange 0) ∷ []
 
 -- 1: the writer is not lent 256 bytes; then what its form is refused for
-unfoldable pub writeCases : Path → List ℕ → List Case
+unfoldable pub writeCases : PathValue → List ℕ → List Case
 unfolding formCases
-writeCases path lent = (not (eqb (length lent) 256) ⇒ Unusable) ∷ formCases (path .form) path
+writeCases value lent = (not (eqb (length lent) 256) ⇒ Unusable) ∷ formCases (value .form) value
 
 -- what writing answers
-unfoldable pub writeAnswer : Path → List ℕ → Written
-writeAnswer path lent = firstOf (writeCases path lent) Written.Refused (Written.Length (length (sheetOfPath path)))
+unfoldable pub writeAnswer : PathValue → List ℕ → Written
+writeAnswer value lent = firstOf (writeCases value lent) Written.Refused (Written.Length (length (sheetOfValue value)))
 
 unfoldable pub behindSheet : List ℕ → List ℕ → List ℕ
 behindSheet sheet lent = sheet ++ drop (length sheet) lent
 
 -- what the lent bytes hold then: the sheet, and behind it what they held; all that they held where it is refused
-unfoldable pub bytesAfter : Path → List ℕ → List ℕ
+unfoldable pub bytesWritten : PathValue → List ℕ → List ℕ
 unfolding behindSheet
-bytesAfter path lent = firstOf (writeCases path lent) (λ why. lent) (behindSheet (sheetOfPath path) lent)
+bytesWritten value lent = firstOf (writeCases value lent) (λ why. lent) (behindSheet (sheetOfValue value) lent)

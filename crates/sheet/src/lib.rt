@@ -12,9 +12,9 @@ use quantity::Rate;
 use quantity::WantedDelay;
 ghost use mathlib.Core.Path.{_≡_};
 ghost use Rattle.operator.specs.Operators.{numberInRange};
-ghost use Rattle.sheet.specs.Bodies.{placeInRange};
+ghost use Rattle.sheet.specs.Bodies.{operatorInRange};
 ghost use Rattle.sheet.specs.House.{houseInRange};
-ghost use Rattle.sheet.specs.Paths.{noPlace};
+ghost use Rattle.sheet.specs.Paths.{noLinkedOperator};
 ghost use Rattle.sheet.specs.Forms.{noPath};
 
 mod profile;
@@ -36,11 +36,11 @@ const WANTED_TAG: u8 = 0x02;
 
 const WANTED_WIDTH: usize = 4;
 
-const PLACES_AT: usize = 17;
+const OPERATORS_AT: usize = 17;
 
-const PLACE_TAG: u8 = 0x03;
+const OPERATOR_TAG: u8 = 0x03;
 
-const PLACE_WIDTH: usize = 6;
+const OPERATOR_WIDTH: usize = 6;
 
 const HOUSE_AT: usize = 0;
 
@@ -49,7 +49,7 @@ const HOUSE_TAG: u8 = 0x04;
 const HOUSE_WIDTH: usize = 22;
 
 // An operator of a path and the link that it is on.
-pub struct Place {
+pub struct LinkedOperator {
     pub operator: Operator,
     pub link: Link,
 }
@@ -62,9 +62,9 @@ pub struct House {
     pub interval: Interval,
     pub quota: Quota,
     pub rate: Rate,
-    pub own: Packet,
-    pub longest: Packet,
-    pub carrying: Rate,
+    pub own_packet: Packet,
+    pub longest_packet: Packet,
+    pub link_rate: Rate,
 }
 
 impl House {
@@ -82,27 +82,27 @@ pub enum Form {
     House(House),
 }
 
-// A path is its declaration, its delay wanted and the first `count` of its places. In the house form these are what the nine numbers stand for.
-pub struct Path {
+// A path is its declaration, its delay wanted and the first `count` of its operators. In the house form these are what the nine numbers stand for.
+pub struct PathValue {
     pub form: Form,
     pub declaration: Declaration,
     pub wanted: WantedDelay,
     pub count: usize,
-    pub places: [Place; 16],
+    pub operators: [LinkedOperator; 16],
 }
 
-// A place that no operator has.
-fn no_place() -> Place
-    ensures { λ r. ⌜ r ≡ noPlace ⌝ }
+// What stands behind the last operator of a path value.
+fn no_linked_operator() -> LinkedOperator
+    ensures { λ r. ⌜ r ≡ noLinkedOperator ⌝ }
 {
-    Place {
+    LinkedOperator {
         operator: Operator::Limiter(Rate(0)),
         link: Link(0),
     }
 }
 
 // The empty path, which is handed back beside a refusal.
-pub fn no_path() -> Path
+pub fn no_path() -> PathValue
     ensures { λ r. ⌜ r ≡ noPath ⌝ }
 {
     let declaration = Declaration {
@@ -110,22 +110,22 @@ pub fn no_path() -> Path
         interval: Interval(0),
         quota: Quota(0),
     };
-    let place = no_place();
-    let places = [place; 16];
-    Path {
+    let linked = no_linked_operator();
+    let operators = [linked; 16];
+    PathValue {
         form: Form::Fields,
         declaration,
         wanted: WantedDelay(0),
         count: 0,
-        places,
+        operators,
     }
 }
 
 // Whether the operator's number is in its range. The match stands here: an operator that is passed on alone is read as one word, and then split.
-fn number_in_range(place: Place) -> bool
-    ensures { λ r. ⌜ r ≡ numberInRange (place .operator) ⌝ }
+fn number_in_range(linked: LinkedOperator) -> bool
+    ensures { λ r. ⌜ r ≡ numberInRange (linked .operator) ⌝ }
 {
-    let operator = place.operator;
+    let operator = linked.operator;
     match operator {
         Operator::Limiter(rate) => rate.in_range(),
         Operator::Compactor(interval) => interval.in_range(),
@@ -136,9 +136,9 @@ fn number_in_range(place: Place) -> bool
 }
 
 // Whether the operator's number and the link are in their ranges.
-fn place_in_range(place: Place) -> bool
-    ensures { λ r. ⌜ r ≡ placeInRange place ⌝ }
+fn operator_in_range(linked: LinkedOperator) -> bool
+    ensures { λ r. ⌜ r ≡ operatorInRange linked ⌝ }
 {
-    let link = place.link;
-    number_in_range(place) && link.in_range()
+    let link = linked.link;
+    number_in_range(linked) && link.in_range()
 }

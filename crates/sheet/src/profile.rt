@@ -5,8 +5,8 @@ use crate::HOUSE_AT;
 use crate::HOUSE_TAG;
 use crate::HOUSE_WIDTH;
 use crate::House;
-use crate::Path;
-use crate::Place;
+use crate::LinkedOperator;
+use crate::PathValue;
 use crate::no_path;
 use crate::read::number_at;
 use crate::read::wide;
@@ -32,7 +32,7 @@ ghost use lib.Seq.{sets};
 ghost use Rattle.quantity.specs.Choice.{pick};
 ghost use Rattle.quantity.specs.Ranges.{inRange, rateRange};
 ghost use Rattle.sheet.specs.Numbers.{bytesOf};
-ghost use Rattle.sheet.specs.House.{houseIn, houseBody, delayerSlots, packetsUnused, packetsInRange, profileInRange, houseInRange, houseFits, hopLength, hopOperator, housePlace};
+ghost use Rattle.sheet.specs.House.{houseIn, houseBody, delayerSlots, packetsUnused, packetsInRange, profileInRange, houseInRange, houseFits, hopLength, hopOperator, houseOperator};
 ghost use Rattle.sheet.specs.Forms.{houseValue};
 ghost use Rattle.sheet.specs.Fields.{fieldOf};
 
@@ -50,40 +50,41 @@ fn product(a: u32, b: u32) -> u64
 
 // The slots of a delayer: ⌈(L·C + X·R)/(R·C)⌉.
 fn delayer_slots(house: House) -> u32
-    requires { ⌜ (house .own .0 ≤ 65_535) × (house .longest .0 ≤ 65_535) × (1 ≤ house .rate .0) × (house .rate .0 ≤ 65_535) × (1 ≤ house .carrying .0) × (house .carrying .0 ≤ 65_535) ⌝ }
+    requires { ⌜ (house .«own_packet» .0 ≤ 65_535) × (house .«longest_packet» .0 ≤ 65_535) × (1 ≤ house .rate .0) × (house .rate .0 ≤ 65_535) × (1 ≤ house .«link_rate» .0) × (house .«link_rate» .0 ≤ 65_535) ⌝ }
     ensures { λ r. ⌜ r ≡ delayerSlots house ⌝ }
 {
-    let whole = product(house.rate.0, house.carrying.0);
-    let units = product(house.own.0, house.carrying.0) + product(house.longest.0, house.rate.0);
+    let whole = product(house.rate.0, house.link_rate.0);
+    let units = product(house.own_packet.0, house.link_rate.0)
+        + product(house.longest_packet.0, house.rate.0);
     ((units + (whole - 1)) / whole) as u32
 }
 
 fn packets_unused(house: House) -> bool
     ensures { λ r. ⌜ r ≡ packetsUnused house ⌝ }
 {
-    if house.own.0 != 0 {
+    if house.own_packet.0 != 0 {
         return false;
     }
-    if house.longest.0 != 0 {
+    if house.longest_packet.0 != 0 {
         return false;
     }
-    house.carrying.0 == 0
+    house.link_rate.0 == 0
 }
 
 fn packets_in_range(house: House) -> bool
     requires { ⌜ inRange rateRange (house .rate .0) ≡ true ⌝ }
     ensures { λ r. ⌜ r ≡ packetsInRange house ⌝ }
 {
-    let own = house.own;
-    let longest = house.longest;
-    let carrying = house.carrying;
-    if !own.in_range() {
+    let own_packet = house.own_packet;
+    let longest_packet = house.longest_packet;
+    let link_rate = house.link_rate;
+    if !own_packet.in_range() {
         return false;
     }
-    if !longest.in_range() {
+    if !longest_packet.in_range() {
         return false;
     }
-    if !carrying.in_range() {
+    if !link_rate.in_range() {
         return false;
     }
     Delay(delayer_slots(house)).in_range()
@@ -165,18 +166,18 @@ fn hop_operator(house: House, i: usize) -> Operator
 }
 
 // Operator k of the path: hop j, counted from 0, is on link j.
-fn house_place(house: House, k: usize) -> Place
+fn house_operator(house: House, k: usize) -> LinkedOperator
     requires { ⌜ (houseInRange house ≡ true) × (k ≤ 15) ⌝ }
-    ensures { λ r. ⌜ r ≡ housePlace house k ⌝ }
+    ensures { λ r. ⌜ r ≡ houseOperator house k ⌝ }
 {
     let length = hop_length(house);
     let operator = hop_operator(house, k % length);
     let link = Link((k / length) as u32);
-    Place { operator, link }
+    LinkedOperator { operator, link }
 }
 
 // The path that the nine numbers stand for: smooth (m, Q), and the operators hop by hop.
-pub(crate) fn path_of(house: House) -> Path
+pub(crate) fn path_of(house: House) -> PathValue
     requires { ⌜ houseInRange house ≡ true ⌝ }
     ensures { λ r. ⌜ r ≡ houseValue house ⌝ }
 {
@@ -186,10 +187,10 @@ pub(crate) fn path_of(house: House) -> Path
     let wanted = house.wanted;
     let count = (hops.0 as usize) * hop_length(house);
     let empty = no_path();
-    let mut places = empty.places;
+    let mut operators = empty.operators;
     let mut k = 0;
     while k < count {
-        places[k] = house_place(house, k);
+        operators[k] = house_operator(house, k);
         k += 1;
     }
     let form = Form::House(house);
@@ -198,12 +199,12 @@ pub(crate) fn path_of(house: House) -> Path
         interval,
         quota,
     };
-    Path {
+    PathValue {
         form,
         declaration,
         wanted,
         count,
-        places,
+        operators,
     }
 }
 
@@ -218,9 +219,9 @@ pub(crate) fn read_house(body: &[u8]) -> ReadHouse
         interval: Interval(number_at(body, 6, 2)),
         quota: Quota(number_at(body, 8, 4)),
         rate: Rate(number_at(body, 12, 4)),
-        own: Packet(number_at(body, 16, 2)),
-        longest: Packet(number_at(body, 18, 2)),
-        carrying: Rate(number_at(body, 20, 2)),
+        own_packet: Packet(number_at(body, 16, 2)),
+        longest_packet: Packet(number_at(body, 18, 2)),
+        link_rate: Rate(number_at(body, 20, 2)),
     };
     if in_range(house) {
         ReadHouse::Fits(house)
@@ -245,10 +246,10 @@ pub(crate) fn write_house(sheet: &mut [u8], house: House)
 // R, L, X and C.
 fn write_rates_and_packets(sheet: &mut [u8], house: House)
     requires { ⌜ 25 ≤ length (now sheet) ⌝ }
-    ensures { λ r. ⌜ now (sheet .exit) ≡ sets (now (sheet .entry)) 15 (bytesOf 4 (house .rate .0) ++ bytesOf 2 (house .own .0) ++ bytesOf 2 (house .longest .0) ++ bytesOf 2 (house .carrying .0)) ⌝ }
+    ensures { λ r. ⌜ now (sheet .exit) ≡ sets (now (sheet .entry)) 15 (bytesOf 4 (house .rate .0) ++ bytesOf 2 (house .«own_packet» .0) ++ bytesOf 2 (house .«longest_packet» .0) ++ bytesOf 2 (house .«link_rate» .0)) ⌝ }
 {
     write_number(sheet, 15, 4, house.rate.0);
-    write_number(sheet, 19, 2, house.own.0);
-    write_number(sheet, 21, 2, house.longest.0);
-    write_number(sheet, 23, 2, house.carrying.0);
+    write_number(sheet, 19, 2, house.own_packet.0);
+    write_number(sheet, 21, 2, house.longest_packet.0);
+    write_number(sheet, 23, 2, house.link_rate.0);
 }

@@ -8,16 +8,16 @@ use crate::HEADER;
 use crate::HOUSE_AT;
 use crate::HOUSE_TAG;
 use crate::HOUSE_WIDTH;
-use crate::PLACE_TAG;
-use crate::PLACE_WIDTH;
-use crate::PLACES_AT;
-use crate::Path;
-use crate::Place;
+use crate::LinkedOperator;
+use crate::OPERATOR_TAG;
+use crate::OPERATOR_WIDTH;
+use crate::OPERATORS_AT;
+use crate::PathValue;
 use crate::WANTED_AT;
 use crate::WANTED_TAG;
 use crate::WANTED_WIDTH;
+use crate::no_linked_operator;
 use crate::no_path;
-use crate::no_place;
 use crate::profile::ReadHouse;
 use crate::profile::path_of;
 use crate::profile::read_house;
@@ -39,11 +39,11 @@ ghost use lib.ListN.{length, drop, replicate};
 ghost use lib.Dec.{eqb};
 ghost use Rattle.quantity.specs.Choice.{pick};
 ghost use Rattle.quantity.specs.Refusals.{firstOf};
-ghost use Rattle.sheet.specs.Numbers.{numberOf};
-ghost use Rattle.sheet.specs.Paths.{noPlace};
-ghost use Rattle.sheet.specs.Bodies.{part, declarationIn, declarationFits, wantedIn, wantedFits, operatorOf, placeIn, placeFits};
+ghost use Rattle.sheet.specs.Numbers.{valueOfBytes};
+ghost use Rattle.sheet.specs.Paths.{noLinkedOperator};
+ghost use Rattle.sheet.specs.Bodies.{part, declarationIn, declarationFits, wantedIn, wantedFits, operatorOf, operatorIn, operatorFits};
 ghost use Rattle.sheet.specs.Fields.{fieldUnexpected, fieldCases, declarationFormat, wantedFormat};
-ghost use Rattle.sheet.specs.Sheets.{declarationAt, wantedAt, inHouseForm, furtherCases, fieldsLine, refusedRead, readFields, readHouse, readSheet};
+ghost use Rattle.sheet.specs.Sheets.{declarationAt, wantedAt, inHouseForm, furtherCases, fieldsPath, refusedRead, readFields, readHouse, readSheet};
 
 // What reading a sheet answers. Beside a refusal the path is the empty one.
 pub enum Verdict {
@@ -53,7 +53,7 @@ pub enum Verdict {
 
 pub struct ReadSheet {
     pub verdict: Verdict,
-    pub path: Path,
+    pub path: PathValue,
 }
 
 // Whether the field that is due has begun and is whole.
@@ -84,8 +84,8 @@ enum ReadWanted {
     OutOfRange,
 }
 
-enum ReadPlace {
-    Fits(Place),
+enum ReadOperator {
+    Fits(LinkedOperator),
     OutOfRange,
 }
 
@@ -98,7 +98,7 @@ pub(crate) fn wide(byte: u8) -> u32
 // The number in `width` bytes from `at` on, the high byte first.
 pub(crate) fn number_at(bytes: &[u8], at: usize, width: usize) -> u32
     requires { ⌜ (width ≤ 4) × (at + width ≤ length (now bytes)) ⌝ }
-    ensures { λ r. ⌜ r ≡ numberOf (part at width (now (bytes .entry))) ⌝ }
+    ensures { λ r. ⌜ r ≡ valueOfBytes (part at width (now (bytes .entry))) ⌝ }
 {
     let mut value: u32 = 0;
     let mut k = 0;
@@ -205,27 +205,27 @@ fn operator_of(kind: u8, number: u32) -> Operator
     }
 }
 
-fn read_place(body: &[u8]) -> ReadPlace
+fn read_operator(body: &[u8]) -> ReadOperator
     requires { ⌜ length (now body) ≡ 6 ⌝ }
-    ensures { λ r. ⌜ r ≡ pick (placeFits (now (body .entry))) (ReadPlace.Fits (placeIn (now (body .entry)))) ReadPlace.OutOfRange ⌝ }
+    ensures { λ r. ⌜ r ≡ pick (operatorFits (now (body .entry))) (ReadOperator.Fits (operatorIn (now (body .entry)))) ReadOperator.OutOfRange ⌝ }
 {
     let kind = body[0];
     if 4 < kind {
-        return ReadPlace::OutOfRange;
+        return ReadOperator::OutOfRange;
     }
     let operator = operator_of(kind, number_at(body, 2, 4));
     let link = Link(wide(body[1]));
-    let place = Place { operator, link };
-    if crate::place_in_range(place) {
-        ReadPlace::Fits(place)
+    let linked = LinkedOperator { operator, link };
+    if crate::operator_in_range(linked) {
+        ReadOperator::Fits(linked)
     } else {
-        ReadPlace::OutOfRange
+        ReadOperator::OutOfRange
     }
 }
 
 // The first two fields.
 fn read_head(sheet: &[u8]) -> ReadHead
-    ensures { λ r. ⌜ r ≡ firstOf (fieldCases (now (sheet .entry)) declarationAt declarationFormat ++ fieldCases (now (sheet .entry)) wantedAt wantedFormat) ReadHead.Refused (ReadHead.Fits (record { declaration = fieldsLine (now (sheet .entry)) .declaration; wanted = record { 0 = fieldsLine (now (sheet .entry)) .wanted } })) ⌝ }
+    ensures { λ r. ⌜ r ≡ firstOf (fieldCases (now (sheet .entry)) declarationAt declarationFormat ++ fieldCases (now (sheet .entry)) wantedAt wantedFormat) ReadHead.Refused (ReadHead.Fits (record { declaration = fieldsPath (now (sheet .entry)) .declaration; wanted = record { 0 = fieldsPath (now (sheet .entry)) .wanted } })) ⌝ }
 {
     if let Due::Refused(why) = field_at(sheet, DECLARATION_AT, DECLARATION_TAG, DECLARATION_WIDTH) {
         return ReadHead::Refused(why);
@@ -264,27 +264,27 @@ fn ended(sheet: &[u8], at: usize) -> Due
     Due::Refused(Refusal::FieldUnexpected(at))
 }
 
-// A refusal with the empty path: the first `count` places are emptied again, so that every answer is a copy of the same places.
-fn refused(why: Refusal, stored: [Place; 16], count: usize) -> ReadSheet
-    requires { ⌜ (count ≤ 16) × (drop count stored ≡ replicate (16 - count) noPlace) ⌝ }
+// A refusal with the empty path: the first `count` operators are emptied again, so that every answer is a copy of the same array.
+fn refused(why: Refusal, stored: [LinkedOperator; 16], count: usize) -> ReadSheet
+    requires { ⌜ (count ≤ 16) × (drop count stored ≡ replicate (16 - count) noLinkedOperator) ⌝ }
     ensures { λ r. ⌜ r ≡ refusedRead why ⌝ }
 {
-    let none = no_place();
-    let mut places = stored;
+    let none = no_linked_operator();
+    let mut operators = stored;
     let mut k = 0;
     while k < count {
-        places[k] = none;
+        operators[k] = none;
         k += 1;
     }
     let empty = no_path();
     let declaration = empty.declaration;
     let wanted = empty.wanted;
-    let path = Path {
+    let path = PathValue {
         form: Form::Fields,
         declaration,
         wanted,
         count: 0,
-        places,
+        operators,
     };
     ReadSheet {
         verdict: Verdict::Refused(why),
@@ -296,24 +296,24 @@ fn refused(why: Refusal, stored: [Place; 16], count: usize) -> ReadSheet
 fn read_fields(sheet: &[u8]) -> ReadSheet
     ensures { λ r. ⌜ r ≡ readFields (now (sheet .entry)) ⌝ }
 {
-    let none = no_place();
-    let mut places = [none; 16];
+    let none = no_linked_operator();
+    let mut operators = [none; 16];
     let mut count = 0;
     let head = match read_head(sheet) {
-        ReadHead::Refused(why) => return refused(why, places, count),
+        ReadHead::Refused(why) => return refused(why, operators, count),
         ReadHead::Fits(head) => head,
     };
-    let mut at = PLACES_AT;
+    let mut at = OPERATORS_AT;
     loop {
-        if let Due::Refused(why) = field_at(sheet, at, PLACE_TAG, PLACE_WIDTH) {
-            return refused(why, places, count);
+        if let Due::Refused(why) = field_at(sheet, at, OPERATOR_TAG, OPERATOR_WIDTH) {
+            return refused(why, operators, count);
         }
         let start = at + HEADER;
-        let end = start + PLACE_WIDTH;
-        let ReadPlace::Fits(place) = read_place(&sheet[start..end]) else {
-            return refused(Refusal::OutOfRange(at), places, count);
+        let end = start + OPERATOR_WIDTH;
+        let ReadOperator::Fits(linked) = read_operator(&sheet[start..end]) else {
+            return refused(Refusal::OutOfRange(at), operators, count);
         };
-        places[count] = place;
+        operators[count] = linked;
         count += 1;
         at = end;
         if count == 16 || at == sheet.len() {
@@ -321,16 +321,16 @@ fn read_fields(sheet: &[u8]) -> ReadSheet
         }
     }
     if let Due::Refused(why) = ended(sheet, at) {
-        return refused(why, places, count);
+        return refused(why, operators, count);
     }
     let declaration = head.declaration;
     let wanted = head.wanted;
-    let path = Path {
+    let path = PathValue {
         form: Form::Fields,
         declaration,
         wanted,
         count,
-        places,
+        operators,
     };
     ReadSheet {
         verdict: Verdict::Accepted,

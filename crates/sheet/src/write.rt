@@ -7,11 +7,11 @@ use crate::Form;
 use crate::HEADER;
 use crate::HOUSE_WIDTH;
 use crate::House;
-use crate::PLACE_TAG;
-use crate::PLACE_WIDTH;
-use crate::PLACES_AT;
-use crate::Path;
-use crate::Place;
+use crate::LinkedOperator;
+use crate::OPERATOR_TAG;
+use crate::OPERATOR_WIDTH;
+use crate::OPERATORS_AT;
+use crate::PathValue;
 use crate::WANTED_AT;
 use crate::WANTED_TAG;
 use crate::WANTED_WIDTH;
@@ -32,9 +32,9 @@ ghost use Rattle.quantity.specs.Choice.{pick, both};
 ghost use Rattle.quantity.specs.Ranges.{inRange, wantedDelayRange};
 ghost use Rattle.flow.specs.Declarations.{declarationInRange};
 ghost use Rattle.sheet.specs.Numbers.{bytesOf};
-ghost use Rattle.sheet.specs.Bodies.{kindByte, declarationBody, wantedBody, placeBody, placeInRange};
+ghost use Rattle.sheet.specs.Bodies.{kindByte, declarationBody, wantedBody, operatorBody, operatorInRange};
 ghost use Rattle.sheet.specs.Fields.{fieldOf};
-ghost use Rattle.sheet.specs.Sheets.{declarationAt, wantedAt, placesAt, placeFields, placesInRange, writeAnswer, bytesAfter};
+ghost use Rattle.sheet.specs.Sheets.{declarationAt, wantedAt, operatorsAt, operatorFields, operatorsInRange, writeAnswer, bytesWritten};
 
 // What writing a sheet answers: the sheet's length.
 pub enum Written {
@@ -43,7 +43,7 @@ pub enum Written {
 }
 
 // What writing the operators answers: where the last one ends.
-enum WrittenPlaces {
+enum WrittenOperators {
     End(usize),
     OutOfRange,
 }
@@ -117,17 +117,17 @@ fn write_operator(sheet: &mut [u8], at: usize, kind: u8, link: u8, number: u32)
     ensures { λ r. ⌜ now (sheet .exit) ≡ sets (now (sheet .entry)) at (fieldOf 0x03 (kind ∷ link ∷ bytesOf 4 number)) ⌝ }
 {
     write_number(sheet, at + 5, 4, number);
-    write_header(sheet, at, PLACE_TAG, PLACE_WIDTH as u32);
+    write_header(sheet, at, OPERATOR_TAG, OPERATOR_WIDTH as u32);
     sheet[at + 3] = kind;
     sheet[at + 4] = link;
 }
 
-fn write_place(sheet: &mut [u8], at: usize, place: Place)
-    requires { ⌜ (placeInRange place ≡ true) × (at + 9 ≤ length (now sheet)) ⌝ }
-    ensures { λ r. ⌜ now (sheet .exit) ≡ sets (now (sheet .entry)) at (fieldOf 0x03 (placeBody place)) ⌝ }
+fn write_linked(sheet: &mut [u8], at: usize, linked: LinkedOperator)
+    requires { ⌜ (operatorInRange linked ≡ true) × (at + 9 ≤ length (now sheet)) ⌝ }
+    ensures { λ r. ⌜ now (sheet .exit) ≡ sets (now (sheet .entry)) at (fieldOf 0x03 (operatorBody linked)) ⌝ }
 {
-    let operator = place.operator;
-    let link = place.link.0 as u8;
+    let operator = linked.operator;
+    let link = linked.link.0 as u8;
     match operator {
         Operator::Limiter(rate) => write_operator(sheet, at, 0, link, rate.0),
         Operator::Compactor(interval) => write_operator(sheet, at, 1, link, interval.0),
@@ -137,34 +137,38 @@ fn write_place(sheet: &mut [u8], at: usize, place: Place)
     }
 }
 
-// The operators, one behind the other, where all are in range. Both loops are here, since each function has its own copy of the places.
-fn write_places(sheet: &mut [u8], places: [Place; 16], count: usize) -> WrittenPlaces
+// The operators, one behind the other, where all are in range. Both loops are here, since each function has its own copy of them.
+fn write_operators(
+    sheet: &mut [u8],
+    operators: [LinkedOperator; 16],
+    count: usize,
+) -> WrittenOperators
     requires { ⌜ (count ≤ 16) × (length (now sheet) ≡ 256) ⌝ }
-    ensures { λ r. ⌜ (r ≡ pick (placesInRange (take count places)) (WrittenPlaces.End (placesAt + length (placeFields (take count places)))) WrittenPlaces.OutOfRange) × (now (sheet .exit) ≡ pick (placesInRange (take count places)) (sets (now (sheet .entry)) placesAt (placeFields (take count places))) (now (sheet .entry))) ⌝ }
+    ensures { λ r. ⌜ (r ≡ pick (operatorsInRange (take count operators)) (WrittenOperators.End (operatorsAt + length (operatorFields (take count operators)))) WrittenOperators.OutOfRange) × (now (sheet .exit) ≡ pick (operatorsInRange (take count operators)) (sets (now (sheet .entry)) operatorsAt (operatorFields (take count operators))) (now (sheet .entry))) ⌝ }
 {
     let mut k = 0;
     while k < count {
-        let place = places[k];
-        if !crate::place_in_range(place) {
-            return WrittenPlaces::OutOfRange;
+        let linked = operators[k];
+        if !crate::operator_in_range(linked) {
+            return WrittenOperators::OutOfRange;
         }
         k += 1;
     }
-    let mut at = PLACES_AT;
+    let mut at = OPERATORS_AT;
     let mut written = 0;
     while written < count {
-        let place = places[written];
-        write_place(sheet, at, place);
-        at += HEADER + PLACE_WIDTH;
+        let linked = operators[written];
+        write_linked(sheet, at, linked);
+        at += HEADER + OPERATOR_WIDTH;
         written += 1;
     }
-    WrittenPlaces::End(at)
+    WrittenOperators::End(at)
 }
 
 // Fields 01, 02 and 03.
-fn write_fields(path: Path, sheet: &mut [u8]) -> Written
+fn write_fields(path: PathValue, sheet: &mut [u8]) -> Written
     requires { ⌜ (length (now sheet) ≡ 256) × (path .form ≡ Form.Fields) ⌝ }
-    ensures { λ r. ⌜ (r ≡ writeAnswer path (now (sheet .entry))) × (now (sheet .exit) ≡ bytesAfter path (now (sheet .entry))) ⌝ }
+    ensures { λ r. ⌜ (r ≡ writeAnswer path (now (sheet .entry))) × (now (sheet .exit) ≡ bytesWritten path (now (sheet .entry))) ⌝ }
 {
     let count = path.count;
     if count == 0 || 16 < count {
@@ -172,11 +176,11 @@ fn write_fields(path: Path, sheet: &mut [u8]) -> Written
     }
     let declaration = path.declaration;
     let wanted = path.wanted;
-    let places = path.places;
+    let operators = path.operators;
     if !head_in_range(declaration, wanted) {
         return Written::Refused(Refusal::OutOfRange(0));
     }
-    let WrittenPlaces::End(end) = write_places(sheet, places, count) else {
+    let WrittenOperators::End(end) = write_operators(sheet, operators, count) else {
         return Written::Refused(Refusal::OutOfRange(0));
     };
     write_declaration(sheet, declaration);
@@ -187,7 +191,7 @@ fn write_fields(path: Path, sheet: &mut [u8]) -> Written
 // One field 04.
 fn write_profile(sheet: &mut [u8], house: House) -> Written
     requires { ⌜ length (now sheet) ≡ 256 ⌝ }
-    ensures { λ r. ⌜ ((path : Path) → path .form ≡ Form.House house → (r ≡ writeAnswer path (now (sheet .entry))) × (now (sheet .exit) ≡ bytesAfter path (now (sheet .entry)))) ⌝ }
+    ensures { λ r. ⌜ ((path : PathValue) → path .form ≡ Form.House house → (r ≡ writeAnswer path (now (sheet .entry))) × (now (sheet .exit) ≡ bytesWritten path (now (sheet .entry)))) ⌝ }
 {
     if !in_range(house) {
         return Written::Refused(Refusal::OutOfRange(0));
@@ -196,8 +200,8 @@ fn write_profile(sheet: &mut [u8], house: House) -> Written
     Written::Length(HEADER + HOUSE_WIDTH)
 }
 
-pub fn write(path: Path, sheet: &mut [u8]) -> Written
-    ensures { λ r. ⌜ (r ≡ writeAnswer path (now (sheet .entry))) × (now (sheet .exit) ≡ bytesAfter path (now (sheet .entry))) ⌝ }
+pub fn write(path: PathValue, sheet: &mut [u8]) -> Written
+    ensures { λ r. ⌜ (r ≡ writeAnswer path (now (sheet .entry))) × (now (sheet .exit) ≡ bytesWritten path (now (sheet .entry))) ⌝ }
 {
     if sheet.len() != 256 {
         return Written::Refused(Refusal::Unusable);

@@ -56,5 +56,5 @@ unfoldable pub hexadecimalFrom : List ℕ → ℕ → ℕ → Hexadecimal
 hexadecimalFrom text from places = answerOf Length (fitted places (bytesIn (drop from text)))
 
 -- what the lent bytes hold then; a refused call keeps them all
-unfoldable pub bytesAfter : List ℕ → ℕ → List ℕ → List ℕ
-bytesAfter text from lent = storedIn lent (fitted (length lent) (bytesIn (drop from text)))
+unfoldable pub bytesStored : List ℕ → ℕ → List ℕ → List ℕ
+bytesStored text from lent = storedIn lent (fitted (length lent) (bytesIn (drop from text)))

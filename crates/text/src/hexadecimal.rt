@@ -7,7 +7,7 @@ ghost use lib.ListN.{length, getD, drop};
 ghost use lib.Dec.{eqb};
 ghost use Rattle.quantity.specs.Choice.{pick, both};
 ghost use Rattle.text.specs.Rows.{space, fault, answerOf};
-ghost use Rattle.text.specs.Hexadecimals.{isHexadecimalDigit, digitValue, byteOf, bytesIn, fitted, hexadecimalFrom, bytesAfter};
+ghost use Rattle.text.specs.Hexadecimals.{isHexadecimalDigit, digitValue, byteOf, bytesIn, fitted, hexadecimalFrom, bytesStored};
 
 // How many bytes a text is; that it is something else; that it is more bytes than there are places.
 pub enum Hexadecimal {
@@ -28,7 +28,7 @@ enum TwoDigits {
 
 // The bytes of a text from an index on: put into `bytes` if the text is nothing else and each has a place.
 pub fn hexadecimal_from(text: &[u8], from: usize, bytes: &mut [u8]) -> Hexadecimal
-    ensures { λ r. ⌜ (r ≡ hexadecimalFrom (now (text .entry)) from (length (now (bytes .entry)))) × (now (bytes .exit) ≡ bytesAfter (now (text .entry)) from (now (bytes .entry))) ⌝ }
+    ensures { λ r. ⌜ (r ≡ hexadecimalFrom (now (text .entry)) from (length (now (bytes .entry)))) × (now (bytes .exit) ≡ bytesStored (now (text .entry)) from (now (bytes .entry))) ⌝ }
 {
     let answer = judge(text, from);
     let Hexadecimal::Length(length) = answer else {
@@ -65,7 +65,7 @@ fn judge(text: &[u8], from: usize) -> Hexadecimal
 // The bytes of a text that has no fault.
 fn store(text: &[u8], from: usize, bytes: &mut [u8])
     requires { ⌜ ((why : Hexadecimal) → fitted (length (now bytes)) (bytesIn (drop from (now text))) ≡ fault why → ⊥) ⌝ }
-    ensures { λ r. ⌜ now (bytes .exit) ≡ bytesAfter (now (text .entry)) from (now (bytes .entry)) ⌝ }
+    ensures { λ r. ⌜ now (bytes .exit) ≡ bytesStored (now (text .entry)) from (now (bytes .entry)) ⌝ }
 {
     let mut at = from;
     let mut count = 0;

@@ -8,7 +8,7 @@ use figures::figures;
 use operator::Operator;
 use page::Paged;
 use page::page;
-use sheet::Path;
+use sheet::PathValue;
 use sheet::no_path;
 use sheet::read::ReadSheet;
 use sheet::read::Verdict;
@@ -76,7 +76,7 @@ pub extern "C" fn workload_pages(sheets: &[u8], width: usize, lent: &mut [u8], t
 }
 
 // The paths of sixty-four sheets.
-fn paths_of(sheets: &[u8], width: usize) -> [Path; 64]
+fn paths_of(sheets: &[u8], width: usize) -> [PathValue; 64]
     requires { ⌜ width ≤ length (now sheets) ⌝ }
 {
     let none = no_path();
@@ -146,14 +146,14 @@ fn mix_read(sum: u64, answer: ReadSheet) -> u64 {
     }
 }
 
-fn mix_path(sum: u64, path: Path) -> u64 {
-    let place = path.places[15];
-    let operator = place.operator;
+fn mix_path(sum: u64, path: PathValue) -> u64 {
+    let linked = path.operators[15];
+    let operator = linked.operator;
     let mut next = mix(sum, path.count as u64);
     next = mix(next, path.wanted.0 as u64);
     next = mix(next, path.declaration.interval.0 as u64);
     next = mix(next, path.declaration.quota.0 as u64);
-    next = mix(next, place.link.0 as u64);
+    next = mix(next, linked.link.0 as u64);
     mix_operator(next, operator)
 }
 

@@ -8,20 +8,20 @@ use denote.Ref.{now}
 use Rattle.sheet.specs.Forms.{inFull}
 use Rattle.sheet.specs.declared.read.Verdict.{Verdict}
 use Rattle.figures.specs.Answers.{figuresOf}
-use Rattle.figures.proofs.EachOperator.{Walked, PathWithin, figuresOfPath, plannedAt, walked-start, walked-planned, walked-capacity, walked-next, path-operator, operator-ready, paired-here, delay-counted, refused-path, late-path, accepted-path}
+use Rattle.figures.proofs.EachOperator.{Walked, PathWithin, figuresOfValue, plannedAt, walked-start, walked-planned, walked-capacity, walked-next, path-operator, operator-ready, paired-here, delay-counted, refused-path, late-path, accepted-path}
 use Rattle.figures.proofs.SheetAnswer.{refused-figures, path-within, accepted-figures}
 use Rattle.figures.proofs.figures.Statement.{statement}
 use Rattle.figures.proofs.figures.Tie as tie
 
 abbrev Inv-loop : tie.InvT-loop
-Inv-loop sheet path planned₀ count carried₀ delay₀ k₀ planned carried delay k =
-    (k ≤ count) × PathWithin path × (planned .verdict ≡ Verdict.Accepted) × (planned .path ≡ path) × Walked (inFull path) k carried (planned .figures) delay
+Inv-loop sheet value planned₀ count carried₀ delay₀ k₀ planned carried delay k =
+    (k ≤ count) × PathWithin value × (planned .verdict ≡ Verdict.Accepted) × (planned .path ≡ value) × Walked (inFull value) k carried (planned .figures) delay
 
 abbrev μ-loop : tie.MeasureT-loop
-μ-loop sheet path planned₀ count carried₀ delay₀ k₀ planned carried delay k = count - k
+μ-loop sheet value planned₀ count carried₀ delay₀ k₀ planned carried delay k = count - k
 
 -- the figures of an accepted sheet are those of its path
-figures-read : (c : tie.After-start Inv-loop μ-loop) → figuresOfPath (c .before .before .before .before .before .before .read .result .path) ≡ figuresOf (now (c .before .before .before .before .before .before .before .before .args .sheet))
+figures-read : (c : tie.After-start Inv-loop μ-loop) → figuresOfValue (c .before .before .before .before .before .before .read .result .path) ≡ figuresOf (now (c .before .before .before .before .before .before .before .before .args .sheet))
 figures-read c = accepted-figures (now (c .before .before .before .before .before .before .before .before .args .sheet)) (c .before .before .before .before .before .before .read .ensures) (c .before .before .enum-told2 .given .1)
 
 -- what was planned of operator k
@@ -29,10 +29,10 @@ planned-at : (c : tie.After-plan Inv-loop μ-loop) → c .plan .result ≡ plann
 planned-at c =
     let (inside, within, verdict, read, walked) = c .before .before .before .before .before .before .loop .inv in
     let here = c .before .before .before .before .before .loop-test .taken in
-    walked-planned walked (sym (path-operator _ _ here)) (paired-here within walked here (c .before .before .before .next-place .ensures .1) (c .before .paired .ensures)) (c .plan .ensures)
+    walked-planned walked (sym (path-operator _ _ here)) (paired-here within walked here (c .before .before .before .next-operator .ensures .1) (c .before .paired .ensures)) (c .plan .ensures)
 
 -- behind the last operator
-walked-through : (c : tie.After-loop Inv-loop μ-loop) → let path = c .before .before .before .before .before .before .before .before .read .result .path in Walked (inFull path) (path .count) (c .before .loop .carried) (c .before .loop .planned .figures) (c .before .loop .delay)
+walked-through : (c : tie.After-loop Inv-loop μ-loop) → let value = c .before .before .before .before .before .before .before .before .read .result .path in Walked (inFull value) (value .count) (c .before .loop .carried) (c .before .loop .planned .figures) (c .before .loop .delay)
 walked-through c =
     let ends : c .before .loop .k ≡ c .before .before .before .before .before .before .before .before .read .result .path .count = omega arith in
     rw ends at (c .before .loop .inv .4)
@@ -65,14 +65,14 @@ loop-holds c = (
   walked-start (inFull (c .before .before .before .before .before .before .read .result .path)) (c .start .result) (c .before .before .before .before .no-figure .result) (c .start .ensures) (c .before .before .before .before .no-figure .ensures),
 )
 
-mul-place : tie.Need-mul-place Inv-loop μ-loop
-mul-place c = omega (arith, c .before .loop .inv .1 .few)
+mul-linked : tie.Need-mul-linked Inv-loop μ-loop
+mul-linked c = omega (arith, c .before .loop .inv .1 .few)
 
-element-copy-out-place : tie.Need-element-copy-out-place Inv-loop μ-loop
-element-copy-out-place c = omega (arith, c .before .loop .inv .1 .few)
+element-copy-out-linked : tie.Need-element-copy-out-linked Inv-loop μ-loop
+element-copy-out-linked c = omega (arith, c .before .loop .inv .1 .few)
 
-next-place-requires : tie.Need-next-place-requires Inv-loop μ-loop
-next-place-requires c κs = omega (arith, c .before .before .loop .inv .1 .few)
+next-operator-requires : tie.Need-next-operator-requires Inv-loop μ-loop
+next-operator-requires c κs = omega (arith, c .before .before .loop .inv .1 .few)
 
 mul-following : tie.Need-mul-following Inv-loop μ-loop
 mul-following c = search needs
@@ -160,9 +160,9 @@ figures-spec =
     enum-told-2
     start-requires
     loop-holds
-    mul-place
-    element-copy-out-place
-    next-place-requires
+    mul-linked
+    element-copy-out-linked
+    next-operator-requires
     mul-following
     element-copy-out-following
     add-next

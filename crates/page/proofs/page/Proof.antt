@@ -6,7 +6,7 @@ use borrow.Author.Needs.{needs}
 use denote.Ref.{now}
 use lib.ListN.{length}
 use Rattle.sheet.specs.declared.read.Verdict.{Verdict}
-use Rattle.sheet.specs.Sheets.{lineIn}
+use Rattle.sheet.specs.Sheets.{pathIn}
 use Rattle.figures.specs.declared.PathFigures.{PathFigures}
 use Rattle.figures.specs.Answers.{figuresOf}
 use Rattle.page.proofs.Accepted.{few-operators, count-same, operator-same, link-same, figure-same, delay-same, link-le}
@@ -17,7 +17,7 @@ use Rattle.page.proofs.page.Statement.{statement}
 use Rattle.page.proofs.page.Tie as tie
 
 abbrev Inv-loop : tie.InvT-loop
-Inv-loop sheet lent₀ answer path count capacity₀ at₀ k₀ lent capacity at k = (k ≤ count) × Written (lineIn sheet) lent₀ k lent capacity at
+Inv-loop sheet lent₀ answer path count capacity₀ at₀ k₀ lent capacity at k = (k ≤ count) × Written (pathIn sheet) lent₀ k lent capacity at
 
 abbrev μ-loop : tie.MeasureT-loop
 μ-loop sheet lent₀ answer path count capacity₀ at₀ k₀ lent capacity at k = count - k
@@ -30,14 +30,14 @@ accepted : (c : tie.After-enum-told Inv-loop μ-loop) → figuresOf (now (c .bef
 accepted c = judged (c .before .before) (c .enum-told .given .1)
 
 -- the operator whose line comes next
-next : (c : tie.In-loop Inv-loop μ-loop) → c .before .loop .k < length (lineIn (now (c .before .before .before .before .before .before .before .before .before .args .sheet)) .places)
+next : (c : tie.In-loop Inv-loop μ-loop) → c .before .loop .k < length (pathIn (now (c .before .before .before .before .before .before .before .before .before .args .sheet)) .operators)
 next c = omega (arith, count-same (now (c .before .before .before .before .before .before .before .before .before .args .sheet)) (accepted (c .before .before .before)) (c .before .before .before .before .before .figures .ensures))
 
 few : (c : tie.In-loop Inv-loop μ-loop) → c .before .loop .k ≤ 15
 few c = omega (arith, next c, few-operators (now (c .before .before .before .before .before .before .before .before .before .args .sheet)) (accepted (c .before .before .before)))
 
 -- behind the loop all of them are stored
-all : (c : tie.After-loop Inv-loop μ-loop) → c .before .loop .k ≡ length (lineIn (now (c .before .before .before .before .before .before .before .before .before .args .sheet)) .places)
+all : (c : tie.After-loop Inv-loop μ-loop) → c .before .loop .k ≡ length (pathIn (now (c .before .before .before .before .before .before .before .before .before .args .sheet)) .operators)
 all c = omega (arith, count-same (now (c .before .before .before .before .before .before .before .before .before .args .sheet)) (accepted (c .before .before .before)) (c .before .before .before .before .before .figures .ensures))
 
 returns : tie.Need-returns Inv-loop μ-loop
@@ -59,13 +59,13 @@ enum-told : tie.Need-enum-told Inv-loop μ-loop
 enum-told c = search needs
 
 loop-holds : tie.Need-loop-holds Inv-loop μ-loop
-loop-holds c = let start = c .before .before .before .before .before .before .before in (omega arith, written-none (lineIn (now (start .args .sheet))) (now (start .args .lent)))
+loop-holds c = let start = c .before .before .before .before .before .before .before in (omega arith, written-none (pathIn (now (start .args .sheet))) (now (start .args .lent)))
 
-mul-place : tie.Need-mul-place Inv-loop μ-loop
-mul-place c = omega (arith, few c)
+mul-linked : tie.Need-mul-linked Inv-loop μ-loop
+mul-linked c = omega (arith, few c)
 
-element-copy-out-place : tie.Need-element-copy-out-place Inv-loop μ-loop
-element-copy-out-place c = omega (arith, few c)
+element-copy-out-linked : tie.Need-element-copy-out-linked Inv-loop μ-loop
+element-copy-out-linked c = omega (arith, few c)
 
 mul-figure : tie.Need-mul-figure Inv-loop μ-loop
 mul-figure c = omega (arith, few (c .before))
@@ -142,8 +142,8 @@ page-spec =
     returns-2
     enum-told
     loop-holds
-    mul-place
-    element-copy-out-place
+    mul-linked
+    element-copy-out-linked
     mul-figure
     element-copy-out-figure
     put-operator-requires

@@ -5,19 +5,19 @@ use Rattle.console.proofs.listing.lines.Statement.{statement}
 use Rattle.console.proofs.listing.lines.Tie as tie
 
 abbrev Inv-loop : tie.InvT-loop
-Inv-loop figures places count k₀ k = k ≤ 16
+Inv-loop figures operators count k₀ k = k ≤ 16
 
 abbrev μ-loop : tie.MeasureT-loop
-μ-loop figures places count k₀ k = 16 - k
+μ-loop figures operators count k₀ k = 16 - k
 
 loop-holds : tie.Need-loop-holds Inv-loop μ-loop
 loop-holds c = search needs
 
-mul-place : tie.Need-mul-place Inv-loop μ-loop
-mul-place c = search needs
+mul-linked : tie.Need-mul-linked Inv-loop μ-loop
+mul-linked c = search needs
 
-array-copy-out-place : tie.Need-array-copy-out-place Inv-loop μ-loop
-array-copy-out-place c = search needs
+array-copy-out-linked : tie.Need-array-copy-out-linked Inv-loop μ-loop
+array-copy-out-linked c = search needs
 
 mul-figure : tie.Need-mul-figure Inv-loop μ-loop
 mul-figure c = search needs
@@ -50,8 +50,8 @@ lines-spec =
     Inv-loop
     μ-loop
     loop-holds
-    mul-place
-    array-copy-out-place
+    mul-linked
+    array-copy-out-linked
     mul-figure
     array-copy-out-figure
     line-requires

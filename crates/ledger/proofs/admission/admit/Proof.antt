@@ -37,23 +37,23 @@ use denote.Triple.Table.{entered, cited}
 use denote.Triple.Walked.{says, Stays, gave-slice, stay-dropped, walkOf, goes-gave-slice, goes-dropped, Walks, ends-at, walked, walk-meets}
 use denote.Exit.{yes}
 use Rattle.ledger.specs.Admission.{admissionOf, recordsAdmitted}
-use Rattle.ledger.specs.Steps.{heldOf, heldRecords, appended, admittingOf}
+use Rattle.ledger.specs.Steps.{loadedOf, loadedRecords, appended, admittingOf}
 use Rattle.ledger.specs.declared.Record.{Record}
 use Rattle.ledger.specs.declared.Ledger.{Ledger}
-use Rattle.ledger.specs.declared.records.Held.{Held}
+use Rattle.ledger.specs.declared.records.Loaded.{Loaded}
 use Rattle.ledger.specs.declared.admission.Admission.{Admission}
 use Rattle.ledger.specs.declared.admission.Admitting.{Admitting}
 use Rattle.ledger.proofs.Lent.{Admits, admitted}
 use Rattle.ledger.proofs.Fields.{of-field}
 use Rattle.ledger.proofs.Passing.{Load}
 use Rattle.ledger.proofs.Loading.{loads-lent}
-use Rattle.ledger.proofs.Writing.{AtPlace, Write, writes}
+use Rattle.ledger.proofs.Writing.{AtOperator, Write, writes}
 use Rattle.ledger.proofs.Record as T
 use Rattle.ledger.proofs.Record.Laws as T′
 use Rattle.ledger.proofs.Ledger as L
 use Rattle.ledger.proofs.Ledger.Laws as L′
-use Rattle.ledger.proofs.records.Held as D
-use Rattle.ledger.proofs.records.Held.Laws as D′
+use Rattle.ledger.proofs.records.Loaded as D
+use Rattle.ledger.proofs.records.Loaded.Laws as D′
 use Rattle.ledger.proofs.admission.Admission as S
 use Rattle.ledger.proofs.admission.Admission.Laws as S′
 use Rattle.ledger.proofs.admission.Admitting as N
@@ -120,20 +120,20 @@ module _ {M : Type 1} (𝓤 : URA M) (H : Heap 𝓤) (A : Atoms 𝓤) (W : Given
       split ! $ move ! (0 ∷ 2 ∷ []) $ join ! $ frame ! $ drop ! $ nothing ! $ nothing ! $ fjoin ! $ nothing ! $ fjoin ! $ move ! (1 ∷ 0 ∷ []) $ fjoin ! $ nothing ! $ fjoin ! $ frame ! $ done !
 
   -- ---- `decide`, over values and the sheet
-  abbrev to-decide : Held → Val → Decide 𝓤 H A at-mem run .Ghost
+  abbrev to-decide : Loaded → Val → Decide 𝓤 H A at-mem run .Ghost
   to-decide h w = (((κ′, tt), (q′, tt), tt, (ledger, (h, (n, (sheet, tt)))), (ml ∷ [], (w ∷ [], (vint w32 n ∷ [], (s′ ∷ [], tt))))), tt)
 
-  goes-decide : (h : Held) (w : Val) → ent 𝓤 (⋆ 𝓤 H A (Lasting ∷ ‵ (fsep (L.the-row .own ledger (ml ∷ [])) (fsep (D.the-row .own h (w ∷ [])) Asked)) ∷ [])) (Decide 𝓤 H A at-mem run .pre (to-decide h w))
+  goes-decide : (h : Loaded) (w : Val) → ent 𝓤 (⋆ 𝓤 H A (Lasting ∷ ‵ (fsep (L.the-row .own ledger (ml ∷ [])) (fsep (D.the-row .own h (w ∷ [])) Asked)) ∷ [])) (Decide 𝓤 H A at-mem run .pre (to-decide h w))
   goes-decide h w = qed W (Lasting ∷ ‵ (fsep (L.the-row .own ledger (ml ∷ [])) (fsep (D.the-row .own h (w ∷ [])) Asked)) ∷ []) ∵ join ! $ frame ! $ done !
 
-  decided : (h : Held) (r : Admitting) → ent 𝓤 (ensured 𝓤 H A dc.ended (dc.clauses 𝓤 H A at-mem run) (κ′, tt) (ledger, (h, (n, (sheet, tt)))) tt r) (fact 𝓤 (r ≡ admittingOf ledger (heldRecords h) n (sheet .now)))
-  decided h r = exE 𝓤 _ (λ ws. snd∗ 𝓤 (sem 𝓤 H A (lasts dc.ended (κ′, tt) (ledger, (h, (n, (sheet, tt)))) ws)) (fact 𝓤 (r ≡ admittingOf ledger (heldRecords h) n (sheet .now))))
+  decided : (h : Loaded) (r : Admitting) → ent 𝓤 (ensured 𝓤 H A dc.ended (dc.clauses 𝓤 H A at-mem run) (κ′, tt) (ledger, (h, (n, (sheet, tt)))) tt r) (fact 𝓤 (r ≡ admittingOf ledger (loadedRecords h) n (sheet .now)))
+  decided h r = exE 𝓤 _ (λ ws. snd∗ 𝓤 (sem 𝓤 H A (lasts dc.ended (κ′, tt) (ledger, (h, (n, (sheet, tt)))) ws)) (fact 𝓤 (r ≡ admittingOf ledger (loadedRecords h) n (sheet .now))))
 
   -- what is decided, from the lent records
-  admits : (h : Held) (r : Admitting) → h ≡ heldOf ys → r ≡ admittingOf ledger (heldRecords h) n (sheet .now) → Admits ledger ys n (sheet .now) r
-  admits h r e₁ e₂ = admitted ledger ys n (sheet .now) r (e₂ ∙ ap (λ (k : Held). admittingOf ledger (heldRecords k) n (sheet .now)) e₁)
+  admits : (h : Loaded) (r : Admitting) → h ≡ loadedOf ys → r ≡ admittingOf ledger (loadedRecords h) n (sheet .now) → Admits ledger ys n (sheet .now) r
+  admits h r e₁ e₂ = admitted ledger ys n (sheet .now) r (e₂ ∙ ap (λ (k : Loaded). admittingOf ledger (loadedRecords k) n (sheet .now)) e₁)
 
-  module _ (C : Calls 𝓤 H) (Λ : Loops 𝓤 H) (fm : FmC 𝓤 H (W .laws) C) (known-load : Triple 𝓤 (C #load) (Load 𝓤 H A at-mem run)) (known-decide : Triple 𝓤 (C #decide) (Decide 𝓤 H A at-mem run)) (known-append : Triple 𝓤 (C #append) (Write AtPlace appended 𝓤 H A)) where
+  module _ (C : Calls 𝓤 H) (Λ : Loops 𝓤 H) (fm : FmC 𝓤 H (W .laws) C) (known-load : Triple 𝓤 (C #load) (Load 𝓤 H A at-mem run)) (known-decide : Triple 𝓤 (C #decide) (Decide 𝓤 H A at-mem run)) (known-append : Triple 𝓤 (C #append) (Write AtOperator appended 𝓤 H A)) where
     walk : Is L.the-row ledger (ml ∷ []) → Room T.the-row (length ys) → Is u32 n (vint w32 n ∷ []) → Room u8 (length (sheet .now))
         → ent 𝓤 (onEntry 𝓤 H A f.signature (κ, (κ′, tt)) (q, (q′, tt)) a vals) (WpFn 𝓤 H C Λ code.function (ml ∷ s ∷ vint w32 n ∷ s′ ∷ []) Post)
     walk ledger-is room number-is room′ =
@@ -152,7 +152,7 @@ module _ {M : Type 1} (𝓤 : URA M) (H : Heap 𝓤) (A : Atoms 𝓤) (W : Given
         move ! (0 ∷ 4 ∷ []) $ fjoin ! $ move ! (4 ∷ 0 ∷ []) $ fjoin ! $ move ! (3 ∷ 0 ∷ []) $ use2 W (raw (Decide 𝓤 H A at-mem run .pre (to-decide h w))) (goes-decide h w) $
         calls-at ! fm (Decide 𝓤 H A at-mem run) known-decide (to-decide h w) (and-then ! (load ! (from ! (stop !)) (look ! 27 refl)) (and-then ! (load ! (from ! (stop !)) (look ! 19 refl)) (and-then ! (load ! (from ! (stop !)) (look ! 23 refl)) (and-then ! (load ! (from ! (stop !)) (look ! 21 refl)) (no-more !))))) (λ w′.
         use1 W (later (some (λ (r : Admitting). (Lasting ⊛ ‵ (N.the-row .own r (w′ ∷ []))) ⊛ raw (ensured 𝓤 H A dc.ended (dc.clauses 𝓤 H A at-mem run) (κ′, tt) (ledger, (h, (n, (sheet, tt)))) tt r)))) (id⊢ 𝓤 _) $ await ! tt $ pick ! (λ r.
-        split ! $ move ! (1 ∷ []) $ use1 W (raw (fact 𝓤 (r ≡ admittingOf ledger (heldRecords h) n (sheet .now)))) (decided h r) $ heard ! (r ≡ admittingOf ledger (heldRecords h) n (sheet .now)) (λ e₂. split ! $ move ! (1 ∷ []) $
+        split ! $ move ! (1 ∷ []) $ use1 W (raw (fact 𝓤 (r ≡ admittingOf ledger (loadedRecords h) n (sheet .now)))) (decided h r) $ heard ! (r ≡ admittingOf ledger (loadedRecords h) n (sheet .now)) (λ e₂. split ! $ move ! (1 ∷ []) $
         peeks ! N.the-row (Is N.the-row) (shows 𝓤 H A N.the-row) r (w′ ∷ []) (λ ir. let parts = LL.owed N.the-type N′.the-laws r _ ir in let e = admits h r e₁ e₂ in
         land ! (from ! (stop !)) (init ! 18 refl (LL.lawful N.the-type N′.the-laws 𝓤 H A W .typed r _ ir .0)) $
         rewrite ! 18 (λ (u : Val). ‵ (fat fullShare N′.mir l₆ 0 u)) (ap only (LL.tells N.the-type N′.the-laws r (w′ ∷ []) ir)) refl $ drop ! $
@@ -161,7 +161,7 @@ module _ {M : Type 1} (𝓤 : URA M) (H : Heap 𝓤) (A : Atoms 𝓤) (W : Given
         assigns ! (of-opd ! (of-field ! 17 within 2 T′.mir 112 refl refl refl)) (from ! (stop !)) (init ! 13 refl (LL.lawful T.the-type T′.the-laws 𝓤 H A W .typed (r .entry) _ (parts .1 .1 .0) .0)) $
         assigns ! (addr ! (from ! (fld ! refl (hop ! (look-in ! 25 (sub ! 0 refl (whole !))) (stop !))))) (from ! (stop !)) (init ! 5 refl (tt, tt)) $
         assigns ! (agg ! (and-then ! (load ! (from ! (stop !)) (look ! 5 refl)) (and-then ! (load ! (from ! (fld ! refl (stop !))) (look-in ! 25 (sub ! 1 refl (whole !)))) (no-more !)))) (from ! (stop !)) (init ! 3 refl (tt, (tt, (record { fits = room .0 }, tt)))) $
-        move ! (2 ∷ 1 ∷ []) $ writes AtPlace appended 𝓤 H A W at-mem run κ q b o γ ys (r .at) (r .entry) fm known-append (e .1 .0) (parts .1 .0) (parts .1 .1 .0)
+        move ! (2 ∷ 1 ∷ []) $ writes AtOperator appended 𝓤 H A W at-mem run κ q b o γ ys (r .at) (r .entry) fm known-append (e .1 .0) (parts .1 .0) (parts .1 .1 .0)
         (and-then ! (load ! (from ! (stop !)) (look ! 2 refl)) (and-then ! (load ! (from ! (stop !)) (look ! 14 refl)) (and-then ! (load ! (from ! (stop !)) (look ! 12 refl)) (no-more !)))) (λ w″ zs fits e₃ l. land ! (from ! (stop !)) (init ! 7 refl fits) $
         -- [the records' token; the last list; the sheet's token; _13 (3); …; _6 (17); …; _0 (29); …]
         assigns ! (of-opd ! (of-field ! 17 within 0 S′.mir 0 refl refl refl)) (from ! (stop !)) (init ! 29 refl (LL.lawful S.the-type S′.the-laws 𝓤 H A W .typed (r .admission) _ (parts .0) .0)) $
@@ -172,7 +172,7 @@ module _ {M : Type 1} (𝓤 : URA M) (H : Heap 𝓤) (A : Atoms 𝓤) (W : Given
         by ! (exits (r .admission) _ zs (e .0, e₃ ∙ e .1 .1) l))))))))))))))))))))))
 
 module _ {M : Type 1} (𝓤 : URA M) (H : Heap 𝓤) (A : Atoms 𝓤) (W : Given 𝓤 H A) (at-mem : Memory → SProp 𝓤) (run : Routine → Fun 𝓤) (C : Calls 𝓤 H) (Λ : Loops 𝓤 H) where
-  walks : FmC 𝓤 H (W .laws) C → Triple 𝓤 (C #load) (Load 𝓤 H A at-mem run) → Triple 𝓤 (C #decide) (Decide 𝓤 H A at-mem run) → Triple 𝓤 (C #append) (Write AtPlace appended 𝓤 H A) → Walks 𝓤 H A f.ended stayed (WpFn 𝓤 H C Λ code.function) (f.clauses 𝓤 H A at-mem run)
+  walks : FmC 𝓤 H (W .laws) C → Triple 𝓤 (C #load) (Load 𝓤 H A at-mem run) → Triple 𝓤 (C #decide) (Decide 𝓤 H A at-mem run) → Triple 𝓤 (C #append) (Write AtOperator appended 𝓤 H A) → Walks 𝓤 H A f.ended stayed (WpFn 𝓤 H C Λ code.function) (f.clauses 𝓤 H A at-mem run)
   walks fm k₁ k₂ k₃ = walked 𝓤 H A f.ended stayed (f.clauses 𝓤 H A at-mem run) (WpFn 𝓤 H C Λ code.function)
       (λ κs. (LL.vals L.the-type L′.the-laws, (slice-vals, (uint-vals w32, (slice-vals, tt)))))
       (λ κs. (LL.tells L.the-type L′.the-laws, (mut-slice-tells (named 0) (κs .0) T.the-row, (uint-tells w32, (shr-slice-tells (named 1) (κs .1 .0) u8, tt)))))
@@ -180,7 +180,7 @@ module _ {M : Type 1} (𝓤 : URA M) (H : Heap 𝓤) (A : Atoms 𝓤) (W : Given
       (walk 𝓤 H A W at-mem run (κs .0) (κs .1 .0) (qs .0) (qs .1 .0) (a .1 .0 .ptr .0) (a .1 .0 .ptr .1) (a .1 .0 .name) (a .1 .0 .now) (a .0) (a .1 .1 .0) (a .1 .1 .1 .0) C Λ fm k₁ k₂ k₃ (are .0) (are .1 .0 .0 .1) (are .1 .1 .0) (are .1 .1 .1 .0 .0 .1)))
 
 meets : {M : Type 1} (𝓤 : URA M) (H : Heap 𝓤) (A : Atoms 𝓤) → Given 𝓤 H A → (at-mem : Memory → SProp 𝓤) (run : Routine → Fun 𝓤) (𝓣 : Tables 𝓤 H)
-    → Triple 𝓤 (𝓣 .C #load) (Load 𝓤 H A at-mem run) → Triple 𝓤 (𝓣 .C #decide) (Decide 𝓤 H A at-mem run) → Triple 𝓤 (𝓣 .C #append) (Write AtPlace appended 𝓤 H A)
+    → Triple 𝓤 (𝓣 .C #load) (Load 𝓤 H A at-mem run) → Triple 𝓤 (𝓣 .C #decide) (Decide 𝓤 H A at-mem run) → Triple 𝓤 (𝓣 .C #append) (Write AtOperator appended 𝓤 H A)
     → Meets 𝓤 H A f.signature (WpFn 𝓤 H (𝓣 .C) (𝓣 .Λ) code.function) (f.spec 𝓤 H A at-mem run)
 meets 𝓤 H A W at-mem run 𝓣 k₁ k₂ k₃ =
     walk-meets 𝓤 H A f.ended stayed W (
@@ -200,4 +200,4 @@ admit-spec 𝓤 H 𝓜 𝓖 𝓡 =
     (meets 𝓤 H (𝓖 .A) (givenOf 𝓤 H 𝓜 𝓖) (𝓜 .mem) (𝓡 .run) (tablesOf 𝓤 H 𝓜 (tables 𝓤 H 𝓜 𝓡 code.env))
     (cited 𝓤 H (Load 𝓤 H (𝓖 .A) (𝓜 .mem) (𝓡 .run)) 𝓜 𝓡 code.env #load ld-def.routine code.calls-ledger·records·load (ld-thm.met 𝓤 H 𝓜 𝓖 𝓡))
     (cited 𝓤 H (Decide 𝓤 H (𝓖 .A) (𝓜 .mem) (𝓡 .run)) 𝓜 𝓡 code.env #decide dc-def.routine code.calls-ledger·admission·decide (dc-thm.met 𝓤 H 𝓜 𝓖 𝓡))
-    (cited 𝓤 H (Write AtPlace appended 𝓤 H (𝓖 .A)) 𝓜 𝓡 code.env #append ad-def.routine code.calls-ledger·records·append (ad-thm.met 𝓤 H 𝓜 𝓖 𝓡)))
+    (cited 𝓤 H (Write AtOperator appended 𝓤 H (𝓖 .A)) 𝓜 𝓡 code.env #append ad-def.routine code.calls-ledger·records·append (ad-thm.met 𝓤 H 𝓜 𝓖 𝓡)))

@@ -5,12 +5,12 @@ use Prim.Native.Nat.{ℕ}
 use denote.Ref.{now}
 use borrow.Author.Needs.{needs}
 use Rattle.quantity.specs.Ranges.{inRange, pathNumberRange}
-use Rattle.sheet.specs.Sheets.{lineIn}
+use Rattle.sheet.specs.Sheets.{pathIn}
 use Rattle.sheet.specs.declared.read.Verdict.{Verdict}
 use Rattle.figures.specs.Answers.{figuresOf}
 use Rattle.figures.specs.declared.PathFigures.{PathFigures}
 use Rattle.ledger.specs.Ledgers.{ledgerUnusable}
-use Rattle.ledger.specs.Steps.{heldRecords, Decidable}
+use Rattle.ledger.specs.Steps.{loadedRecords, Decidable}
 use Rattle.ledger.proofs.Deciding.{number-inside, number-outside, tested-refuses}
 use Rattle.ledger.proofs.Admitting.{accepted-inside, accepted-path, accepted-delay, accepted-decidable, standing, admission-outside, admission-unusable, admission-refused, admission-standing}
 use Rattle.ledger.proofs.admission.decide.Statement.{statement}
@@ -31,10 +31,10 @@ checked : (c : tie.After-number) → (inRange pathNumberRange (start c .args .nu
 checked c = number-inside (start c .args .number) (c .before .before .checked .ensures) (c .number .given .1)
 
 -- whether the ledger can be used
-refuses : (c : tie.After-test) → let args = start (numbered c) .args in not (c .test .result .usable) ≡ ledgerUnusable (args .ledger) (heldRecords (args .held))
-refuses c = let args = start (numbered c) .args in tested-refuses (args .ledger) (heldRecords (args .held)) (c .test .ensures)
+refuses : (c : tie.After-test) → let args = start (numbered c) .args in not (c .test .result .usable) ≡ ledgerUnusable (args .ledger) (loadedRecords (args .held))
+refuses c = let args = start (numbered c) .args in tested-refuses (args .ledger) (loadedRecords (args .held)) (c .test .ensures)
 
-usable : (c : tie.Else1) → let args = start (numbered (tested c)) .args in ledgerUnusable (args .ledger) (heldRecords (args .held)) ≡ false
+usable : (c : tie.Else1) → let args = start (numbered (tested c)) .args in ledgerUnusable (args .ledger) (loadedRecords (args .held)) ≡ false
 usable c = sym (refuses (tested c)) ∙ c .if1 .left
 
 -- the verdict that was matched is that on the sheet's figures
@@ -46,7 +46,7 @@ required : (c : tie.After-delay) → let read = c .before .before .before .befor
 required c =
     let read = c .before .before .before .before in
     let args = start (numbered (tested (read .before))) .args in
-    accepted-decidable (now (args .sheet)) (judged read (c .before .before .enum-told2 .given .1)) (read .figures .ensures) (args .ledger) (heldRecords (args .held)) (usable (read .before))
+    accepted-decidable (now (args .sheet)) (judged read (c .before .before .enum-told2 .given .1)) (read .figures .ensures) (args .ledger) (loadedRecords (args .held)) (usable (read .before))
 
 checked-requires : tie.Need-checked-requires
 checked-requires c κs = search needs
@@ -71,7 +71,7 @@ returns c =
     let before = c .before .before .before in
     let args = start (numbered before) .args in
     c .refused2 .ensures
-    ∙ admission-unusable (args .ledger) (heldRecords (args .held)) (args .number) (now (args .sheet)) (checked (numbered before) .0) (sym (refuses before) ∙ c .before .if1 .taken)
+    ∙ admission-unusable (args .ledger) (loadedRecords (args .held)) (args .number) (now (args .sheet)) (checked (numbered before) .0) (sym (refuses before) ∙ c .before .if1 .taken)
 
 figures-requires : tie.Need-figures-requires
 figures-requires c κs = search needs
@@ -92,7 +92,7 @@ returns-2 : tie.Need-returns-2
 returns-2 c =
     let args = c .before .before .before .before .before .args in
     c .refused .ensures
-    ∙ admission-outside (args .ledger) (heldRecords (args .held)) (args .number) (now (args .sheet)) (number-outside (args .number) (c .before .before .before .checked .ensures) (c .before .enum-told .given .1))
+    ∙ admission-outside (args .ledger) (loadedRecords (args .held)) (args .number) (now (args .sheet)) (number-outside (args .number) (c .before .before .before .checked .ensures) (c .before .enum-told .given .1))
 
 returns-3 : tie.Need-returns-3
 returns-3 c =
@@ -100,19 +100,19 @@ returns-3 c =
     let before = tested (read .before) in
     let args = start (numbered before) .args in
     c .refused3 .ensures
-    ∙ admission-refused (args .ledger) (heldRecords (args .held)) (args .number) (now (args .sheet)) (checked (numbered before) .0) (usable (read .before)) (judged read (c .before .before .verdict .given .1))
+    ∙ admission-refused (args .ledger) (loadedRecords (args .held)) (args .number) (now (args .sheet)) (checked (numbered before) .0) (usable (read .before)) (judged read (c .before .before .verdict .given .1))
 
 returns-4 : tie.Need-returns-4
 returns-4 c =
     let read = c .before .before .before .before .before in
     let before = tested (read .before) in
     let args = start (numbered before) .args in
-    let records = heldRecords (args .held) in
+    let records = loadedRecords (args .held) in
     let sheet = now (args .sheet) in
     let accepted = judged read (c .before .before .before .enum-told2 .given .1) in
     let answered = read .figures .ensures in
-    c .decide-standing .ensures records (lineIn sheet) (usable (read .before)) (before .test .ensures) (accepted-inside sheet accepted answered) (accepted-path sheet accepted answered) (accepted-delay sheet accepted answered)
-    ∙ ap (λ (number : ℕ). standing (args .ledger) records number (lineIn sheet)) (checked (numbered before) .1)
+    c .decide-standing .ensures records (pathIn sheet) (usable (read .before)) (before .test .ensures) (accepted-inside sheet accepted answered) (accepted-path sheet accepted answered) (accepted-delay sheet accepted answered)
+    ∙ ap (λ (number : ℕ). standing (args .ledger) records number (pathIn sheet)) (checked (numbered before) .1)
     ∙ admission-standing (args .ledger) records (args .number) sheet (checked (numbered before) .0) (usable (read .before)) accepted
 
 pub decide-spec : {M : Type 1} → statement M

@@ -5,9 +5,9 @@ use mathlib.Core.List.{List}
 use native.Mathlib.Omega.{arith}
 use lib.ListN.{length, length-map}
 use borrow.Author.Needs.{needs}
-use Rattle.sheet.specs.Paths.{Line}
-use Rattle.sheet.specs.Forms.{valueIn}
-use Rattle.sheet.specs.Sheets.{lineInRange}
+use Rattle.sheet.specs.Paths.{Path}
+use Rattle.sheet.specs.Forms.{valueOfPath}
+use Rattle.sheet.specs.Sheets.{pathInRange}
 use Rattle.ledger.specs.declared.Record.{Record}
 use Rattle.ledger.specs.Records.{numberAt, placeAmong}
 use Rattle.ledger.specs.Ledgers.{recordCount, ledgerUnusable}
@@ -42,16 +42,16 @@ place : (c : tie.After-find) (records : List Record) → ledgerUnusable (start c
 place c records usable found = c .find .ensures ∙ place-found (start c .args .ledger) records found usable _
 
 -- the test of the links is that of the definition
-short : (c : tie.After-link-short) (records : List Record) (line : Line) →
+short : (c : tie.After-link-short) (records : List Record) (path : Path) →
     let args = start (sought (roomy c)) .args in
-    ledgerUnusable (args .ledger) records ≡ false → args .tested ≡ testedOf (args .ledger) records → lineInRange line ≡ true → args .path ≡ valueIn (args .path .form) line
-    → c .link-short .result ≡ linkShort (args .ledger) records line
-short c records line usable found inside same =
+    ledgerUnusable (args .ledger) records ≡ false → args .tested ≡ testedOf (args .ledger) records → pathInRange path ≡ true → args .path ≡ valueOfPath (args .path .form) path
+    → c .link-short .result ≡ linkShort (args .ledger) records path
+short c records path usable found inside same =
     let args = start (sought (roomy c)) .args in
     let named = c .before .before .before in
     c .link-short .ensures
-    ∙ named-short line (args .path) same (required (start (sought (roomy c))) .2) (named .links-named .ensures) (args .ledger) records usable found inside
-    (reserved-rate line (args .path) same (named .before .reserved-by .ensures))
+    ∙ named-short path (args .path) same (required (start (sought (roomy c))) .2) (named .links-named .ensures) (args .ledger) records usable found inside
+    (reserved-rate path (args .path) same (named .before .reserved-by .ensures))
 
 sub-find : tie.Need-sub-find
 sub-find c = search needs
@@ -69,19 +69,19 @@ refused-requires : tie.Need-refused-requires
 refused-requires c κs = search needs
 
 returns : tie.Need-returns
-returns c records line usable found inside same delayed =
+returns c records path usable found inside same delayed =
     let at = c .before .before in
     let args = start at .args in
-    c .refused .ensures ∙ standing-known (args .ledger) records (args .number .0) line (place at records usable found) (c .before .if1 .taken)
+    c .refused .ensures ∙ standing-known (args .ledger) records (args .number .0) path (place at records usable found) (c .before .if1 .taken)
 
 refused-requires-2 : tie.Need-refused-requires-2
 refused-requires-2 c κs = search needs
 
 returns-2 : tie.Need-returns-2
-returns-2 c records line usable found inside same delayed =
+returns-2 c records path usable found inside same delayed =
     let at = c .before .before .before in
     let args = start at .args in
-    c .refused2 .ensures ∙ standing-full (args .ledger) records (args .number .0) line (place at records usable found) (c .before .before .if1 .left) (c .before .if2 .taken)
+    c .refused2 .ensures ∙ standing-full (args .ledger) records (args .number .0) path (place at records usable found) (c .before .before .if1 .left) (c .before .if2 .taken)
 
 reserved-by-requires : tie.Need-reserved-by-requires
 reserved-by-requires c κs = required (start (sought (c .before))) .1
@@ -96,13 +96,13 @@ refused-requires-3 : tie.Need-refused-requires-3
 refused-requires-3 c κs = search needs
 
 returns-3 : tie.Need-returns-3
-returns-3 c records line usable found inside same delayed =
+returns-3 c records path usable found inside same delayed =
     let tested = c .before .before in
     let at = sought (roomy tested) in
     let args = start at .args in
     c .refused3 .ensures
-    ∙ standing-short (args .ledger) records (args .number .0) line (place at records usable found) (roomy tested .before .if1 .left) (roomy tested .if2 .left)
-    (sym (short tested records line usable found inside same) ∙ c .before .if3 .taken)
+    ∙ standing-short (args .ledger) records (args .number .0) path (place at records usable found) (roomy tested .before .if1 .left) (roomy tested .if2 .left)
+    (sym (short tested records path usable found inside same) ∙ c .before .if3 .taken)
 
 add-t14 : tie.Need-add-t14
 add-t14 c = omega (arith, required (start (sought (roomy (c .before)))) .0)
@@ -112,14 +112,14 @@ bits-of-requires c κs = search needs
 
 returns-4 : tie.Need-returns-4
 unfolding acceptedAdmitting acceptedAdmission recordOf
-returns-4 c records line usable found inside same delayed =
+returns-4 c records path usable found inside same delayed =
     let tested = c .before .before in
     let at = sought (roomy tested) in
     let args = start at .args in
     let named = tested .before .before .before in
-    rw (reserved-rate line (args .path) same (named .before .reserved-by .ensures), delayed, c .bits-of .ensures ∙ named-bits line (args .path) same (required (start at) .2) (named .links-named .ensures))
-    (standing-accepted (args .ledger) records (args .number .0) line (place at records usable found) (roomy tested .before .if1 .left) (roomy tested .if2 .left)
-    (sym (short tested records line usable found inside same) ∙ c .before .if3 .left))
+    rw (reserved-rate path (args .path) same (named .before .reserved-by .ensures), delayed, c .bits-of .ensures ∙ named-bits path (args .path) same (required (start at) .2) (named .links-named .ensures))
+    (standing-accepted (args .ledger) records (args .number .0) path (place at records usable found) (roomy tested .before .if1 .left) (roomy tested .if2 .left)
+    (sym (short tested records path usable found inside same) ∙ c .before .if3 .left))
 
 pub decide-standing-spec : {M : Type 1} → statement M
 decide-standing-spec =

@@ -98,10 +98,10 @@ module _ {M : Type 1} (𝓤 : URA M) (H : Heap 𝓤) (A : Atoms 𝓤) (W : Given
       feqI ! (List Val) (vunit ∷ []) (vunit ∷ []) refl $ done !
 
   -- where the loop stands: at the place or behind it, and at 63 at most where there is a place
-  abbrev Place : Type 0
-  Place = (j : ℕ) × ((n ≤ j) × (n < 64 → j < 64))
+  abbrev LinkedOperator : Type 0
+  LinkedOperator = (j : ℕ) × ((n ≤ j) × (n < 64 → j < 64))
 
-  abbrev Nearer : Place → Place → Type 0
+  abbrev Nearer : LinkedOperator → LinkedOperator → Type 0
   Nearer p p′ = 63 - p .0 < 63 - p′ .0
 
   module _ (𝓣 : Tables 𝓤 H) (room : Room T.the-row (length ys)) (g : Is T.the-row v (mach ∷ [])) (full : n < 64 → length ys ≡ 64) where
@@ -121,14 +121,14 @@ module _ {M : Type 1} (𝓤 : URA M) (H : Heap 𝓤) (A : Atoms 𝓤) (W : Given
           ∷ ‵ (froom tyBool l₅ 0) ∷ ‵ (fdies tyBool l₅) ∷ ‵ (fat fullShare (tyInt w64) l₄ 0 (vint w64 j)) ∷ ‵ (fdies (tyInt w64) l₄) ∷ ‵ (fat fullShare T′.mir l₃ 0 mach) ∷ ‵ (fdies T′.mir l₃)
           ∷ ‵ (fat fullShare (tyInt w64) l₂ 0 (vint w64 n)) ∷ ‵ (fdies (tyInt w64) l₂) ∷ ‵ (fat fullShare ref l₁ 0 s) ∷ ‵ (fdies ref l₁) ∷ ‵ (froom tyUnit l₀ 0) ∷ ‵ (fdies tyUnit l₀) ∷ []
 
-      abbrev Inv : Place → List (Item 𝓤)
+      abbrev Inv : LinkedOperator → List (Item 𝓤)
       Inv p = With (mixed (p .0) zs ys) (p .0)
 
       -- when the loop is left, the rest of the body runs
       abbrev Left : Kit.Post 𝓤 H
       Left = anyQ (afterBlock 𝓤 H (afterSeq 𝓤 H (Wp 𝓤 H (𝓣 .C) (𝓣 .Λ) E body.t-3 (atReturn 𝓤 H E Post)) (atReturn 𝓤 H E Post)))
 
-      abbrev Turn : Place → Kit.Post 𝓤 H
+      abbrev Turn : LinkedOperator → Kit.Post 𝓤 H
       Turn p = anyQ (afterTurn 𝓤 H (Below 𝓤 H A Nearer Inv p) (Kit.post 𝓤 H Left))
 
       -- both ways of the branch end with the records closed up
@@ -159,7 +159,7 @@ module _ {M : Type 1} (𝓤 : URA M) (H : Heap 𝓤) (A : Atoms 𝓤) (W : Given
           rewrite ! 0 (λ (ws : List Record). ‵ (row T.the-row fullShare ws b o)) (closed-still ys n v j (nltb→le n 64 h)) refl $ forget ! 6 refl $ leaves j)
 
       -- a turn that moves one record up
-      more : (p : Place) → ltb (p .0) 63 ≡ true → Sq W (Inv p) (runs (𝓣 .C) (𝓣 .Λ) E body.turn-1 (Turn p))
+      more : (p : LinkedOperator) → ltb (p .0) 63 ≡ true → Sq W (Inv p) (runs (𝓣 .C) (𝓣 .Λ) E body.turn-1 (Turn p))
       unfolding afterTurn
       more p e =
           assigns ! (bin ! (load ! (from ! (stop !)) (look ! 22 refl)) (lit ! tt) tt) (from ! (stop !)) (init ! 20 refl (tt, tt)) $
@@ -209,7 +209,7 @@ module _ {M : Type 1} (𝓤 : URA M) (H : Heap 𝓤) (A : Atoms 𝓤) (W : Given
           within = omega (arith, l, many)
 
       -- the turn that leaves the loop
-      ends : (p : Place) → ltb (p .0) 63 ≡ false → Sq W (Inv p) (runs (𝓣 .C) (𝓣 .Λ) E body.turn-1 (Turn p))
+      ends : (p : LinkedOperator) → ltb (p .0) 63 ≡ false → Sq W (Inv p) (runs (𝓣 .C) (𝓣 .Λ) E body.turn-1 (Turn p))
       unfolding afterTurn
       ends p e =
           assigns ! (bin ! (load ! (from ! (stop !)) (look ! 22 refl)) (lit ! tt) tt) (from ! (stop !)) (init ! 20 refl (tt, tt)) $
@@ -217,12 +217,12 @@ module _ {M : Type 1} (𝓤 : URA M) (H : Heap 𝓤) (A : Atoms 𝓤) (W : Given
           leaves-loop ! (load ! (from ! (stop !)) (look ! 20 refl)) $ exec ! (𝓣 .C) (𝓣 .Λ) E body.t-3 (atRet E Post) $
           forget ! 20 refl $ stores (p .0) (λ below. omega (arith, ltb-false (p .0) 63 e, p .1 .1 below))
 
-      turn-at : (p : Place) (t : Bool) → ltb (p .0) 63 ≡ t → Sq W (Inv p) (runs (𝓣 .C) (𝓣 .Λ) E body.turn-1 (Turn p))
+      turn-at : (p : LinkedOperator) (t : Bool) → ltb (p .0) 63 ≡ t → Sq W (Inv p) (runs (𝓣 .C) (𝓣 .Λ) E body.turn-1 (Turn p))
       turn-at p true e = more p e
       turn-at p false e = ends p e
 
-      walk-loop : (p : Place) → Sq W (Inv p) (runs (𝓣 .C) (𝓣 .Λ) E body.t-2 (atRet E Post))
-      walk-loop p = first ! $ blocks ! $ loops ! 𝓣 Nearer (InvImage·wf (λ (p′ : Place). 63 - p′ .0) (Nat·lt-wfRel .wf)) Inv (λ p′. turn-at p′ (ltb (p′ .0) 63) refl) p
+      walk-loop : (p : LinkedOperator) → Sq W (Inv p) (runs (𝓣 .C) (𝓣 .Λ) E body.t-2 (atRet E Post))
+      walk-loop p = first ! $ blocks ! $ loops ! 𝓣 Nearer (InvImage·wf (λ (p′ : LinkedOperator). 63 - p′ .0) (Nat·lt-wfRel .wf)) Inv (λ p′. turn-at p′ (ltb (p′ .0) 63) refl) p
 
     walk : n < 2 ^ 64 → ent 𝓤 (onEntry 𝓤 H A f.signature (κ, tt) (q, tt) a vals) (WpFn 𝓤 H (𝓣 .C) (𝓣 .Λ) code.function (s ∷ vint w64 n ∷ mach ∷ []) Post)
     walk n-fits =

@@ -44,15 +44,15 @@ use denote.Exit.{yes}
 use Rattle.quantity.proofs.PathNumber.Laws.{mir as pathNumber}
 use Rattle.quantity.proofs.Rate.Laws.{mir as rate}
 use Rattle.ledger.specs.declared.Record.{Record}
-use Rattle.ledger.specs.declared.records.Held.{Held}
+use Rattle.ledger.specs.declared.records.Loaded.{Loaded}
 use Rattle.ledger.specs.Records.{noRecord}
-use Rattle.ledger.specs.Steps.{heldOf}
+use Rattle.ledger.specs.Steps.{loadedOf}
 use Rattle.ledger.proofs.Rows.{mixed, mixed-step, mixed-long, mixed-all, local-row, row-local}
 use Rattle.ledger.proofs.Filling.{held-is, held-all, held-none, deaths, frees-all}
 use Rattle.ledger.proofs.Record as T
 use Rattle.ledger.proofs.Record.Laws as T′
-use Rattle.ledger.proofs.records.Held as N
-use Rattle.ledger.proofs.records.Held.Laws as N′
+use Rattle.ledger.proofs.records.Loaded as N
+use Rattle.ledger.proofs.records.Loaded.Laws as N′
 use Rattle.ledger.proofs.records.load.Key.{name as #ledger·records·load}
 use Rattle.ledger.proofs.records.load as f
 use Rattle.ledger.proofs.records.load.Statement as stated
@@ -88,7 +88,7 @@ ez = length-replicate 64 noRecord
 abbrev clear : Val
 clear = arrayVal (replicate 64 (only (vals₁ noRecord)))
 
-abbrev answer : Bool → List Record → Held
+abbrev answer : Bool → List Record → Loaded
 answer t l = record { sized = t; records = l }
 
 module _ {M : Type 1} (𝓤 : URA M) (H : Heap 𝓤) (A : Atoms 𝓤) (W : Given 𝓤 H A) (at-mem : Memory → SProp 𝓤) (run : Routine → Fun 𝓤) (κ : Lft) (q : Share) (b o : ℕ) (γ : GName) (ys : List Record) where
@@ -107,7 +107,7 @@ module _ {M : Type 1} (𝓤 : URA M) (H : Heap 𝓤) (A : Atoms 𝓤) (W : Given
   typed : (l : List Record) (v : Val) → Is (Array T.the-row 64) l (v ∷ []) → T (hasTy arr v) × WT v
   typed l v is = array-lawful 𝓤 H A W T.the-row (LL.lawful T.the-type T′.the-laws 𝓤 H A W) 64 .typed l _ is .0
 
-  exits : (r : Held) (w : Val) → r ≡ heldOf ys → ent 𝓤 (⋆ 𝓤 H A (‵ (flft κ q) ∷ ‵ (N.the-row .own r (w ∷ [])) ∷ [])) (Post w)
+  exits : (r : Loaded) (w : Val) → r ≡ loadedOf ys → ent 𝓤 (⋆ 𝓤 H A (‵ (flft κ q) ∷ ‵ (N.the-row .own r (w ∷ [])) ∷ [])) (Post w)
   exits r w e =
       qed W (‵ (flft κ q) ∷ ‵ (N.the-row .own r (w ∷ [])) ∷ []) ∵
       suffices ! _ (ends-at 𝓤 H A f.ended stayed (f.clauses 𝓤 H A at-mem run) W (((κ, tt), (q, tt), tt, a, vals), tt) w r (tt, tt) (tt, tt)) $ says ! e $

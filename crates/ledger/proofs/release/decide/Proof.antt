@@ -7,7 +7,7 @@ use Rattle.quantity.specs.Ranges.{inRange, pathNumberRange}
 use Rattle.ledger.specs.Records.{numberAt, placeAmong}
 use Rattle.ledger.specs.Ledgers.{ledgerUnusable}
 use Rattle.ledger.specs.Release.{acceptedRelease}
-use Rattle.ledger.specs.Steps.{heldRecords}
+use Rattle.ledger.specs.Steps.{loadedRecords}
 use Rattle.ledger.proofs.Deciding.{number-inside, number-outside, tested-refuses, numbers-whole, place-found, release-outside, release-unusable, release-unknown, place-below, release-stands}
 use Rattle.ledger.proofs.release.decide.Statement.{statement}
 use Rattle.ledger.proofs.release.decide.Tie as tie
@@ -30,20 +30,20 @@ checked : (c : tie.After-number) → (inRange pathNumberRange (start c .args .nu
 checked c = number-inside (start c .args .number) (c .before .before .checked .ensures) (c .number .given .1)
 
 -- whether the ledger can be used
-refuses : (c : tie.After-test) → let args = start (numbered c) .args in not (c .test .result .usable) ≡ ledgerUnusable (args .ledger) (heldRecords (args .held))
-refuses c = let args = start (numbered c) .args in tested-refuses (args .ledger) (heldRecords (args .held)) (c .test .ensures)
+refuses : (c : tie.After-test) → let args = start (numbered c) .args in not (c .test .result .usable) ≡ ledgerUnusable (args .ledger) (loadedRecords (args .held))
+refuses c = let args = start (numbered c) .args in tested-refuses (args .ledger) (loadedRecords (args .held)) (c .test .ensures)
 
-usable : (c : tie.Else1) → let args = start (numbered (tested c)) .args in ledgerUnusable (args .ledger) (heldRecords (args .held)) ≡ false
+usable : (c : tie.Else1) → let args = start (numbered (tested c)) .args in ledgerUnusable (args .ledger) (loadedRecords (args .held)) ≡ false
 usable c = sym (refuses (tested c)) ∙ c .if1 .left
 
 -- the place that was found
 place : (c : tie.After-find) →
     let args = start (numbered (tested (passed c))) .args in
-    c .find .result ≡ placeAmong (numberAt (heldRecords (args .held))) (args .ledger .count) (args .number)
+    c .find .result ≡ placeAmong (numberAt (loadedRecords (args .held))) (args .ledger .count) (args .number)
 place c =
     let before = tested (passed c) in
     let args = start (numbered before) .args in
-    let records = heldRecords (args .held) in
+    let records = loadedRecords (args .held) in
     c .find .ensures
     ∙ place-found (args .ledger) records (before .test .ensures) (usable (passed c)) _
     ∙ ap (placeAmong (numberAt records) (args .ledger .count)) (checked (numbered before) .1)
@@ -71,7 +71,7 @@ returns c =
     let before = c .before .before .before in
     let args = start (numbered before) .args in
     c .refused2 .ensures
-    ∙ release-unusable (args .ledger) (heldRecords (args .held)) (args .number) (checked (numbered before) .0) (sym (refuses before) ∙ c .before .if1 .taken)
+    ∙ release-unusable (args .ledger) (loadedRecords (args .held)) (args .number) (checked (numbered before) .0) (sym (refuses before) ∙ c .before .if1 .taken)
 
 sub-find : tie.Need-sub-find
 sub-find c = search needs
@@ -83,7 +83,7 @@ part-find-end : tie.Need-part-find-end
 part-find-end c =
     let before = tested (c .before .before) in
     let args = start (numbered before) .args in
-    numbers-whole (args .ledger) (heldRecords (args .held)) (before .test .ensures) (usable (c .before .before))
+    numbers-whole (args .ledger) (loadedRecords (args .held)) (before .test .ensures) (usable (c .before .before))
 
 find-requires : tie.Need-find-requires
 find-requires c κs = search needs
@@ -96,13 +96,13 @@ returns-2 c =
     let found = c .before .before in
     let args = start (numbered (tested (passed found))) .args in
     c .refused3 .ensures
-    ∙ release-unknown (args .ledger) (heldRecords (args .held)) (args .number) (checked (numbered (tested (passed found))) .0) (usable (passed found)) (place found) (c .before .if2 .taken)
+    ∙ release-unknown (args .ledger) (loadedRecords (args .held)) (args .number) (checked (numbered (tested (passed found))) .0) (usable (passed found)) (place found) (c .before .if2 .taken)
 
 sub-t19 : tie.Need-sub-t19
 sub-t19 c =
     let found = c .before .before in
     let args = start (numbered (tested (passed found))) .args in
-    omega (arith, place-below (args .ledger) (heldRecords (args .held)) (args .number) (checked (numbered (tested (passed found))) .0) (usable (passed found)) (place found) (c .before .if2 .left))
+    omega (arith, place-below (args .ledger) (loadedRecords (args .held)) (args .number) (checked (numbered (tested (passed found))) .0) (usable (passed found)) (place found) (c .before .if2 .left))
 
 no-record-requires : tie.Need-no-record-requires
 no-record-requires c κs = search needs
@@ -111,7 +111,7 @@ returns-3 : tie.Need-returns-3
 returns-3 c =
     let args = c .before .before .before .before .args in
     c .refused .ensures
-    ∙ release-outside (args .ledger) (heldRecords (args .held)) (args .number) (number-outside (args .number) (c .before .before .before .checked .ensures) (c .before .enum-told .given .1))
+    ∙ release-outside (args .ledger) (loadedRecords (args .held)) (args .number) (number-outside (args .number) (c .before .before .before .checked .ensures) (c .before .enum-told .given .1))
 
 returns-4 : tie.Need-returns-4
 unfolding acceptedRelease
@@ -119,7 +119,7 @@ returns-4 c =
     let found = c .before .before .before in
     let args = start (numbered (tested (passed found))) .args in
     rw (c .no-record .ensures)
-    (release-stands (args .ledger) (heldRecords (args .held)) (args .number) (checked (numbered (tested (passed found))) .0) (usable (passed found)) (place found) (c .before .before .if2 .left))
+    (release-stands (args .ledger) (loadedRecords (args .held)) (args .number) (checked (numbered (tested (passed found))) .0) (usable (passed found)) (place found) (c .before .before .if2 .left))
 
 pub decide-spec : {M : Type 1} → statement M
 decide-spec =

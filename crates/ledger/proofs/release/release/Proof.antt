@@ -37,23 +37,23 @@ use denote.Triple.Table.{entered, cited}
 use denote.Triple.Walked.{says, Stays, gave-slice, stay-dropped, walkOf, goes-gave-slice, goes-dropped, Walks, ends-at, walked, walk-meets}
 use denote.Exit.{yes}
 use Rattle.ledger.specs.Release.{closedUp, releasedOf, recordsReleased}
-use Rattle.ledger.specs.Steps.{heldOf, heldRecords, releasingOf}
+use Rattle.ledger.specs.Steps.{loadedOf, loadedRecords, releasingOf}
 use Rattle.ledger.specs.declared.Record.{Record}
 use Rattle.ledger.specs.declared.Ledger.{Ledger}
-use Rattle.ledger.specs.declared.records.Held.{Held}
+use Rattle.ledger.specs.declared.records.Loaded.{Loaded}
 use Rattle.ledger.specs.declared.release.Released.{Released}
 use Rattle.ledger.specs.declared.release.Releasing.{Releasing}
 use Rattle.ledger.proofs.Fields.{of-field}
 use Rattle.ledger.proofs.Lent.{Releases, released}
 use Rattle.ledger.proofs.Passing.{Load}
 use Rattle.ledger.proofs.Loading.{loads-lent}
-use Rattle.ledger.proofs.Writing.{Write, writes, AtPlace}
+use Rattle.ledger.proofs.Writing.{Write, writes, AtOperator}
 use Rattle.ledger.proofs.Record as T
 use Rattle.ledger.proofs.Record.Laws as T′
 use Rattle.ledger.proofs.Ledger as L
 use Rattle.ledger.proofs.Ledger.Laws as L′
-use Rattle.ledger.proofs.records.Held as D
-use Rattle.ledger.proofs.records.Held.Laws as D′
+use Rattle.ledger.proofs.records.Loaded as D
+use Rattle.ledger.proofs.records.Loaded.Laws as D′
 use Rattle.ledger.proofs.release.Released as S
 use Rattle.ledger.proofs.release.Released.Laws as S′
 use Rattle.ledger.proofs.release.Releasing as N
@@ -110,20 +110,20 @@ module _ {M : Type 1} (𝓤 : URA M) (H : Heap 𝓤) (A : Atoms 𝓤) (W : Given
       frame ! $ nothing ! $ nothing ! $ fjoin ! $ move ! (1 ∷ 0 ∷ []) $ fjoin ! $ nothing ! $ fjoin ! $ frame ! $ done !
 
   -- ---- `decide`, over values
-  abbrev to-decide : Held → Val → Decide 𝓤 H A at-mem run .Ghost
+  abbrev to-decide : Loaded → Val → Decide 𝓤 H A at-mem run .Ghost
   to-decide h w = ((tt, tt, tt, (ledger, (h, (n, tt))), (ml ∷ [], (w ∷ [], (vint w32 n ∷ [], tt)))), tt)
 
-  goes-decide : (h : Held) (w : Val) → ent 𝓤 (sem 𝓤 H A (owns (L.the-row ∷ D.the-row ∷ u32 ∷ []) (ledger, (h, (n, tt))) (ml ∷ [], (w ∷ [], (vint w32 n ∷ [], tt))))) (Decide 𝓤 H A at-mem run .pre (to-decide h w))
+  goes-decide : (h : Loaded) (w : Val) → ent 𝓤 (sem 𝓤 H A (owns (L.the-row ∷ D.the-row ∷ u32 ∷ []) (ledger, (h, (n, tt))) (ml ∷ [], (w ∷ [], (vint w32 n ∷ [], tt))))) (Decide 𝓤 H A at-mem run .pre (to-decide h w))
   goes-decide h w = qed W (‵ (owns (L.the-row ∷ D.the-row ∷ u32 ∷ []) (ledger, (h, (n, tt))) (ml ∷ [], (w ∷ [], (vint w32 n ∷ [], tt)))) ∷ []) ∵ nothing ! $ join ! $ frame ! $ done !
 
-  decided : (h : Held) (r : Releasing) → ent 𝓤 (ensured 𝓤 H A de.ended (de.clauses 𝓤 H A at-mem run) tt (ledger, (h, (n, tt))) tt r) (fact 𝓤 (r ≡ releasingOf ledger (heldRecords h) n))
-  decided h r = exE 𝓤 _ (λ ws. snd∗ 𝓤 (sem 𝓤 H A (lasts de.ended tt (ledger, (h, (n, tt))) ws)) (fact 𝓤 (r ≡ releasingOf ledger (heldRecords h) n)))
+  decided : (h : Loaded) (r : Releasing) → ent 𝓤 (ensured 𝓤 H A de.ended (de.clauses 𝓤 H A at-mem run) tt (ledger, (h, (n, tt))) tt r) (fact 𝓤 (r ≡ releasingOf ledger (loadedRecords h) n))
+  decided h r = exE 𝓤 _ (λ ws. snd∗ 𝓤 (sem 𝓤 H A (lasts de.ended tt (ledger, (h, (n, tt))) ws)) (fact 𝓤 (r ≡ releasingOf ledger (loadedRecords h) n)))
 
   -- what is decided, from the lent records
-  releases : (h : Held) (r : Releasing) → h ≡ heldOf ys → r ≡ releasingOf ledger (heldRecords h) n → Releases ledger ys n r
-  releases h r e₁ e₂ = released ledger ys n r (e₂ ∙ ap (λ (k : Held). releasingOf ledger (heldRecords k) n) e₁)
+  releases : (h : Loaded) (r : Releasing) → h ≡ loadedOf ys → r ≡ releasingOf ledger (loadedRecords h) n → Releases ledger ys n r
+  releases h r e₁ e₂ = released ledger ys n r (e₂ ∙ ap (λ (k : Loaded). releasingOf ledger (loadedRecords k) n) e₁)
 
-  module _ (C : Calls 𝓤 H) (Λ : Loops 𝓤 H) (fm : FmC 𝓤 H (W .laws) C) (known-load : Triple 𝓤 (C #load) (Load 𝓤 H A at-mem run)) (known-decide : Triple 𝓤 (C #decide) (Decide 𝓤 H A at-mem run)) (known-close : Triple 𝓤 (C #close-up) (Write AtPlace closedUp 𝓤 H A)) where
+  module _ (C : Calls 𝓤 H) (Λ : Loops 𝓤 H) (fm : FmC 𝓤 H (W .laws) C) (known-load : Triple 𝓤 (C #load) (Load 𝓤 H A at-mem run)) (known-decide : Triple 𝓤 (C #decide) (Decide 𝓤 H A at-mem run)) (known-close : Triple 𝓤 (C #close-up) (Write AtOperator closedUp 𝓤 H A)) where
     walk : Room T.the-row (length ys) → Is L.the-row ledger (ml ∷ []) → n < 2 ^ 32 → ent 𝓤 (onEntry 𝓤 H A f.signature (κ, tt) (q, tt) a vals) (WpFn 𝓤 H C Λ code.function (ml ∷ s ∷ vint w32 n ∷ []) Post)
     walk room il n-fits =
         qed W ((‵ (flft κ q) ⊛ ‵ ftrue) ∷ ‵ (owns (L.the-row ∷ MutSlice (named 0) κ T.the-row ∷ u32 ∷ []) a vals) ∷ []) ∵ enter ! C Λ code.function (ml ∷ s ∷ vint w32 n ∷ []) _ $
@@ -140,7 +140,7 @@ module _ {M : Type 1} (𝓤 : URA M) (H : Heap 𝓤) (A : Atoms 𝓤) (W : Given
         move ! (0 ∷ 3 ∷ []) $ fjoin ! $ move ! (3 ∷ 0 ∷ []) $ fjoin ! $ use1 W (raw (Decide 𝓤 H A at-mem run .pre (to-decide h w))) (goes-decide h w) $
         calls-at ! fm (Decide 𝓤 H A at-mem run) known-decide (to-decide h w) (and-then ! (load ! (from ! (stop !)) (look ! 25 refl)) (and-then ! (load ! (from ! (stop !)) (look ! 19 refl)) (and-then ! (load ! (from ! (stop !)) (look ! 21 refl)) (no-more !)))) (λ w′.
         use1 W (later (some (λ (r : Releasing). (‵ ftrue ⊛ ‵ (N.the-row .own r (w′ ∷ []))) ⊛ raw (ensured 𝓤 H A de.ended (de.clauses 𝓤 H A at-mem run) tt (ledger, (h, (n, tt))) tt r)))) (id⊢ 𝓤 _) $ await ! tt $ pick ! (λ r.
-        split ! $ move ! (1 ∷ []) $ use1 W (raw (fact 𝓤 (r ≡ releasingOf ledger (heldRecords h) n))) (decided h r) $ heard ! (r ≡ releasingOf ledger (heldRecords h) n) (λ e₂. split ! $ drop ! $
+        split ! $ move ! (1 ∷ []) $ use1 W (raw (fact 𝓤 (r ≡ releasingOf ledger (loadedRecords h) n))) (decided h r) $ heard ! (r ≡ releasingOf ledger (loadedRecords h) n) (λ e₂. split ! $ drop ! $
         peeks ! N.the-row (Is N.the-row) (shows 𝓤 H A N.the-row) r (w′ ∷ []) (λ ir. let parts = LL.owed N.the-type N′.the-laws r _ ir in let e = releases h r e₁ e₂ in
         land ! (from ! (stop !)) (init ! 17 refl (LL.lawful N.the-type N′.the-laws 𝓤 H A W .typed r _ ir .0)) $
         rewrite ! 17 (λ (u : Val). ‵ (fat fullShare N′.mir l₅ 0 u)) (ap only (LL.tells N.the-type N′.the-laws r (w′ ∷ []) ir)) refl $ drop ! $
@@ -150,7 +150,7 @@ module _ {M : Type 1} (𝓤 : URA M) (H : Heap 𝓤) (A : Atoms 𝓤) (W : Given
         assigns ! (addr ! (from ! (fld ! refl (hop ! (look-in ! 22 (sub ! 0 refl (whole !))) (stop !))))) (from ! (stop !)) (init ! 4 refl (tt, tt)) $
         assigns ! (agg ! (and-then ! (load ! (from ! (stop !)) (look ! 4 refl)) (and-then ! (load ! (from ! (fld ! refl (stop !))) (look-in ! 22 (sub ! 1 refl (whole !)))) (no-more !)))) (from ! (stop !)) (init ! 2 refl (tt, (tt, (record { fits = room .0 }, tt)))) $
         move ! (1 ∷ 0 ∷ []) $
-        writes AtPlace closedUp 𝓤 H A W at-mem run κ q b o γ ys (r .at) (r .last) fm known-close (e .1 .0) (parts .1 .0) (parts .1 .1 .0)
+        writes AtOperator closedUp 𝓤 H A W at-mem run κ q b o γ ys (r .at) (r .last) fm known-close (e .1 .0) (parts .1 .0) (parts .1 .1 .0)
         (and-then ! (load ! (from ! (stop !)) (look ! 1 refl)) (and-then ! (load ! (from ! (stop !)) (look ! 13 refl)) (and-then ! (load ! (from ! (stop !)) (look ! 11 refl)) (no-more !)))) (λ w″ zs nothing-is e₃ l.
         -- [the token; the last list; _12 (2); …; _10 (6); …; _5 (16); …]
         land ! (from ! (stop !)) (init ! 6 refl nothing-is) $
@@ -162,14 +162,14 @@ module _ {M : Type 1} (𝓤 : URA M) (H : Heap 𝓤) (A : Atoms 𝓤) (W : Given
         by ! (exits (r .released) _ zs (e .0, e₃ ∙ e .1 .1) l)))))))))))))))))))))
 
 module _ {M : Type 1} (𝓤 : URA M) (H : Heap 𝓤) (A : Atoms 𝓤) (W : Given 𝓤 H A) (at-mem : Memory → SProp 𝓤) (run : Routine → Fun 𝓤) (C : Calls 𝓤 H) (Λ : Loops 𝓤 H) where
-  walks : FmC 𝓤 H (W .laws) C → Triple 𝓤 (C #load) (Load 𝓤 H A at-mem run) → Triple 𝓤 (C #decide) (Decide 𝓤 H A at-mem run) → Triple 𝓤 (C #close-up) (Write AtPlace closedUp 𝓤 H A) → Walks 𝓤 H A f.ended stayed (WpFn 𝓤 H C Λ code.function) (f.clauses 𝓤 H A at-mem run)
+  walks : FmC 𝓤 H (W .laws) C → Triple 𝓤 (C #load) (Load 𝓤 H A at-mem run) → Triple 𝓤 (C #decide) (Decide 𝓤 H A at-mem run) → Triple 𝓤 (C #close-up) (Write AtOperator closedUp 𝓤 H A) → Walks 𝓤 H A f.ended stayed (WpFn 𝓤 H C Λ code.function) (f.clauses 𝓤 H A at-mem run)
   walks fm k₁ k₂ k₃ = walked 𝓤 H A f.ended stayed (f.clauses 𝓤 H A at-mem run) (WpFn 𝓤 H C Λ code.function)
       (λ κs. (LL.vals L.the-type L′.the-laws, (slice-vals, (uint-vals w32, tt)))) (λ κs. (LL.tells L.the-type L′.the-laws, (mut-slice-tells (named 0) (κs .0) T.the-row, (uint-tells w32, tt))))
       (λ κs qs bounds a g are. via 𝓤 _ (fst∗ 𝓤 _ (emp 𝓤))
       (walk 𝓤 H A W at-mem run (κs .0) (qs .0) (a .0) (a .1 .0 .ptr .0) (a .1 .0 .ptr .1) (a .1 .0 .name) (a .1 .0 .now) (a .1 .1 .0) C Λ fm k₁ k₂ k₃ (are .1 .0 .0 .1) (are .0) (are .1 .1 .0 .1)))
 
 meets : {M : Type 1} (𝓤 : URA M) (H : Heap 𝓤) (A : Atoms 𝓤) → Given 𝓤 H A → (at-mem : Memory → SProp 𝓤) (run : Routine → Fun 𝓤) (𝓣 : Tables 𝓤 H)
-    → Triple 𝓤 (𝓣 .C #load) (Load 𝓤 H A at-mem run) → Triple 𝓤 (𝓣 .C #decide) (Decide 𝓤 H A at-mem run) → Triple 𝓤 (𝓣 .C #close-up) (Write AtPlace closedUp 𝓤 H A)
+    → Triple 𝓤 (𝓣 .C #load) (Load 𝓤 H A at-mem run) → Triple 𝓤 (𝓣 .C #decide) (Decide 𝓤 H A at-mem run) → Triple 𝓤 (𝓣 .C #close-up) (Write AtOperator closedUp 𝓤 H A)
     → Meets 𝓤 H A f.signature (WpFn 𝓤 H (𝓣 .C) (𝓣 .Λ) code.function) (f.spec 𝓤 H A at-mem run)
 meets 𝓤 H A W at-mem run 𝓣 k₁ k₂ k₃ =
     walk-meets 𝓤 H A f.ended stayed W
@@ -184,4 +184,4 @@ release-spec 𝓤 H 𝓜 𝓖 𝓡 =
     (meets 𝓤 H (𝓖 .A) (givenOf 𝓤 H 𝓜 𝓖) (𝓜 .mem) (𝓡 .run) (tablesOf 𝓤 H 𝓜 (tables 𝓤 H 𝓜 𝓡 code.env))
     (cited 𝓤 H (Load 𝓤 H (𝓖 .A) (𝓜 .mem) (𝓡 .run)) 𝓜 𝓡 code.env #load ld-def.routine code.calls-ledger·records·load (ld-thm.met 𝓤 H 𝓜 𝓖 𝓡))
     (cited 𝓤 H (Decide 𝓤 H (𝓖 .A) (𝓜 .mem) (𝓡 .run)) 𝓜 𝓡 code.env #decide de-def.routine code.calls-ledger·release·decide (de-thm.met 𝓤 H 𝓜 𝓖 𝓡))
-    (cited 𝓤 H (Write AtPlace closedUp 𝓤 H (𝓖 .A)) 𝓜 𝓡 code.env #close-up cl-def.routine code.calls-ledger·records·close-up (cl-thm.met 𝓤 H 𝓜 𝓖 𝓡)))
+    (cited 𝓤 H (Write AtOperator closedUp 𝓤 H (𝓖 .A)) 𝓜 𝓡 code.env #close-up cl-def.routine code.calls-ledger·records·close-up (cl-thm.met 𝓤 H 𝓜 𝓖 𝓡)))

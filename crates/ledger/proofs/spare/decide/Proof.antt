@@ -8,7 +8,7 @@ use Rattle.quantity.specs.Ranges.{inRange, linkRange}
 use Rattle.quantity.proofs.Laws.{le-largest}
 use Rattle.ledger.specs.Ledgers.{linkCount, ledgerUnusable}
 use Rattle.ledger.specs.Spare.{spareOf}
-use Rattle.ledger.specs.Steps.{heldRecords}
+use Rattle.ledger.specs.Steps.{loadedRecords}
 use Rattle.ledger.proofs.Deciding.{link-inside, link-outside, tested-refuses, spare-unusable, spare-outside, spare-fits, spare-found}
 use Rattle.ledger.proofs.spare.decide.Statement.{statement}
 use Rattle.ledger.proofs.spare.decide.Tie as tie
@@ -24,10 +24,10 @@ abbrev linked : tie.After-struct-known5 → tie.After-link
 linked c = c .before .before .before .before .before .before .before .before .before
 
 -- whether the ledger can be used
-refuses : (c : tie.After-test) → let args = c .before .args in not (c .test .result .usable) ≡ ledgerUnusable (args .ledger) (heldRecords (args .held))
-refuses c = let args = c .before .args in tested-refuses (args .ledger) (heldRecords (args .held)) (c .test .ensures)
+refuses : (c : tie.After-test) → let args = c .before .args in not (c .test .result .usable) ≡ ledgerUnusable (args .ledger) (loadedRecords (args .held))
+refuses c = let args = c .before .args in tested-refuses (args .ledger) (loadedRecords (args .held)) (c .test .ensures)
 
-usable : (c : tie.Else1) → let args = tested c .before .args in ledgerUnusable (args .ledger) (heldRecords (args .held)) ≡ false
+usable : (c : tie.Else1) → let args = tested c .before .args in ledgerUnusable (args .ledger) (loadedRecords (args .held)) ≡ false
 usable c = sym (refuses (tested c)) ∙ c .if1 .left
 
 -- the link that was checked
@@ -50,7 +50,7 @@ returns : tie.Need-returns
 returns c =
     let before = c .before .before .before in
     let args = before .before .args in
-    c .refused .ensures ∙ spare-unusable (args .ledger) (heldRecords (args .held)) (args .link) (sym (refuses before) ∙ c .before .if1 .taken)
+    c .refused .ensures ∙ spare-unusable (args .ledger) (loadedRecords (args .held)) (args .link) (sym (refuses before) ∙ c .before .if1 .taken)
 
 checked-requires : tie.Need-checked-requires
 checked-requires c κs = search needs
@@ -86,20 +86,20 @@ sub-t24 : tie.Need-sub-t24
 sub-t24 c =
     let before = tested (passed (linked c)) in
     let args = before .before .args in
-    spare-fits (args .ledger) (heldRecords (args .held)) _ (usable (passed (linked c))) (before .test .ensures) (inside (linked c))
+    spare-fits (args .ledger) (loadedRecords (args .held)) _ (usable (passed (linked c))) (before .test .ensures) (inside (linked c))
 
 returns-2 : tie.Need-returns-2
 returns-2 c =
     let before = c .before .before .before in
     let args = tested (before .before) .before .args in
     c .refused2 .ensures
-    ∙ spare-outside (args .ledger) (heldRecords (args .held)) (args .link) (usable (before .before)) (link-outside (args .link) (before .checked .ensures) (c .before .enum-told .given .1))
+    ∙ spare-outside (args .ledger) (loadedRecords (args .held)) (args .link) (usable (before .before)) (link-outside (args .link) (before .checked .ensures) (c .before .enum-told .given .1))
 
 returns-3 : tie.Need-returns-3
 returns-3 c =
     let before = tested (passed (linked c)) in
     let args = before .before .args in
-    let records = heldRecords (args .held) in
+    let records = loadedRecords (args .held) in
     spare-found (args .ledger) records _ (usable (passed (linked c))) (before .test .ensures) (inside (linked c)) ∙ ap (spareOf (args .ledger) records) (checked (linked c) .1)
 
 pub decide-spec : {M : Type 1} → statement M

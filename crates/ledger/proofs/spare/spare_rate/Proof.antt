@@ -35,10 +35,10 @@ use denote.Triple.Table.{entered, cited}
 use denote.Triple.Walked.{says, Stays, stay-dropped, walkOf, goes-dropped, Walks, ends-at, walked, walk-meets}
 use denote.Exit.{yes}
 use Rattle.ledger.specs.Spare.{spareOf}
-use Rattle.ledger.specs.Steps.{heldRecords}
+use Rattle.ledger.specs.Steps.{loadedRecords}
 use Rattle.ledger.specs.declared.Record.{Record}
 use Rattle.ledger.specs.declared.Ledger.{Ledger}
-use Rattle.ledger.specs.declared.records.Held.{Held}
+use Rattle.ledger.specs.declared.records.Loaded.{Loaded}
 use Rattle.ledger.specs.declared.spare.Spare.{Spare}
 use Rattle.ledger.proofs.Lent.{spare-held}
 use Rattle.ledger.proofs.Passing.{Load}
@@ -46,8 +46,8 @@ use Rattle.ledger.proofs.Loading.{loads}
 use Rattle.ledger.proofs.Record as T
 use Rattle.ledger.proofs.Ledger as L
 use Rattle.ledger.proofs.Ledger.Laws as L′
-use Rattle.ledger.proofs.records.Held as D
-use Rattle.ledger.proofs.records.Held.Laws as D′
+use Rattle.ledger.proofs.records.Loaded as D
+use Rattle.ledger.proofs.records.Loaded.Laws as D′
 use Rattle.ledger.proofs.spare.Spare as S
 use Rattle.ledger.proofs.spare.Spare.Laws as S′
 use Rattle.ledger.proofs.records.load.Symbol as ld-def
@@ -94,14 +94,14 @@ module _ {M : Type 1} (𝓤 : URA M) (H : Heap 𝓤) (A : Atoms 𝓤) (W : Given
       nothing ! $ move ! (1 ∷ 0 ∷ []) $ join ! $ frame ! $ nothing ! $ nothing ! $ fjoin ! $ nothing ! $ fjoin ! $ nothing ! $ fjoin ! $ frame ! $ done !
 
   -- ---- `decide`, over values
-  abbrev to-decide : Held → Val → Decide 𝓤 H A at-mem run .Ghost
+  abbrev to-decide : Loaded → Val → Decide 𝓤 H A at-mem run .Ghost
   to-decide h w = ((tt, tt, tt, (ledger, (h, (n, tt))), (ml ∷ [], (w ∷ [], (vint w32 n ∷ [], tt)))), tt)
 
-  goes-decide : (h : Held) (w : Val) → ent 𝓤 (sem 𝓤 H A (owns (L.the-row ∷ D.the-row ∷ u32 ∷ []) (ledger, (h, (n, tt))) (ml ∷ [], (w ∷ [], (vint w32 n ∷ [], tt))))) (Decide 𝓤 H A at-mem run .pre (to-decide h w))
+  goes-decide : (h : Loaded) (w : Val) → ent 𝓤 (sem 𝓤 H A (owns (L.the-row ∷ D.the-row ∷ u32 ∷ []) (ledger, (h, (n, tt))) (ml ∷ [], (w ∷ [], (vint w32 n ∷ [], tt))))) (Decide 𝓤 H A at-mem run .pre (to-decide h w))
   goes-decide h w = qed W (‵ (owns (L.the-row ∷ D.the-row ∷ u32 ∷ []) (ledger, (h, (n, tt))) (ml ∷ [], (w ∷ [], (vint w32 n ∷ [], tt)))) ∷ []) ∵ nothing ! $ join ! $ frame ! $ done !
 
-  decided : (h : Held) (r : Spare) → ent 𝓤 (ensured 𝓤 H A de.ended (de.clauses 𝓤 H A at-mem run) tt (ledger, (h, (n, tt))) tt r) (fact 𝓤 (r ≡ spareOf ledger (heldRecords h) n))
-  decided h r = exE 𝓤 _ (λ ws. snd∗ 𝓤 (sem 𝓤 H A (lasts de.ended tt (ledger, (h, (n, tt))) ws)) (fact 𝓤 (r ≡ spareOf ledger (heldRecords h) n)))
+  decided : (h : Loaded) (r : Spare) → ent 𝓤 (ensured 𝓤 H A de.ended (de.clauses 𝓤 H A at-mem run) tt (ledger, (h, (n, tt))) tt r) (fact 𝓤 (r ≡ spareOf ledger (loadedRecords h) n))
+  decided h r = exE 𝓤 _ (λ ws. snd∗ 𝓤 (sem 𝓤 H A (lasts de.ended tt (ledger, (h, (n, tt))) ws)) (fact 𝓤 (r ≡ spareOf ledger (loadedRecords h) n)))
 
   module _ (C : Calls 𝓤 H) (Λ : Loops 𝓤 H) (fm : FmC 𝓤 H (W .laws) C) (known-load : Triple 𝓤 (C #load) (Load 𝓤 H A at-mem run)) (known-decide : Triple 𝓤 (C #decide) (Decide 𝓤 H A at-mem run)) where
     walk : Room T.the-row (length ys) → Is L.the-row ledger (ml ∷ []) → n < 2 ^ 32 → ent 𝓤 (onEntry 𝓤 H A f.signature (κ, tt) (q, tt) a vals) (WpFn 𝓤 H C Λ code.function (ml ∷ s ∷ vint w32 n ∷ []) Post)
@@ -118,11 +118,11 @@ module _ {M : Type 1} (𝓤 : URA M) (H : Heap 𝓤) (A : Atoms 𝓤) (W : Given
         move ! (0 ∷ 2 ∷ []) $ fjoin ! $ move ! (2 ∷ 0 ∷ []) $ fjoin ! $ use1 W (raw (Decide 𝓤 H A at-mem run .pre (to-decide h w))) (goes-decide h w) $
         calls-at ! fm (Decide 𝓤 H A at-mem run) known-decide (to-decide h w) (and-then ! (load ! (from ! (stop !)) (look ! 8 refl)) (and-then ! (load ! (from ! (stop !)) (look ! 2 refl)) (and-then ! (load ! (from ! (stop !)) (look ! 4 refl)) (no-more !)))) (λ w′.
         use1 W (later (some (λ (r : Spare). (‵ ftrue ⊛ ‵ (S.the-row .own r (w′ ∷ []))) ⊛ raw (ensured 𝓤 H A de.ended (de.clauses 𝓤 H A at-mem run) tt (ledger, (h, (n, tt))) tt r)))) (id⊢ 𝓤 _) $ await ! tt $ pick ! (λ r.
-        split ! $ move ! (1 ∷ []) $ use1 W (raw (fact 𝓤 (r ≡ spareOf ledger (heldRecords h) n))) (decided h r) $ heard ! (r ≡ spareOf ledger (heldRecords h) n) (λ e₂. split ! $ drop ! $
+        split ! $ move ! (1 ∷ []) $ use1 W (raw (fact 𝓤 (r ≡ spareOf ledger (loadedRecords h) n))) (decided h r) $ heard ! (r ≡ spareOf ledger (loadedRecords h) n) (λ e₂. split ! $ drop ! $
         peeks ! S.the-row (Is S.the-row) (shows 𝓤 H A S.the-row) r (w′ ∷ []) (λ ir. land ! (from ! (stop !)) (init ! 10 refl (LL.lawful S.the-type S′.the-laws 𝓤 H A W .typed r _ ir .0)) $
         returns ! (look ! 10 refl) $ forget ! 2 refl $ forget ! 4 refl $ forget ! 6 refl $ forget ! 8 refl $ forget ! 10 refl $
         move ! (10 ∷ 11 ∷ []) $ free1 ! $ move ! (8 ∷ 9 ∷ []) $ free1 ! $ move ! (6 ∷ 7 ∷ []) $ free1 ! $ move ! (4 ∷ 5 ∷ []) $ free1 ! $ move ! (2 ∷ 3 ∷ []) $ free1 ! $ free0 ! $
-        keep ! (1 ∷ 0 ∷ []) $ by ! (exits r w′ (e₂ ∙ ap (λ (k : Held). spareOf ledger (heldRecords k) n) e₁ ∙ spare-held ledger ys n)))))))))))))
+        keep ! (1 ∷ 0 ∷ []) $ by ! (exits r w′ (e₂ ∙ ap (λ (k : Loaded). spareOf ledger (loadedRecords k) n) e₁ ∙ spare-held ledger ys n)))))))))))))
 
 module _ {M : Type 1} (𝓤 : URA M) (H : Heap 𝓤) (A : Atoms 𝓤) (W : Given 𝓤 H A) (at-mem : Memory → SProp 𝓤) (run : Routine → Fun 𝓤) (C : Calls 𝓤 H) (Λ : Loops 𝓤 H) where
   walks : FmC 𝓤 H (W .laws) C → Triple 𝓤 (C #load) (Load 𝓤 H A at-mem run) → Triple 𝓤 (C #decide) (Decide 𝓤 H A at-mem run) → Walks 𝓤 H A f.ended stayed (WpFn 𝓤 H C Λ code.function) (f.clauses 𝓤 H A at-mem run)

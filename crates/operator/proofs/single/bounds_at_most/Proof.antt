@@ -5,7 +5,7 @@ use Prim.Native.Nat.{ℕ, _+_}
 use native.Mathlib.Omega.{arith}
 use borrow.Author.Tests.{not-true, not-false}
 use Rattle.operator.specs.Operators.{numberInRange}
-use Rattle.operator.specs.Single.{heldIn, unusable}
+use Rattle.operator.specs.Single.{holds, unusable}
 use Rattle.operator.proofs.SingleLaws.{Usable, stored-holds, stored-is-unusable, unusable-above, unusable-stored, none-unusable, bounds-unusable, bounds-outside, bounds-outputs, least-held, b-le, beside-le}
 use borrow.Author.Needs.{needs}
 use Rattle.operator.proofs.single.bounds_at_most.Statement.{statement}
@@ -13,7 +13,7 @@ use Rattle.operator.proofs.single.bounds_at_most.Tie as tie
 
 found : (c : tie.After-held) →
     let start = c .before .before .before .before .before .before .args in
-    Usable (start .state) (start .words .now) × (c .held .given .0 .0 .0 ≡ heldIn (start .state) (start .words .now) .b)
+    Usable (start .state) (start .words .now) × (c .held .given .0 .0 .0 ≡ holds (start .state) (start .words .now) .b)
 found c = stored-holds _ _ (sym (c .held .given .1) ∙ c .before .before .stored-in .ensures)
 
 passed : (c : tie.After-held) →

@@ -6,7 +6,7 @@ use lib.ListN.{length}
 use borrow.Author.Tests.{not-true, not-false}
 use Rattle.quantity.specs.Choice.{anyOf}
 use Rattle.operator.specs.Operators.{numberInRange}
-use Rattle.operator.specs.Single.{wordCount, heldIn}
+use Rattle.operator.specs.Single.{wordCount, holds}
 use Rattle.words.proofs.StoredLaws.{Fit, fit, unfitTests}
 use Rattle.operator.proofs.SingleLaws.{used-within}
 use Rattle.operator.proofs.WithinLaws.{kept-unusable, kept-outside, kept-newest}
@@ -57,7 +57,7 @@ same-length : tie.Need-same-length
 same-length c = search needs
 
 returns-3 : tie.Need-returns-3
-unfolding heldIn
+unfolding holds
 returns-3 c =
     let written = c .before .before .before .before .keep-newest in
     let used = c .before .before .before .before .before .words-used .ensures in

@@ -9,22 +9,22 @@ use Rattle.run.proofs.opening.new_run.Statement.{statement}
 use Rattle.run.proofs.opening.new_run.Tie as tie
 
 abbrev Inv-loop : tie.InvT-loop
-Inv-loop path places stages₀ k₀ stages k = Staged places stages k
+Inv-loop value operators stages₀ k₀ stages k = Staged operators stages k
 
 abbrev μ-loop : tie.MeasureT-loop
-μ-loop path places stages₀ k₀ stages k = mostOperators - k
+μ-loop value operators stages₀ k₀ stages k = mostOperators - k
 
 no-stage-requires : tie.Need-no-stage-requires Inv-loop μ-loop
 no-stage-requires c κs = search needs
 
 loop-holds : tie.Need-loop-holds Inv-loop μ-loop
-loop-holds c = staged-first (c .before .before .args .path .places)
+loop-holds c = staged-first (c .before .before .args .path .operators)
 
-mul-place : tie.Need-mul-place Inv-loop μ-loop
-mul-place c = omega arith
+mul-linked : tie.Need-mul-linked Inv-loop μ-loop
+mul-linked c = omega arith
 
-array-copy-out-place : tie.Need-array-copy-out-place Inv-loop μ-loop
-array-copy-out-place c = omega arith
+array-copy-out-linked : tie.Need-array-copy-out-linked Inv-loop μ-loop
+array-copy-out-linked c = omega arith
 
 mul-stages : tie.Need-mul-stages Inv-loop μ-loop
 mul-stages c = omega arith
@@ -41,13 +41,13 @@ loop-less c = omega arith
 loop-again : tie.Need-loop-again Inv-loop μ-loop
 loop-again c =
     let at = c .before .before in
-    staged-next (at .before .before .before .args .path .places) (at .loop .inv) (c .before .loop-test .taken)
+    staged-next (at .before .before .before .args .path .operators) (at .loop .inv) (c .before .loop-test .taken)
 
 returns : tie.Need-returns Inv-loop μ-loop
-returns c line few same =
+returns c path few same =
     let at = c .before .before in
     let ends : at .loop .k ≡ mostOperators = omega (arith, at .loop .inv .few) in
-    staged-run line (at .before .before .before .args .path) same (rw ends at (at .loop .inv))
+    staged-run path (at .before .before .before .args .path) same (rw ends at (at .loop .inv))
 
 pub new-run-spec : {M : Type 1} → statement M
 new-run-spec =
@@ -57,8 +57,8 @@ new-run-spec =
     μ-loop
     no-stage-requires
     loop-holds
-    mul-place
-    array-copy-out-place
+    mul-linked
+    array-copy-out-linked
     mul-stages
     array-set-from-stages
     add-k

@@ -2,7 +2,7 @@
 use mathlib.Core.Path.{_≡_, sym, ap, _∙_}
 use denote.Ref.{now}
 use Rattle.sheet.specs.declared.read.Verdict.{Verdict}
-use Rattle.sheet.specs.Sheets.{lineIn}
+use Rattle.sheet.specs.Sheets.{pathIn}
 use Rattle.figures.specs.declared.PathFigures.{PathFigures}
 use Rattle.figures.specs.Answers.{figuresOf}
 use Rattle.run.specs.declared.Run.{Run}
@@ -59,8 +59,8 @@ returns-3 c =
     let start = read .before .before .before .before in
     let sheet = now (start .args .sheet) in
     let accepted = judged read (cleared .before .before .enum-told .given .1) in
-    let path = accepted-path sheet accepted (read .figures .ensures) in
-    let new = c .new-run .ensures (lineIn sheet) (accepted-few sheet accepted) path in
+    let value = accepted-path sheet accepted (read .figures .ensures) in
+    let new = c .new-run .ensures (pathIn sheet) (accepted-few sheet accepted) value in
     let (answer, after) = opening-accepted sheet (now (start .args .words)) (read .before .if1 .left) accepted in
     (ap (λ (run : Run). record { verdict = Verdict.Accepted; run = run }) new ∙ answer, cleared .clear .ensures ∙ after)
 

@@ -44,7 +44,7 @@ cast-result c =
     let house = c .before .before .before .args .house in
     let pre = c .before .before .before .pre in
     rw (c .before .before .product .ensures, c .before .product2 .ensures, c .product3 .ensures)
-    (omega (arith, slots-le (house .own .0) (house .longest .0) (house .rate .0) (house .carrying .0) (pre .2) (pre .4)))
+    (omega (arith, slots-le (house .«own_packet» .0) (house .«longest_packet» .0) (house .rate .0) (house .«link_rate» .0) (pre .2) (pre .4)))
 
 returns : tie.Need-returns
 unfolding delayerSlots roundUp

@@ -20,7 +20,7 @@ in-range-requires-2 : tie.Need-in-range-requires-2
 in-range-requires-2 c κs = search needs
 
 -- L, then X, then C is in its range
-own : (c : tie.Else1) → inRange packetRange (c .before .before .before .before .before .args .house .own .0) ≡ true
+own : (c : tie.Else1) → inRange packetRange (c .before .before .before .before .before .args .house .«own_packet» .0) ≡ true
 own c = passed (c .before .in-range .ensures) (c .if1 .left)
 
 returns-2 : tie.Need-returns-2
@@ -30,14 +30,14 @@ returns-2 c = rw (own (c .before .before), failed (c .before .in-range2 .ensures
 in-range-requires-3 : tie.Need-in-range-requires-3
 in-range-requires-3 c κs = search needs
 
-longest : (c : tie.Else2) → inRange packetRange (c .before .before .before .before .before .before .before .args .house .longest .0) ≡ true
+longest : (c : tie.Else2) → inRange packetRange (c .before .before .before .before .before .before .before .args .house .«longest_packet» .0) ≡ true
 longest c = passed (c .before .in-range2 .ensures) (c .if2 .left)
 
 returns-3 : tie.Need-returns-3
 unfolding packetsInRange
 returns-3 c = rw (own (c .before .before .before .before), longest (c .before .before), failed (c .before .in-range3 .ensures) (c .if3 .taken))
 
-carrying : (c : tie.Else3) → inRange rateRange (c .before .before .before .before .before .before .before .before .before .args .house .carrying .0) ≡ true
+carrying : (c : tie.Else3) → inRange rateRange (c .before .before .before .before .before .before .before .before .before .args .house .«link_rate» .0) ≡ true
 carrying c = passed (c .before .in-range3 .ensures) (c .if3 .left)
 
 delayer-slots-requires : tie.Need-delayer-slots-requires

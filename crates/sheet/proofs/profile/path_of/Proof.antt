@@ -1,4 +1,4 @@
--- The invariant: the first k operators are stored, and the places behind them are empty.
+-- The invariant: the first k operators are stored, and the operators behind them are empty.
 use borrow.Author.Needs.{needs}
 use Prim.Native.Nat.{_-_, _*_, _≤_}
 use mathlib.Core.Path.{_≡_}
@@ -8,19 +8,19 @@ use native.Mathlib.Omega.{arith}
 use lib.ListN.{length, take, replicate}
 use Rattle.quantity.specs.Sums.{listOf}
 use Rattle.quantity.proofs.Sums.{length-listOf}
-use Rattle.sheet.specs.Paths.{noPlace}
-use Rattle.sheet.specs.House.{hopLength, housePlace, houseLine}
+use Rattle.sheet.specs.Paths.{noLinkedOperator}
+use Rattle.sheet.specs.House.{hopLength, houseOperator, housePath}
 use Rattle.sheet.specs.Forms.{houseValue}
 use Rattle.sheet.proofs.Filling.{filled-next}
-use Rattle.sheet.proofs.HouseLaws.{house-few, length-housePlaces}
+use Rattle.sheet.proofs.HouseLaws.{house-few, length-houseOperators}
 use Rattle.sheet.proofs.profile.path_of.Statement.{statement}
 use Rattle.sheet.proofs.profile.path_of.Tie as tie
 
 abbrev Inv-loop : tie.InvT-loop
-Inv-loop house interval quota wanted count places₀ k₀ places k = (count ≤ 15) × (k ≤ count) × (places ≡ take 16 (listOf (housePlace house) k ++ replicate 16 noPlace))
+Inv-loop house interval quota wanted count places₀ k₀ operators k = (count ≤ 15) × (k ≤ count) × (operators ≡ take 16 (listOf (houseOperator house) k ++ replicate 16 noLinkedOperator))
 
 abbrev μ-loop : tie.MeasureT-loop
-μ-loop house interval quota wanted count places₀ k₀ places k = count - k
+μ-loop house interval quota wanted count places₀ k₀ operators k = count - k
 
 cast-count : tie.Need-cast-count Inv-loop μ-loop
 cast-count c = search needs
@@ -29,8 +29,8 @@ hop-length-requires : tie.Need-hop-length-requires Inv-loop μ-loop
 hop-length-requires c κs = search needs
 
 -- how many operators there are
-counted : (c : tie.After-hop-length Inv-loop μ-loop) → let house = c .before .before .before .before .before .before .args .house in length (houseLine house .places) ≡ house .hops .0 * c .hop-length .result
-counted c = let house = c .before .before .before .before .before .before .args .house in rw (c .hop-length .ensures) (length-housePlaces house)
+counted : (c : tie.After-hop-length Inv-loop μ-loop) → let house = c .before .before .before .before .before .before .args .house in length (housePath house .operators) ≡ house .hops .0 * c .hop-length .result
+counted c = let house = c .before .before .before .before .before .before .args .house in rw (c .hop-length .ensures) (length-houseOperators house)
 
 few : (c : tie.After-hop-length Inv-loop μ-loop) → c .before .before .before .before .before .before .args .house .hops .0 * c .hop-length .result ≤ 15
 few c = let start = c .before .before .before .before .before .before in rw (counted c) at (house-few (start .args .house) (start .pre))
@@ -47,14 +47,14 @@ loop-holds c =
     let sized = c .before .before in
     (few sized, omega arith, rw (c .before .no-path .ensures))
 
-house-place-requires : tie.Need-house-place-requires Inv-loop μ-loop
-house-place-requires c κs = search needs
+house-operator-requires : tie.Need-house-operator-requires Inv-loop μ-loop
+house-operator-requires c κs = search needs
 
-mul-places : tie.Need-mul-places Inv-loop μ-loop
-mul-places c = omega arith
+mul-operators : tie.Need-mul-operators Inv-loop μ-loop
+mul-operators c = omega arith
 
-array-set-from-places : tie.Need-array-set-from-places Inv-loop μ-loop
-array-set-from-places c = omega arith
+array-set-from-operators : tie.Need-array-set-from-operators Inv-loop μ-loop
+array-set-from-operators c = omega arith
 
 add-k : tie.Need-add-k Inv-loop μ-loop
 add-k c = omega arith
@@ -68,17 +68,17 @@ loop-again c =
     let at-loop = c .before .before in
     let house = at-loop .before .before .before .before .before .before .before .before .before .args .house in
     let k = at-loop .loop .k in
-    let stored = filled-next noPlace 16 (listOf (housePlace house) k) (housePlace house k) k (length-listOf (housePlace house) k) (omega arith) in
-    (omega arith, omega arith, rw (c .house-place .ensures, at-loop .loop .inv .2, add-one) stored)
+    let stored = filled-next noLinkedOperator 16 (listOf (houseOperator house) k) (houseOperator house k) k (length-listOf (houseOperator house) k) (omega arith) in
+    (omega arith, omega arith, rw (c .house-operator .ensures, at-loop .loop .inv .2, add-one) stored)
 
 returns : tie.Need-returns Inv-loop μ-loop
-unfolding houseValue houseLine
+unfolding houseValue housePath
 returns c =
     let sized = c .before .before .before .before in
     let house = sized .before .before .before .before .before .before .args .house in
     let done : c .before .loop .k ≡ house .hops .0 * hopLength house = rw (← sized .hop-length .ensures) (omega arith) in
-    let places = rw done at (c .before .loop .inv .2) in
-    rw (← counted sized, places)
+    let operators = rw done at (c .before .loop .inv .2) in
+    rw (← counted sized, operators)
 
 pub path-of-spec : {M : Type 1} → statement M
 path-of-spec =
@@ -91,9 +91,9 @@ path-of-spec =
     mul-count
     no-path-requires
     loop-holds
-    house-place-requires
-    mul-places
-    array-set-from-places
+    house-operator-requires
+    mul-operators
+    array-set-from-operators
     add-k
     loop-less
     loop-again

@@ -53,9 +53,9 @@ read c =
       interval = record { 0 = c .before .before .before .before .before .before .number-at2 .result };
       quota = record { 0 = c .before .before .before .before .before .number-at3 .result };
       rate = record { 0 = c .before .before .before .before .number-at4 .result };
-      own = record { 0 = c .before .before .before .number-at5 .result };
-      longest = record { 0 = c .before .before .number-at6 .result };
-      carrying = record { 0 = c .before .number-at7 .result };
+      «own_packet» = record { 0 = c .before .before .before .number-at5 .result };
+      «longest_packet» = record { 0 = c .before .before .number-at6 .result };
+      «link_rate» = record { 0 = c .before .number-at7 .result };
     }
 
 same : (c : tie.After-in-range) → read c ≡ houseIn (now (c .before .before .before .before .before .before .before .before .before .before .before .before .args .body))

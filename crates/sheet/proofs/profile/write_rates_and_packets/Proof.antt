@@ -29,9 +29,9 @@ returns c =
     let a = c .before .before .before .before .before .before .before .before .before .before .before .before .before .before .before .before .before .args in
     let sheet = now (a .sheet) in
     let rate = bytesOf 4 (a .house .rate .0) in
-    let own = bytesOf 2 (a .house .own .0) in
-    let longest = bytesOf 2 (a .house .longest .0) in
-    let carrying = bytesOf 2 (a .house .carrying .0) in
+    let own = bytesOf 2 (a .house .«own_packet» .0) in
+    let longest = bytesOf 2 (a .house .«longest_packet» .0) in
+    let carrying = bytesOf 2 (a .house .«link_rate» .0) in
     let to-own = run-behind sheet 15 19 rate own (c .before .before .before .before .before .before .before .before .before .before .before .before .before .before .write-number .ensures) (c .before .before .before .before .before .before .before .before .before .before .write-number2 .ensures) refl in
     let to-longest = run-behind sheet 15 21 (rate ++ own) longest to-own (c .before .before .before .before .before .before .write-number3 .ensures) refl in
     run-behind sheet 15 23 (rate ++ own ++ longest) carrying to-longest (c .before .before .write-number4 .ensures) refl

@@ -4,20 +4,20 @@ use mathlib.Core.Path.{_≡_, refl}
 use borrow.Author.Needs.{needs}
 use native.Mathlib.Omega.{arith}
 use denote.Ref.{now}
-use Rattle.sheet.specs.Numbers.{numberOf}
+use Rattle.sheet.specs.Numbers.{valueOfBytes}
 use Rattle.sheet.specs.Bodies.{part}
 use Rattle.sheet.proofs.ReadLaws.{number-next, power-small, power-next}
 use Rattle.sheet.proofs.read.number_at.Statement.{statement}
 use Rattle.sheet.proofs.read.number_at.Tie as tie
 
 abbrev Inv-loop : tie.InvT-loop
-Inv-loop bytes at width value₀ k₀ value k = (k ≤ width) × (value < 256 ^ k) × (value ≡ numberOf (part at k bytes))
+Inv-loop bytes at width value₀ k₀ value k = (k ≤ width) × (value < 256 ^ k) × (value ≡ valueOfBytes (part at k bytes))
 
 abbrev μ-loop : tie.MeasureT-loop
 μ-loop bytes at width value₀ k₀ value k = width - k
 
 loop-holds : tie.Need-loop-holds Inv-loop μ-loop
-unfolding numberOf part
+unfolding valueOfBytes part
 loop-holds c = (search needs, search needs, refl)
 
 mul-value : tie.Need-mul-value Inv-loop μ-loop

@@ -10,29 +10,29 @@ use denote.Ref.{now}
 use lib.ListN.{length, set}
 use Rattle.quantity.specs.Choice.{pick}
 use Rattle.quantity.proofs.Laws.{pick-true}
-use Rattle.sheet.specs.Bodies.{placeIn, placeFits}
+use Rattle.sheet.specs.Bodies.{operatorIn, operatorFits}
 use Rattle.sheet.specs.Fields.{bodyAt}
-use Rattle.sheet.specs.Sheets.{placesAt, readFields}
-use Rattle.sheet.specs.declared.read.ReadPlace.{ReadPlace}
+use Rattle.sheet.specs.Sheets.{operatorsAt, readFields}
+use Rattle.sheet.specs.declared.read.ReadOperator.{ReadOperator}
 use Rattle.sheet.proofs.AnswerLaws.{tells}
 use Rattle.sheet.proofs.ReadLaws.{field-inside, handed-body, handed-length}
 use Rattle.sheet.proofs.HeadRead.{head-answer}
-use Rattle.sheet.proofs.PlacesRead.{dueAt, Reading, Passed, reached-rest, reading-first, header-refuses, body-refuses, operator-passes, reading-next, end-refuses, end-accepts}
+use Rattle.sheet.proofs.OperatorsRead.{dueAt, Reading, Passed, reached-rest, reading-first, header-refuses, body-refuses, operator-passes, reading-next, end-refuses, end-accepts}
 use Rattle.sheet.proofs.read.read_fields.Statement.{statement}
 use Rattle.sheet.proofs.read.read_fields.Tie as tie
 
 abbrev Inv-loop : tie.InvT-loop
-Inv-loop sheet places₀ count₀ head at₀ places count at = Reading sheet (head .declaration) (head .wanted) places count at
+Inv-loop sheet places₀ count₀ head at₀ operators count at = Reading sheet (head .declaration) (head .wanted) operators count at
 
 abbrev μ-loop : tie.MeasureT-loop
-μ-loop sheet places₀ count₀ head at₀ places count at = 16 - count
+μ-loop sheet places₀ count₀ head at₀ operators count at = 16 - count
 
-abbrev found : ReadPlace → Bool
-found (ReadPlace.Fits place) = true
-found ReadPlace.OutOfRange = false
+abbrev found : ReadOperator → Bool
+found (ReadOperator.Fits linked) = true
+found ReadOperator.OutOfRange = false
 
-no-place-requires : tie.Need-no-place-requires Inv-loop μ-loop
-no-place-requires c κs = search needs
+no-linked-operator-requires : tie.Need-no-linked-operator-requires Inv-loop μ-loop
+no-linked-operator-requires c κs = search needs
 
 read-head-requires : tie.Need-read-head-requires Inv-loop μ-loop
 read-head-requires c κs = search needs
@@ -41,7 +41,7 @@ enum-known-why : tie.Need-enum-known-why Inv-loop μ-loop
 enum-known-why c = search needs
 
 refused-requires : tie.Need-refused-requires Inv-loop μ-loop
-refused-requires c κs = (omega arith, rw (c .before .before .before .before .no-place .ensures))
+refused-requires c κs = (omega arith, rw (c .before .before .before .before .no-linked-operator .ensures))
 
 returns : tie.Need-returns Inv-loop μ-loop
 returns c = c .refused .ensures ∙ sym (head-answer (now (c .before .before .before .before .before .before .before .args .sheet)) (c .before .before .before .before .read-head .ensures) (c .before .before .why .given .1))
@@ -50,11 +50,11 @@ enum-known-head : tie.Need-enum-known-head Inv-loop μ-loop
 enum-known-head c = search needs
 
 loop-holds : tie.Need-loop-holds Inv-loop μ-loop
-loop-holds c = rw (c .before .before .before .before .no-place .ensures) (reading-first (now (c .before .before .before .before .before .before .args .sheet)) _ _)
+loop-holds c = rw (c .before .before .before .before .no-linked-operator .ensures) (reading-first (now (c .before .before .before .before .before .before .args .sheet)) _ _)
 
 -- the first two fields pass, and the operators decide
 decided : (c : tie.At-loop Inv-loop μ-loop)
-    → let sheet = now (c .before .before .before .before .before .before .before .args .sheet) in readFields sheet ≡ dueAt sheet (c .before .before .head .given .0 .0 .declaration) (c .before .before .head .given .0 .0 .wanted) 15 placesAt
+    → let sheet = now (c .before .before .before .before .before .before .before .args .sheet) in readFields sheet ≡ dueAt sheet (c .before .before .head .given .0 .0 .declaration) (c .before .before .head .given .0 .0 .wanted) 15 operatorsAt
 decided c = head-answer (now (c .before .before .before .before .before .before .before .args .sheet)) (c .before .before .before .before .read-head .ensures) (c .before .before .head .given .1)
 
 field-at-requires : tie.Need-field-at-requires Inv-loop μ-loop
@@ -85,25 +85,25 @@ add-start c = omega (arith, c .before .before .before .loop .inv .few, c .before
 add-end : tie.Need-add-end Inv-loop μ-loop
 add-end c = omega (arith, c .before .before .before .loop .inv .few, c .before .before .before .loop .inv .begins)
 
-sub-read-place : tie.Need-sub-read-place Inv-loop μ-loop
-sub-read-place c = omega arith
+sub-read-operator : tie.Need-sub-read-operator Inv-loop μ-loop
+sub-read-operator c = omega arith
 
-part-read-place-start : tie.Need-part-read-place-start Inv-loop μ-loop
-part-read-place-start c = omega arith
+part-read-operator-start : tie.Need-part-read-operator-start Inv-loop μ-loop
+part-read-operator-start c = omega arith
 
-part-read-place-end : tie.Need-part-read-place-end Inv-loop μ-loop
-part-read-place-end c = omega (arith, inside c)
+part-read-operator-end : tie.Need-part-read-operator-end Inv-loop μ-loop
+part-read-operator-end c = omega (arith, inside c)
 
-read-place-requires : tie.Need-read-place-requires Inv-loop μ-loop
-read-place-requires c κs = handed-length _ _ 6 (inside (c .before))
+read-operator-requires : tie.Need-read-operator-requires Inv-loop μ-loop
+read-operator-requires c κs = handed-length _ _ 6 (inside (c .before))
 
 -- what the reader answers of the body
-answered : (c : tie.After-read-place Inv-loop μ-loop)
-    → let body = bodyAt (now (c .before .before .before .before .before .before .before .before .before .before .before .before .args .sheet)) (c .before .before .before .before .before .loop .at) 6 in c .read-place .result ≡ pick (placeFits body) (ReadPlace.Fits (placeIn body)) ReadPlace.OutOfRange
-answered c = rw (handed-body (now (c .before .before .before .before .before .before .before .before .before .before .before .before .args .sheet)) (c .before .before .before .before .before .loop .at) 6) at (c .read-place .ensures)
+answered : (c : tie.After-read-operator Inv-loop μ-loop)
+    → let body = bodyAt (now (c .before .before .before .before .before .before .before .before .before .before .before .before .args .sheet)) (c .before .before .before .before .before .loop .at) 6 in c .read-operator .result ≡ pick (operatorFits body) (ReadOperator.Fits (operatorIn body)) ReadOperator.OutOfRange
+answered c = rw (handed-body (now (c .before .before .before .before .before .before .before .before .before .before .before .before .args .sheet)) (c .before .before .before .before .before .loop .at) 6) at (c .read-operator .ensures)
 
-enum-known-place : tie.Need-enum-known-place Inv-loop μ-loop
-enum-known-place c = search needs
+enum-known-linked : tie.Need-enum-known-linked Inv-loop μ-loop
+enum-known-linked c = search needs
 
 enum-told-2 : tie.Need-enum-told-2 Inv-loop μ-loop
 enum-told-2 c = search needs
@@ -116,34 +116,34 @@ returns-3 c =
     let at-loop = c .before .before .before .before .before .before .before .before in
     let sheet = now (at-loop .before .before .before .before .before .before .before .args .sheet) in
     let body = bodyAt sheet (at-loop .loop .at) 6 in
-    let outside : placeFits body ≡ false = tells found _ (ReadPlace.Fits (placeIn body)) ReadPlace.OutOfRange refl refl (answered (c .before .before .before)) (c .before .enum-told2 .given .1) in
+    let outside : operatorFits body ≡ false = tells found _ (ReadOperator.Fits (operatorIn body)) ReadOperator.OutOfRange refl refl (answered (c .before .before .before)) (c .before .enum-told2 .given .1) in
     c .refused3 .ensures
     ∙ sym (decided at-loop ∙ body-refuses sheet _ _ _ _ _ (at-loop .loop .inv) (c .before .before .before .before .before .before .before .field-at .ensures) (c .before .before .before .before .before .enum-told .given .1) outside)
 
--- the place that was read is the body's
-fits : (c : tie.After-known-told4 Inv-loop μ-loop) → placeFits (bodyAt (now (c .before .before .before .before .before .before .before .before .before .before .before .before .before .before .before .args .sheet)) (c .before .before .before .before .before .before .before .before .loop .at) 6) ≡ true
+-- the operator that was read is the body's
+fits : (c : tie.After-known-told4 Inv-loop μ-loop) → operatorFits (bodyAt (now (c .before .before .before .before .before .before .before .before .before .before .before .before .before .before .before .args .sheet)) (c .before .before .before .before .before .before .before .before .loop .at) 6) ≡ true
 fits c =
     let body = bodyAt (now (c .before .before .before .before .before .before .before .before .before .before .before .before .before .before .before .args .sheet)) (c .before .before .before .before .before .before .before .before .loop .at) 6 in
-    tells found _ (ReadPlace.Fits (placeIn body)) ReadPlace.OutOfRange refl refl (answered (c .before .before .before)) (c .before .place .given .1)
+    tells found _ (ReadOperator.Fits (operatorIn body)) ReadOperator.OutOfRange refl refl (answered (c .before .before .before)) (c .before .linked .given .1)
 
-same : (c : tie.After-known-told4 Inv-loop μ-loop) → c .before .place .given .0 .0 ≡ placeIn (bodyAt (now (c .before .before .before .before .before .before .before .before .before .before .before .before .before .before .before .args .sheet)) (c .before .before .before .before .before .before .before .before .loop .at) 6)
+same : (c : tie.After-known-told4 Inv-loop μ-loop) → c .before .linked .given .0 .0 ≡ operatorIn (bodyAt (now (c .before .before .before .before .before .before .before .before .before .before .before .before .before .before .before .args .sheet)) (c .before .before .before .before .before .before .before .before .loop .at) 6)
 same c =
     let body = bodyAt (now (c .before .before .before .before .before .before .before .before .before .before .before .before .before .before .before .args .sheet)) (c .before .before .before .before .before .before .before .before .loop .at) 6 in
-    let made : ReadPlace.Fits (c .before .place .given .0 .0) ≡ ReadPlace.Fits (placeIn body) = sym (c .before .place .given .1) ∙ answered (c .before .before .before) ∙ pick-true _ _ _ (fits c) in
+    let made : ReadOperator.Fits (c .before .linked .given .0 .0) ≡ ReadOperator.Fits (operatorIn body) = sym (c .before .linked .given .1) ∙ answered (c .before .before .before) ∙ pick-true _ _ _ (fits c) in
     cc made
 
 -- and stored
 stored : (c : tie.After-known-told4 Inv-loop μ-loop)
-    → let at-loop = c .before .before .before .before .before .before .before .before in Passed (now (c .before .before .before .before .before .before .before .before .before .before .before .before .before .before .before .args .sheet)) (at-loop .before .before .head .given .0 .0 .declaration) (at-loop .before .before .head .given .0 .0 .wanted) (set (at-loop .loop .places) (at-loop .loop .count) (c .before .place .given .0 .0)) (at-loop .loop .count + 1) (at-loop .loop .at + 3 + 6)
+    → let at-loop = c .before .before .before .before .before .before .before .before in Passed (now (c .before .before .before .before .before .before .before .before .before .before .before .before .before .before .before .args .sheet)) (at-loop .before .before .head .given .0 .0 .declaration) (at-loop .before .before .head .given .0 .0 .wanted) (set (at-loop .loop .operators) (at-loop .loop .count) (c .before .linked .given .0 .0)) (at-loop .loop .count + 1) (at-loop .loop .at + 3 + 6)
 stored c =
     let at-loop = c .before .before .before .before .before .before .before .before in
     operator-passes (now (c .before .before .before .before .before .before .before .before .before .before .before .before .before .before .before .args .sheet)) _ _ _ _ _ (at-loop .loop .inv) (c .before .before .before .before .before .before .before .field-at .ensures) (c .before .before .before .before .before .enum-told .given .1) (fits c) _ (same c) _ (omega arith)
 
-mul-places : tie.Need-mul-places Inv-loop μ-loop
-mul-places c = omega (arith, c .before .before .before .before .before .before .before .before .loop .inv .few)
+mul-operators : tie.Need-mul-operators Inv-loop μ-loop
+mul-operators c = omega (arith, c .before .before .before .before .before .before .before .before .loop .inv .few)
 
-array-set-from-places : tie.Need-array-set-from-places Inv-loop μ-loop
-array-set-from-places c = omega (arith, c .before .before .before .before .before .before .before .before .loop .inv .few)
+array-set-from-operators : tie.Need-array-set-from-operators Inv-loop μ-loop
+array-set-from-operators c = omega (arith, c .before .before .before .before .before .before .before .before .loop .inv .few)
 
 add-count : tie.Need-add-count Inv-loop μ-loop
 add-count c = omega (arith, c .before .before .before .before .before .before .before .before .loop .inv .few)
@@ -184,7 +184,7 @@ read-fields-spec =
     (tie.spec
     Inv-loop
     μ-loop
-    no-place-requires
+    no-linked-operator-requires
     read-head-requires
     enum-known-why
     refused-requires
@@ -198,16 +198,16 @@ read-fields-spec =
     enum-told
     add-start
     add-end
-    sub-read-place
-    part-read-place-start
-    part-read-place-end
-    read-place-requires
-    enum-known-place
+    sub-read-operator
+    part-read-operator-start
+    part-read-operator-end
+    read-operator-requires
+    enum-known-linked
     enum-told-2
     refused-requires-3
     returns-3
-    mul-places
-    array-set-from-places
+    mul-operators
+    array-set-from-operators
     add-count
     loop-less
     loop-again

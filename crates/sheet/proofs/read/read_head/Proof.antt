@@ -8,7 +8,7 @@ use Rattle.quantity.specs.Refusals.{firstOf}
 use Rattle.quantity.proofs.Laws.{pick-true}
 use Rattle.sheet.specs.Bodies.{part, declarationIn, declarationFits, wantedIn, wantedFits}
 use Rattle.sheet.specs.Fields.{declarationFormat, wantedFormat, bodyAt, fieldCases}
-use Rattle.sheet.specs.Sheets.{declarationAt, wantedAt, fieldsLine}
+use Rattle.sheet.specs.Sheets.{declarationAt, wantedAt, fieldsPath}
 use Rattle.sheet.specs.declared.read.ReadHead.{ReadHead}
 use Rattle.sheet.specs.declared.read.ReadDeclaration.{ReadDeclaration}
 use Rattle.sheet.specs.declared.read.ReadWanted.{ReadWanted}
@@ -139,7 +139,7 @@ returns-4 c =
     sym (declared (c .before .before .before .before .before .before .before) ∙ field-outside ReadHead.Refused (headIn sheet) sheet wantedAt wantedFormat [] (c .before .before .before .before .before .before .field-at2 .ensures) (c .before .before .before .before .enum-told3 .given .1) outside)
 
 returns-5 : tie.Need-returns-5
-unfolding bodyAt part fieldsLine
+unfolding bodyAt part fieldsPath
 returns-5 c =
     let sheet = now (c .before .before .before .before .before .before .before .before .before .before .before .before .before .before .before .before .before .args .sheet) in
     let body = bodyAt sheet wantedAt 4 in

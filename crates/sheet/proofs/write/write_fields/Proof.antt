@@ -14,24 +14,24 @@ use Rattle.quantity.specs.Choice.{both}
 use Rattle.quantity.specs.Ranges.{inRange, wantedDelayRange}
 use Rattle.quantity.proofs.Laws.{pick-true, pick-false}
 use Rattle.flow.specs.Declarations.{declarationInRange}
-use Rattle.sheet.specs.declared.write.WrittenPlaces.{WrittenPlaces}
+use Rattle.sheet.specs.declared.write.WrittenOperators.{WrittenOperators}
 use Rattle.sheet.specs.Numbers.{bytesOf}
-use Rattle.sheet.specs.Paths.{Line}
+use Rattle.sheet.specs.Paths.{Path}
 use Rattle.sheet.specs.Forms.{inFull}
 use Rattle.sheet.specs.Bodies.{declarationBody, wantedBody}
 use Rattle.sheet.specs.Fields.{fieldOf}
-use Rattle.sheet.specs.Sheets.{placeFields, placesInRange, sheetOf}
+use Rattle.sheet.specs.Sheets.{operatorFields, operatorsInRange, sheetOf}
 use Rattle.sheet.proofs.AnswerLaws.{tells}
 use Rattle.sheet.proofs.Forms.{stands-in-fields}
 use Rattle.sheet.proofs.Runs.{run-behind, run-before}
-use Rattle.sheet.proofs.WriteLaws.{length-placeFields-most}
-use Rattle.sheet.proofs.SheetWritten.{wrong-count, wrong-number, all-right, line-in-range, length-sheet}
+use Rattle.sheet.proofs.WriteLaws.{length-operatorFields-most}
+use Rattle.sheet.proofs.SheetWritten.{wrong-count, wrong-number, all-right, path-in-range, length-sheet}
 use Rattle.sheet.proofs.write.write_fields.Statement.{statement}
 use Rattle.sheet.proofs.write.write_fields.Tie as tie
 
-abbrev placesFound : WrittenPlaces → Bool
-placesFound (WrittenPlaces.End end) = true
-placesFound WrittenPlaces.OutOfRange = false
+abbrev operatorsFound : WrittenOperators → Bool
+operatorsFound (WrittenOperators.End end) = true
+operatorsFound WrittenOperators.OutOfRange = false
 
 returns : tie.Need-returns
 returns c =
@@ -46,14 +46,14 @@ returns-2 : tie.Need-returns-2
 returns-2 c =
     let a = c .before .before .before .before .before .before .before .before .args in
     let out : both (declarationInRange (a .path .declaration)) (inRange wantedDelayRange (a .path .wanted .0)) ≡ false = sym (c .before .head-in-range .ensures) ∙ not-true _ (c .if3 .taken) in
-    wrong-number (a .path) (now (a .sheet)) (c .before .before .before .before .before .before .before .before .pre .0) (c .before .before .before .before .before .before .before .before .pre .1) (c .before .before .before .before .before .before .if1 .left) (ltb-false _ _ (c .before .before .before .before .before .if2 .left)) (line-in-range (a .path) (c .before .before .before .before .before .before .before .before .pre .1) ∙ rw out)
+    wrong-number (a .path) (now (a .sheet)) (c .before .before .before .before .before .before .before .before .pre .0) (c .before .before .before .before .before .before .before .before .pre .1) (c .before .before .before .before .before .before .if1 .left) (ltb-false _ _ (c .before .before .before .before .before .if2 .left)) (path-in-range (a .path) (c .before .before .before .before .before .before .before .before .pre .1) ∙ rw out)
 
 -- the first two fields are in range
-head : (c : tie.Else3) → let path = c .before .before .before .before .before .before .before .before .args .path in both (declarationInRange (path .declaration)) (inRange wantedDelayRange (path .wanted .0)) ≡ true
+head : (c : tie.Else3) → let value = c .before .before .before .before .before .before .before .before .args .path in both (declarationInRange (value .declaration)) (inRange wantedDelayRange (value .wanted .0)) ≡ true
 head c = sym (c .before .head-in-range .ensures) ∙ not-false _ (c .if3 .left)
 
-write-places-requires : tie.Need-write-places-requires
-write-places-requires c κs = search needs
+write-operators-requires : tie.Need-write-operators-requires
+write-operators-requires c κs = search needs
 
 enum-known-end : tie.Need-enum-known-end
 enum-known-end c = search needs
@@ -68,9 +68,9 @@ returns-3 : tie.Need-returns-3
 returns-3 c =
     let tested = c .before .before .before .before .before .before in
     let a = tested .before .before .before .before .before .before .before .before .args in
-    let answered = c .before .before .before .before .write-places in
-    let out : placesInRange (take (a .path .count) (a .path .places)) ≡ false = tells placesFound _ (WrittenPlaces.End (17 + length (placeFields (take (a .path .count) (a .path .places))))) WrittenPlaces.OutOfRange refl refl (answered .ensures .0) (c .enum-told .given .1) in
-    rw (answered .ensures .1 ∙ pick-false _ _ _ out) (wrong-number (a .path) (now (a .sheet)) (tested .before .before .before .before .before .before .before .before .pre .0) (tested .before .before .before .before .before .before .before .before .pre .1) (tested .before .before .before .before .before .before .if1 .left) (ltb-false _ _ (tested .before .before .before .before .before .if2 .left)) (line-in-range (a .path) (tested .before .before .before .before .before .before .before .before .pre .1) ∙ rw (head tested, out)))
+    let answered = c .before .before .before .before .write-operators in
+    let out : operatorsInRange (take (a .path .count) (a .path .operators)) ≡ false = tells operatorsFound _ (WrittenOperators.End (17 + length (operatorFields (take (a .path .count) (a .path .operators))))) WrittenOperators.OutOfRange refl refl (answered .ensures .0) (c .enum-told .given .1) in
+    rw (answered .ensures .1 ∙ pick-false _ _ _ out) (wrong-number (a .path) (now (a .sheet)) (tested .before .before .before .before .before .before .before .before .pre .0) (tested .before .before .before .before .before .before .before .before .pre .1) (tested .before .before .before .before .before .before .if1 .left) (ltb-false _ _ (tested .before .before .before .before .before .if2 .left)) (path-in-range (a .path) (tested .before .before .before .before .before .before .before .before .pre .1) ∙ rw (head tested, out)))
 
 write-declaration-requires : tie.Need-write-declaration-requires
 write-declaration-requires c κs = search needs
@@ -85,24 +85,24 @@ returns-4 : tie.Need-returns-4
 unfolding inFull sheetOf fieldOf declarationBody wantedBody bytesOf
 returns-4 c =
     let tested = c .before .before .before .before .before .before .before .before .before .before .before .before .before .before .before in
-    let path = tested .before .before .before .before .before .before .before .before .args .path in
+    let value = tested .before .before .before .before .before .before .before .before .args .path in
     let lent = now (tested .before .before .before .before .before .before .before .before .args .sheet) in
     let fields = tested .before .before .before .before .before .before .before .before .pre .1 in
-    let few : path .count ≤ 16 = ltb-false _ _ (tested .before .before .before .before .before .if2 .left) in
-    let answered = c .before .before .before .before .before .before .before .before .before .before .before .before .before .write-places in
+    let few : value .count ≤ 16 = ltb-false _ _ (tested .before .before .before .before .before .if2 .left) in
+    let answered = c .before .before .before .before .before .before .before .before .before .before .before .before .before .write-operators in
     let ended = c .before .before .before .before .before .before .before .before .before .end .given in
-    let declaration = fieldOf 0x01 (declarationBody (path .declaration)) in
-    let wanted = fieldOf 0x02 (wantedBody (path .wanted .0)) in
-    let places = placeFields (take (path .count) (path .places)) in
-    let inside : placesInRange (take (path .count) (path .places)) ≡ true = tells placesFound _ (WrittenPlaces.End (17 + length places)) WrittenPlaces.OutOfRange refl refl (answered .ensures .0) (ended .1) in
-    let end : WrittenPlaces.End (ended .0 .0) ≡ WrittenPlaces.End (17 + length places) = sym (ended .1) ∙ answered .ensures .0 ∙ pick-true _ _ _ inside in
+    let declaration = fieldOf 0x01 (declarationBody (value .declaration)) in
+    let wanted = fieldOf 0x02 (wantedBody (value .wanted .0)) in
+    let operators = operatorFields (take (value .count) (value .operators)) in
+    let inside : operatorsInRange (take (value .count) (value .operators)) ≡ true = tells operatorsFound _ (WrittenOperators.End (17 + length operators)) WrittenOperators.OutOfRange refl refl (answered .ensures .0) (ended .1) in
+    let end : WrittenOperators.End (ended .0 .0) ≡ WrittenOperators.End (17 + length operators) = sym (ended .1) ∙ answered .ensures .0 ∙ pick-true _ _ _ inside in
     let to-wanted = run-behind (answered .last .0) 0 10 declaration wanted (c .before .before .before .before .before .before .write-declaration .ensures) (c .before .before .write-wanted .ensures) refl in
-    let to-places = run-before lent 0 17 (declaration ++ wanted) places (answered .ensures .1 ∙ pick-true _ _ _ inside) to-wanted refl in
-    let written = length-placeFields-most (path .places) (path .count) in
-    let size = length-sheet (inFull path) in
-    let length-is : ended .0 .0 ≡ 17 + length places = cc end in
-    let stood = stands-in-fields path fields in
-    let made = all-right path lent (tested .before .before .before .before .before .before .before .before .pre .0) (tested .before .before .before .before .before .before .before .before .pre .1) (tested .before .before .before .before .before .before .if1 .left) few (line-in-range path fields ∙ rw (head tested, inside)) (to-places ∙ ap (λ (line : Line). sets lent 0 (sheetOf line)) (sym stood)) (rw stood (omega arith)) in
+    let to-operators = run-before lent 0 17 (declaration ++ wanted) operators (answered .ensures .1 ∙ pick-true _ _ _ inside) to-wanted refl in
+    let written = length-operatorFields-most (value .operators) (value .count) in
+    let size = length-sheet (inFull value) in
+    let length-is : ended .0 .0 ≡ 17 + length operators = cc end in
+    let stood = stands-in-fields value fields in
+    let made = all-right value lent (tested .before .before .before .before .before .before .before .before .pre .0) (tested .before .before .before .before .before .before .before .before .pre .1) (tested .before .before .before .before .before .before .if1 .left) few (path-in-range value fields ∙ rw (head tested, inside)) (to-operators ∙ ap (λ (path : Path). sets lent 0 (sheetOf path)) (sym stood)) (rw stood (omega arith)) in
     rw (length-is ∙ sym size) (rw stood at made)
 
 pub write-fields-spec : {M : Type 1} → statement M
@@ -112,7 +112,7 @@ write-fields-spec =
     returns
     head-in-range-requires
     returns-2
-    write-places-requires
+    write-operators-requires
     enum-known-end
     enum-told
     same-length

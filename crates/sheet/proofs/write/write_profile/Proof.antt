@@ -12,7 +12,7 @@ in-range-requires : tie.Need-in-range-requires
 in-range-requires c κs = search needs
 
 returns : tie.Need-returns
-returns c path house = let s = c .before .before .before in wrong-house path (now (s .args .sheet)) (s .pre) (s .args .house) house (sym (c .before .in-range .ensures) ∙ not-true _ (c .if1 .taken))
+returns c value house = let s = c .before .before .before in wrong-house value (now (s .args .sheet)) (s .pre) (s .args .house) house (sym (c .before .in-range .ensures) ∙ not-true _ (c .if1 .taken))
 
 write-house-requires : tie.Need-write-house-requires
 write-house-requires c κs = let s = c .before .before .before .before in (sym (c .before .before .in-range .ensures) ∙ not-false _ (c .before .if1 .left), omega (arith, s .pre))
@@ -24,7 +24,7 @@ same-length : tie.Need-same-length
 same-length c = search needs
 
 returns-2 : tie.Need-returns-2
-returns-2 c path house = let s = c .before .before .before .before .before .before .before in house-right path (now (s .args .sheet)) (s .pre) (s .args .house) house (sym (c .before .before .before .before .before .in-range .ensures) ∙ not-false _ (c .before .before .before .before .if1 .left)) (c .before .before .write-house .ensures)
+returns-2 c value house = let s = c .before .before .before .before .before .before .before in house-right value (now (s .args .sheet)) (s .pre) (s .args .house) house (sym (c .before .before .before .before .before .in-range .ensures) ∙ not-false _ (c .before .before .before .before .if1 .left)) (c .before .before .write-house .ensures)
 
 pub write-profile-spec : {M : Type 1} → statement M
 write-profile-spec =

@@ -7,7 +7,7 @@ use lib.ListN.{length, drop}
 use borrow.Author.Needs.{needs}
 use Rattle.text.specs.declared.hexadecimal.Hexadecimal.{Hexadecimal}
 use Rattle.text.specs.Rows.{answerOf}
-use Rattle.text.specs.Hexadecimals.{bytesIn, fitted, hexadecimalFrom, bytesAfter}
+use Rattle.text.specs.Hexadecimals.{bytesIn, fitted, hexadecimalFrom, bytesStored}
 use Rattle.text.proofs.RowLaws.{fault-answered, fault-keeps}
 use Rattle.text.proofs.HexadecimalRowLaws.{fitted-refused, fitted-long, fitted-whole, fitted-no-fault}
 use Rattle.text.proofs.hexadecimal.hexadecimal_from.Statement.{statement}
@@ -20,14 +20,14 @@ enum-known-answer : tie.Need-enum-known-answer
 enum-known-answer c = search needs
 
 returns : tie.Need-returns
-unfolding hexadecimalFrom bytesAfter
+unfolding hexadecimalFrom bytesStored
 returns c =
     let a = c .before .before .before .before .args in
     let refused = fitted-refused (drop (a .from) (now (a .text))) (c .before .judge .ensures) (length (now (a .bytes))) (λ n counted. ⊎-elim (λ k. omega arith) (λ k. omega arith) (rw counted at (c .match .keys2))) in
     (fault-answered _ _ refused Hexadecimal.Length, fault-keeps _ _ refused (now (a .bytes)))
 
 returns-2 : tie.Need-returns-2
-unfolding hexadecimalFrom bytesAfter
+unfolding hexadecimalFrom bytesStored
 returns-2 c =
     let a = c .before .before .before .before .before .before .before .args in
     let text = drop (a .from) (now (a .text)) in

@@ -9,7 +9,7 @@ use borrow.Author.Needs.{needs}
 use Rattle.quantity.specs.Choice.{both}
 use Rattle.text.specs.declared.hexadecimal.Hexadecimal.{Hexadecimal}
 use Rattle.text.specs.Rows.{fault, ahead}
-use Rattle.text.specs.Hexadecimals.{isHexadecimalDigit, bytesDue, bytesIn, fitted, bytesAfter}
+use Rattle.text.specs.Hexadecimals.{isHexadecimalDigit, bytesDue, bytesIn, fitted, bytesStored}
 use Rattle.text.proofs.RowLaws.{Storing, storing-first, storing-next, storing-length, storing-no-fault, storing-end, reached-place}
 use Rattle.text.proofs.HexadecimalLaws.{byte-stands, byte-missing}
 use Rattle.text.proofs.HexadecimalRowLaws.{in-text, in-end, due-missing, byte-within, due-goes-on, byteHere, nextDue, next-least, fitted-same, fitted-length}
@@ -107,7 +107,7 @@ same-length-2 : tie.Need-same-length-2 Inv-loop μ-loop
 same-length-2 c = kept (c .before)
 
 returns-2 : tie.Need-returns-2 Inv-loop μ-loop
-unfolding bytesAfter
+unfolding bytesStored
 returns-2 c = storing-end _ _ _ _ (rw (in-end _ _ (c .loop-test .left)) at (c .before .loop .inv .1))
 
 pub store-spec : {M : Type 1} → statement M

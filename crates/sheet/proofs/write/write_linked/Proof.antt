@@ -1,13 +1,13 @@
 -- By the arm that the operator took.
 use borrow.Author.Needs.{needs}
 use native.Mathlib.Omega.{arith}
-use Rattle.sheet.specs.Bodies.{operatorByte, operatorNumber, placeBody}
+use Rattle.sheet.specs.Bodies.{operatorByte, operatorNumber, operatorBody}
 use Rattle.sheet.proofs.InRange.{link-small}
-use Rattle.sheet.proofs.write.write_place.Statement.{statement}
-use Rattle.sheet.proofs.write.write_place.Tie as tie
+use Rattle.sheet.proofs.write.write_linked.Statement.{statement}
+use Rattle.sheet.proofs.write.write_linked.Tie as tie
 
 cast-link : tie.Need-cast-link
-cast-link c = omega (arith, link-small (c .before .before .args .place) (c .before .before .pre .0))
+cast-link c = omega (arith, link-small (c .before .before .args .linked) (c .before .before .pre .0))
 
 enum-known-operator : tie.Need-enum-known-operator
 enum-known-operator c = search needs
@@ -43,39 +43,39 @@ same-length : tie.Need-same-length
 same-length c = search needs
 
 returns : tie.Need-returns
-unfolding placeBody operatorByte operatorNumber
+unfolding operatorBody operatorByte operatorNumber
 returns c = rw (c .before .before .before .before .before .operator .given .1) (c .before .before .write-operator .ensures)
 
 same-length-2 : tie.Need-same-length-2
 same-length-2 c = search needs
 
 returns-2 : tie.Need-returns-2
-unfolding placeBody operatorByte operatorNumber
+unfolding operatorBody operatorByte operatorNumber
 returns-2 c = rw (c .before .before .before .before .before .operator2 .given .1) (c .before .before .write-operator2 .ensures)
 
 same-length-3 : tie.Need-same-length-3
 same-length-3 c = search needs
 
 returns-3 : tie.Need-returns-3
-unfolding placeBody operatorByte operatorNumber
+unfolding operatorBody operatorByte operatorNumber
 returns-3 c = rw (c .before .before .before .before .before .operator3 .given .1) (c .before .before .write-operator3 .ensures)
 
 same-length-4 : tie.Need-same-length-4
 same-length-4 c = search needs
 
 returns-4 : tie.Need-returns-4
-unfolding placeBody operatorByte operatorNumber
+unfolding operatorBody operatorByte operatorNumber
 returns-4 c = rw (c .before .before .before .before .before .operator4 .given .1) (c .before .before .write-operator4 .ensures)
 
 same-length-5 : tie.Need-same-length-5
 same-length-5 c = search needs
 
 returns-5 : tie.Need-returns-5
-unfolding placeBody operatorByte operatorNumber
+unfolding operatorBody operatorByte operatorNumber
 returns-5 c = rw (c .before .before .before .before .before .operator5 .given .1) (c .before .before .write-operator5 .ensures)
 
-pub write-place-spec : {M : Type 1} → statement M
-write-place-spec =
+pub write-linked-spec : {M : Type 1} → statement M
+write-linked-spec =
     tie.close
     (tie.spec
     cast-link

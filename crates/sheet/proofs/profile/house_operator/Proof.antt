@@ -2,10 +2,10 @@
 use borrow.Author.Needs.{needs}
 use native.Mathlib.Nat.{div-le-self}
 use native.Mathlib.Omega.{arith}
-use Rattle.sheet.specs.House.{housePlace}
+use Rattle.sheet.specs.House.{houseOperator}
 use Rattle.sheet.proofs.HouseLaws.{hop-length}
-use Rattle.sheet.proofs.profile.house_place.Statement.{statement}
-use Rattle.sheet.proofs.profile.house_place.Tie as tie
+use Rattle.sheet.proofs.profile.house_operator.Statement.{statement}
+use Rattle.sheet.proofs.profile.house_operator.Tie as tie
 
 hop-length-requires : tie.Need-hop-length-requires
 hop-length-requires c κs = search needs
@@ -23,10 +23,10 @@ cast-t7 : tie.Need-cast-t7
 cast-t7 c = omega (arith, div-le-self (c .before .before .args .k) (c .before .hop-length .result))
 
 returns : tie.Need-returns
-unfolding housePlace
+unfolding houseOperator
 returns c = rw (c .hop-operator .ensures, c .before .hop-length .ensures)
 
-pub house-place-spec : {M : Type 1} → statement M
-house-place-spec =
+pub house-operator-spec : {M : Type 1} → statement M
+house-operator-spec =
     tie.close
     (tie.spec hop-length-requires rem-hop-operator hop-operator-requires div-t6 cast-t7 returns)
