@@ -10,9 +10,10 @@ use borrow.Author.Tests.{ltb-true, ltb-false, lt-ltb, le-ltb, eqb-true, eqb-fals
 use lib.Dec.{ltb, eqb}
 use lib.ListN.{length, getD, set, replicate, length-set, getD-replicate}
 use lib.Seq.{getD-take, length-take-le, getD-set-same, getD-set-other}
+use Rattle.quantity.specs.Limits.{largest32}
 use Rattle.quantity.specs.Choice.{pick, both, either}
 use Rattle.quantity.specs.Ranges.{inRange, intervalRange, quotaRange, wantedDelayRange}
-use Rattle.quantity.specs.Quantities.{mostSlots, slotsSum}
+use Rattle.quantity.specs.Quantities.{slotsSum}
 use Rattle.quantity.specs.Sums.{total, listOf}
 use Rattle.quantity.specs.Refusals.{Case, firstOf}
 use Rattle.quantity.specs.declared.Slots.{Slots}
@@ -291,7 +292,7 @@ module _ {value : PathValue} (within : PathWithin value) where
     unfolding figureAt
     delay-counted {figure} planned sum =
         let own = ap (λ (f : Figure). f .delay .0) (fits-figure (inFull value) k planned) in
-        let fits : delay .0 + figure .delay .0 ≤ mostSlots =
+        let fits : delay .0 + figure .delay .0 ≤ largest32 =
         omega (
           arith,
           walked .summed,

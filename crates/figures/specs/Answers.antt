@@ -5,6 +5,7 @@ use mathlib.Core.List.{List, [], _∷_, _++_}
 use lib.ListN.{length, getD, replicate}
 use lib.Dec.{ltb}
 use Rattle.quantity.specs.Choice.{pick}
+use Rattle.quantity.specs.Limits.{mostOperators}
 use Rattle.quantity.specs.Sums.{total, listOf}
 use Rattle.quantity.specs.Refusals.{Case, _⇒_, firstOf}
 use Rattle.quantity.specs.declared.refusal.Refusal.{Refusal}
@@ -62,6 +63,10 @@ operatorsCases path (suc n) = operatorsCases path n ++ operatorCases path n
 abbrev pub pathCases : Path → List Case
 pathCases path = operatorsCases path (length (path .operators)) ++ ((ltb (path .wanted) (pathDelay path) ⇒ DelayAboveWanted) ∷ [])
 
+-- 2 to 9 of a sheet: of its fields, then of the path that it counts as
+abbrev pub figuresCases : List ℕ → List Case
+figuresCases sheet = sheetCases sheet ++ pathCases (pathIn sheet)
+
 unfoldable pub figureAt : Path → ℕ → Figure
 figureAt path k = record { capacity = record { 0 = capacityAt path k }; delay = record { 0 = delayAt path k } }
 
@@ -75,14 +80,14 @@ figureIn path k = pick (ltb k (length (path .operators))) (figureAt path k) noFi
 
 unfoldable pub refusedFigures : Refusal → PathFigures
 unfolding noFigure
-refusedFigures why = record { verdict = Verdict.Refused why; path = noPath; figures = replicate 16 noFigure; delay = record { 0 = 0 } }
+refusedFigures why = record { verdict = Verdict.Refused why; path = noPath; figures = replicate mostOperators noFigure; delay = record { 0 = 0 } }
 
 -- the path that was read, and the figures of the path that it stands for
 unfoldable pub acceptedFigures : PathValue → Path → PathFigures
 acceptedFigures value path =
-    record { verdict = Verdict.Accepted; path = value; figures = listOf (figureIn path) 16; delay = record { 0 = pathDelay path } }
+    record { verdict = Verdict.Accepted; path = value; figures = listOf (figureIn path) mostOperators; delay = record { 0 = pathDelay path } }
 
--- what the figures of a sheet are: 2 to 5 of its fields, then 6 to 9 of its path
+-- what the figures of a sheet are, or the first of 2 to 9 that stands
 unfoldable pub figuresOf : List ℕ → PathFigures
 unfolding refusedFigures acceptedFigures
-figuresOf sheet = firstOf (sheetCases sheet ++ pathCases (pathIn sheet)) refusedFigures (acceptedFigures (valueIn sheet) (pathIn sheet))
+figuresOf sheet = firstOf (figuresCases sheet) refusedFigures (acceptedFigures (valueIn sheet) (pathIn sheet))

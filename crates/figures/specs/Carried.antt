@@ -1,3 +1,4 @@
+-- Serves the private contracts of the figures, and need not be believed: no public call cites it.
 -- What the code carries along a path stands for a progress of section 4; and the bounds within which its numbers fit their words.
 use Prim.Native.Nat.{ℕ, _≤_}
 use mathlib.Core.Bool.{Bool}

@@ -10,9 +10,9 @@ use Rattle.quantity.specs.Ranges.{inRange, linkRange, pathNumberRange}
 use Rattle.quantity.specs.Refusals.{Case, _⇒_, firstOf}
 use Rattle.quantity.specs.declared.refusal.Refusal.the-variants.{Unusable, OutOfRange, PathNumberWrong, LedgerFull, LinkShort}
 use Rattle.sheet.specs.Paths.{Path}
-use Rattle.sheet.specs.Sheets.{sheetCases, pathIn}
+use Rattle.sheet.specs.Sheets.{pathIn}
 use Rattle.sheet.specs.declared.read.Verdict.{Verdict}
-use Rattle.figures.specs.Answers.{pathCases, pathDelay}
+use Rattle.figures.specs.Answers.{figuresCases, pathDelay}
 use Rattle.ledger.specs.Ledgers.{recordCount, linkCount}
 use Rattle.ledger.specs.Opening.{askedFor}
 use Rattle.ledger.specs.Admission.{rateOf, namesLink}
@@ -55,7 +55,7 @@ without number (entry ∷ entries) = pick (eqb (entry .number) number) entries (
 abbrev pub callCases : List ℕ → Account → Call → List Case
 callCases capacities entries (admit number sheet) =
     (not (inRange pathNumberRange number) ⇒ Unusable)
-    ∷ (sheetCases sheet ++ pathCases (pathIn sheet))
+    ∷ figuresCases sheet
     ++ ((standsIn number entries ⇒ PathNumberWrong)
     ∷ (eqb (length entries) recordCount ⇒ LedgerFull)
     ∷ (shortIn capacities entries (pathIn sheet) ⇒ LinkShort)

@@ -12,9 +12,9 @@ use Rattle.quantity.specs.Refusals.{Case, _⇒_, firstOf}
 use Rattle.quantity.specs.declared.refusal.Refusal.{Refusal}
 use Rattle.quantity.specs.declared.refusal.Refusal.the-variants.{Unusable, PathNumberWrong, LedgerFull, LinkShort}
 use Rattle.sheet.specs.Paths.{Path, linkAt}
-use Rattle.sheet.specs.Sheets.{sheetCases, pathIn}
+use Rattle.sheet.specs.Sheets.{pathIn}
 use Rattle.sheet.specs.declared.read.Verdict.{Verdict}
-use Rattle.figures.specs.Answers.{pathCases, pathDelay}
+use Rattle.figures.specs.Answers.{figuresCases, pathDelay}
 use Rattle.ledger.specs.declared.Record.{Record}
 use Rattle.ledger.specs.declared.Ledger.{Ledger}
 use Rattle.ledger.specs.declared.admission.Admission.{Admission}
@@ -58,7 +58,7 @@ abbrev pub admissionCases : Ledger → List Record → ℕ → List ℕ → List
 admissionCases ledger records number sheet =
     (not (inRange pathNumberRange number) ⇒ Unusable)
     ∷ (ledgerUnusable ledger records ⇒ Unusable)
-    ∷ (sheetCases sheet ++ pathCases (pathIn sheet)) ++ standingCases ledger records number (pathIn sheet)
+    ∷ figuresCases sheet ++ standingCases ledger records number (pathIn sheet)
 
 unfoldable pub refusedAdmission : Ledger → Refusal → Admission
 refusedAdmission ledger why = record { verdict = Verdict.Refused why; ledger = ledger; rate = record { 0 = 0 }; delay = record { 0 = 0 } }

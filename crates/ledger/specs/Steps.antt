@@ -1,3 +1,4 @@
+-- Serves the private contracts of the ledger, and need not be believed: no public call cites it.
 -- The steps of the calls, as the code takes them: the lent records by value, what the test finds, what is decided, and what is written.
 use mathlib.Core.Path.{_≡_}
 use Prim.Native.Nat.{ℕ, _≤_, _<_}

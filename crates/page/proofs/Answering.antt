@@ -7,6 +7,7 @@ use lib.ListN.{length}
 use lib.Seq.{sets}
 use lib.Dec.{eqb}
 use borrow.Author.Tests.{eq-eqb, ne-eqb}
+use Rattle.quantity.specs.Lent.{writtenOver}
 use Rattle.quantity.specs.declared.refusal.Refusal.{Refusal}
 use Rattle.quantity.specs.declared.refusal.Refusal.the-variants.{Unusable}
 use Rattle.quantity.proofs.Laws.{pick-true, pick-false}
@@ -18,14 +19,14 @@ use Rattle.figures.specs.declared.PathFigures.{PathFigures}
 use Rattle.figures.specs.Answers.{pathCases, refusedFigures, acceptedFigures, figuresOf}
 use Rattle.page.specs.declared.Paged.{Paged}
 use Rattle.page.specs.Pages.{pageOf}
-use Rattle.page.specs.Answers.{pageCases, pageAnswer, behindPage, bytesPaged}
+use Rattle.page.specs.Answers.{pageCases, pageAnswer, bytesPaged}
 
 abbrev answeredBy : List ℕ → Verdict → Paged
 answeredBy page Verdict.Accepted = Paged.Length (length page)
 answeredBy page (Verdict.Refused why) = Paged.Refused why
 
 abbrev leftBy : List ℕ → List ℕ → Verdict → List ℕ
-leftBy page lent Verdict.Accepted = behindPage page lent
+leftBy page lent Verdict.Accepted = writtenOver page lent
 leftBy page lent (Verdict.Refused why) = lent
 
 module _ (sheet lent : List ℕ) where
@@ -62,7 +63,6 @@ module _ (sheet lent : List ℕ) where
     paging-refused verdict = (sym (ap (answeredBy page) verdict) ∙ answered-by, sym (ap (leftBy page lent) verdict) ∙ left-by)
 
     pub paging-accepted : figuresOf sheet .verdict ≡ Verdict.Accepted → length page ≤ 1037 → {after : List ℕ} → after ≡ sets lent 0 page → Paging (Paged.Length (length page)) after
-    unfolding behindPage
     paging-accepted verdict room stored = (
       sym (ap (answeredBy page) verdict) ∙ answered-by,
       stored ∙ stored-first page lent (rw sized room) ∙ sym (ap (leftBy page lent) verdict) ∙ left-by,

@@ -7,6 +7,7 @@ use lib.ListN.{length, getD, take, length-append, List·getD-append}
 use lib.Seq.{getD-at, take-at}
 use lib.Dec.{eqb}
 use borrow.Author.Tests.{eqb-true, not-false}
+use Rattle.quantity.specs.Lent.{writtenOver}
 use Rattle.quantity.specs.Sums.{total, listOf}
 use Rattle.quantity.proofs.Sums.{length-listOf, getD-listOf, listOf-ext}
 use Rattle.quantity.proofs.Refusals.{NoneStands, firstOf-none, none-where-result}
@@ -21,7 +22,7 @@ use Rattle.figures.specs.Answers.{operatorAt, capacityAt, pathDelay, pathCases,
 use Rattle.page.specs.declared.Paged.{Paged}
 use Rattle.page.specs.Columns.{Cell, charactersOf}
 use Rattle.page.specs.Pages.{widths, lineFeed, lineOf, pathName, operatorCells, pathCells, cellsAt, sumCells, rowsOf, pageOf}
-use Rattle.page.specs.Answers.{pageCases, pageAnswer, behindPage, bytesPaged}
+use Rattle.page.specs.Answers.{pageCases, pageAnswer, bytesPaged}
 use Rattle.page.specs.Reading.{lineLength, lineAt, cut, columnAt, numberIn, kindIn, Entry, entryAt, readLines, readPage, entryOf, figuresIn}
 use Rattle.page.specs.Shape.{Fits, Shaped}
 use Rattle.page.proofs.Bytes.{lacks}
@@ -163,9 +164,9 @@ module _ (sheet lent : List ℕ) (n : ℕ) (answered : pageAnswer sheet lent ≡
   page-room = omega (arith, length-answered, length-lent, page-length sheet answered-accepted, few-operators sheet answered-accepted)
 
   pub page-left : take n (bytesPaged sheet lent) ≡ pageOf (pathIn sheet)
-  unfolding bytesPaged behindPage
+  unfolding bytesPaged
   page-left =
-      ap (take n) (firstOf-none (λ why. lent) (behindPage (pageOf (pathIn sheet)) lent) (pageCases sheet lent) none-stands)
+      ap (take n) (firstOf-none (λ why. lent) (writtenOver (pageOf (pathIn sheet)) lent) (pageCases sheet lent) none-stands)
       ∙ take-at (pageOf (pathIn sheet)) _ n (sym length-answered)
 
   pub read-back : readPage (take n (bytesPaged sheet lent)) ≡ figuresIn (pathIn sheet)

@@ -5,4 +5,5 @@ pub mod Sums
 pub mod Rounding
 pub mod Divisors
 pub mod Limits
+pub mod Lent
 pub mod Quantities

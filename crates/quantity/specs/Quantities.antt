@@ -1,29 +1,20 @@
 -- Section 1: quantities of one kind are added to one another, and a rate over slots makes units. A sum stops at the largest number of its width.
-use Prim.Native.Nat.{ℕ, _+_, _*_, min}
+use Prim.Native.Nat.{_+_, _*_, min}
+use Rattle.quantity.specs.Limits.{largest32, largest64}
 use Rattle.quantity.specs.declared.Slots.{Slots}
 use Rattle.quantity.specs.declared.Units.{Units}
 use Rattle.quantity.specs.declared.Rate.{Rate}
 
--- the largest number of 32 bits, which is as wide as slots are
-abbrev pub mostSlots : ℕ
-mostSlots = 4_294_967_295
-
+-- slots and rates are 32 bits wide
 unfoldable pub slotsSum : Slots → Slots → Slots
-slotsSum a b = record { 0 = min (a .0 + b .0) mostSlots }
-
--- and rates
-abbrev pub mostRate : ℕ
-mostRate = 4_294_967_295
+slotsSum a b = record { 0 = min (a .0 + b .0) largest32 }
 
 unfoldable pub ratesSum : Rate → Rate → Rate
-ratesSum a b = record { 0 = min (a .0 + b .0) mostRate }
+ratesSum a b = record { 0 = min (a .0 + b .0) largest32 }
 
--- the largest number of 64 bits, which is as wide as units are
-abbrev pub mostUnits : ℕ
-mostUnits = 18_446_744_073_709_551_615
-
+-- units are 64 bits wide
 unfoldable pub unitsSum : Units → Units → Units
-unitsSum a b = record { 0 = min (a .0 + b .0) mostUnits }
+unitsSum a b = record { 0 = min (a .0 + b .0) largest64 }
 
 -- 32 bits by 32 always fit 64
 unfoldable pub unitsOver : Rate → Slots → Units

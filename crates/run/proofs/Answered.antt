@@ -11,7 +11,7 @@ use lib.ListN.{length}
 use lib.Dec.{leb, ltb, eqb}
 use borrow.Author.Tests.{lt-ltb, le-ltb, ltb-false}
 use Rattle.quantity.specs.Choice.{both}
-use Rattle.quantity.specs.Limits.{largestAmount, lastSlot}
+use Rattle.quantity.specs.Limits.{largestAmount, lastSlot, mostOperators}
 use Rattle.quantity.specs.Sums.{every}
 use Rattle.quantity.specs.Refusals.{Case, _⇒_}
 use Rattle.quantity.specs.declared.refusal.Refusal.{Refusal}
@@ -37,7 +37,7 @@ use Rattle.run.specs.declared.slot.Outcome.{Outcome}
 use Rattle.run.specs.declared.slot.Slotted.{Slotted}
 use Rattle.run.specs.Calls.{Call, choiceFor, choicesMiscounted}
 use Rattle.run.specs.Account.{Account, arriving, slotsUsedUp, breaksDeclaration, choiceTooLarge, choicesTooLarge, accountCases, accountAnswer, accountNext, accountAfter}
-use Rattle.run.specs.Runs.{runWordCount, mostOperators, meterWords, operatorWords, noStage, noOperator, meterIn, singleIn, stageMisplaced, stageUnusable, stageFits, runUnusable}
+use Rattle.run.specs.Runs.{runWordCount, meterWords, operatorWords, noStage, noOperator, meterIn, singleIn, stageMisplaced, stageUnusable, stageFits, runUnusable}
 use Rattle.run.specs.Slots.{inputInto, slotBreaks, choiceAboveAt, choiceCases, leavesTooMuchAt, slotLeavesTooMuch, slotCases, refusedSlot, takenSlot, slottedOf, wordsSlotted}
 use Rattle.run.proofs.UsableRun.{run-usable}
 use Rattle.run.proofs.SlotAnswers.{slot-taken, words-taken, slot-refused, words-refused}

@@ -12,7 +12,7 @@ use lib.Dec.{leb, ltb, eqb}
 use lib.ListN.{length, getD, set, replicate, take, drop, length-set}
 use lib.Seq.{getD-set-same, getD-set-other}
 use Rattle.quantity.specs.Choice.{pick, both, either}
-use Rattle.quantity.specs.Limits.{largestAmount}
+use Rattle.quantity.specs.Limits.{largestAmount, mostOperators}
 use Rattle.quantity.specs.Sums.{every, listOf}
 use Rattle.quantity.specs.Refusals.{Case, _⇒_}
 use Rattle.quantity.specs.declared.Slots.{Slots}
@@ -34,10 +34,10 @@ use Rattle.run.specs.declared.Stage.{Stage}
 use Rattle.run.specs.declared.Run.{Run}
 use Rattle.run.specs.declared.slot.Outcome.{Outcome}
 use Rattle.run.specs.declared.decide.Move.{Move}
-use Rattle.run.specs.Calls.{Call, choiceFor, choicesMiscounted, amountTooLarge}
-use Rattle.run.specs.Runs.{mostOperators, operatorAtWord, operatorWords, noStage, stageAt, singleOf, singleIn, runUnusable}
+use Rattle.run.specs.Calls.{Call, choiceFor, choicesMiscounted, amountTooLarge, callOf}
+use Rattle.run.specs.Runs.{operatorAtWord, operatorWords, noStage, stageAt, singleOf, singleIn, runUnusable}
 use Rattle.run.specs.Slots.{inputInto, choiceAboveAt, choiceCases, leavesTooMuchAt, slotLeavesTooMuch, slotOutput}
-use Rattle.run.specs.Steps.{callOf, noMove, runHoldsNext, moveOf, storable, planOf}
+use Rattle.run.specs.Steps.{noMove, runHoldsNext, moveOf, storable, planOf}
 use Rattle.run.specs.Watching.{runHolds, unitsHeld}
 use Rattle.run.proofs.UsableRun.{UsableRun, usable-run, stage-usable, stage-number, fits-at}
 

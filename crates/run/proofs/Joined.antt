@@ -10,6 +10,7 @@ use native.Mathlib.Decide.{decLe}
 use lib.ListN.{length, replicate, length-replicate, getD-replicate, List·getD-eq-default}
 use lib.Dec.{ltb}
 use borrow.Author.Tests.{lt-ltb, le-ltb}
+use Rattle.quantity.specs.Limits.{mostOperators}
 use Rattle.quantity.specs.Choice.{pick}
 use Rattle.quantity.specs.Sums.{listOf}
 use Rattle.quantity.proofs.Laws.{pick-true, pick-false}
@@ -30,7 +31,7 @@ use Rattle.run.specs.declared.Stage.{Stage}
 use Rattle.run.specs.declared.Run.{Run}
 use Rattle.run.specs.Calls.{Call, choiceFor}
 use Rattle.run.specs.Account.{Account, newAccount, arriving, accountNext}
-use Rattle.run.specs.Runs.{runWordCount, mostOperators, meterWords, operatorAtWord, operatorWords, noStage, stageAt, meterIn, singleIn}
+use Rattle.run.specs.Runs.{runWordCount, meterWords, operatorAtWord, operatorWords, noStage, stageAt, meterIn, singleIn}
 use Rattle.run.specs.Opening.{newStage, newRun}
 use Rattle.run.specs.Slots.{inputInto, slotBreaks, singleNext, stageNext, runNext, operatorWordNext, wordNext}
 use Rattle.run.proofs.Parts.{length-part, part-at, part-is, operator-within, operator-of-word, age-of-word}

@@ -11,6 +11,7 @@ use lib.Seq.{getD-set-same, getD-set-other, getD-take, getD-append-add}
 use lib.Dec.{eqb}
 use borrow.Author.Count.{below-none, below-more}
 use borrow.Author.Tests.{eq-eqb, ne-eqb}
+use Rattle.quantity.specs.Limits.{mostOperators}
 use Rattle.quantity.specs.Sums.{listOf}
 use Rattle.quantity.specs.declared.refusal.Refusal.{Refusal}
 use Rattle.quantity.specs.declared.refusal.Refusal.the-variants.{Unusable}
@@ -30,7 +31,7 @@ use Rattle.figures.specs.Answers.{operatorAt, pathCases, refusedFigures, accept
 use Rattle.figures.proofs.Promise.{accepted-figures, accepted-none}
 use Rattle.run.specs.declared.Stage.{Stage}
 use Rattle.run.specs.declared.opening.Opened.{Opened}
-use Rattle.run.specs.Runs.{runWordCount, mostOperators, noStage}
+use Rattle.run.specs.Runs.{runWordCount, noStage}
 use Rattle.run.specs.Opening.{newStage, newRun, refusedOpening, openedOf, wordsOpened}
 
 -- a place's operator with nothing held

@@ -6,13 +6,14 @@ use native.Mathlib.Nat.{mul-add-div, mul-add-mod-self-left, div-eq-of-lt, mod-eq
 use native.Mathlib.Omega.{arith}
 use lib.ListN.{length, length-take, length-drop}
 use lib.Seq.{getD-take, getD-drop}
+use Rattle.quantity.specs.Limits.{mostOperators}
 use Rattle.quantity.specs.Sums.{listOf}
 use Rattle.quantity.proofs.Sums.{listOf-ext}
 use Rattle.operator.specs.Single.{wordCount}
 use Rattle.words.specs.Stored.{wordAt}
 use Rattle.meter.specs.Meter.{meterWordCount}
 use Rattle.sheet.specs.Bodies.{part}
-use Rattle.run.specs.Runs.{runWordCount, mostOperators, operatorAtWord}
+use Rattle.run.specs.Runs.{runWordCount, operatorAtWord}
 
 -- a part's length and its elements
 module _ (at width : ℕ) (words : List ℕ) (within : at + width ≤ length words) where

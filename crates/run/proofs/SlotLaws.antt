@@ -9,7 +9,7 @@ use lib.Dec.{leb}
 use lib.ListN.{length, getD}
 use borrow.Author.Tests.{lt-ltb, le-ltb, eq-eqb, ne-eqb}
 use Rattle.quantity.specs.Choice.{pick, both}
-use Rattle.quantity.specs.Limits.{largestAmount}
+use Rattle.quantity.specs.Limits.{largestAmount, mostOperators}
 use Rattle.quantity.specs.Sums.{every, listOf}
 use Rattle.quantity.specs.Refusals.{Case, _⇒_, firstOf}
 use Rattle.quantity.specs.declared.Units.{Units}
@@ -25,7 +25,7 @@ use Rattle.run.specs.declared.slot.Outcome.{Outcome}
 use Rattle.run.specs.declared.slot.Slotted.{Slotted}
 use Rattle.run.specs.declared.test.Tested.{Tested}
 use Rattle.run.specs.Calls.{Call, choiceFor, choicesMiscounted, amountTooLarge}
-use Rattle.run.specs.Runs.{runWordCount, mostOperators, meterWords, meterIn, runUnusable}
+use Rattle.run.specs.Runs.{runWordCount, meterWords, meterIn, runUnusable}
 use Rattle.run.specs.Slots.{slotBreaks, choiceCases, slotLeavesTooMuch, slotCases, slotOutput, refusedSlot, takenSlot, slottedOf, wordsSlotted}
 use Rattle.run.specs.Steps.{notTested, countedIn, testedOf, noMove, moveOf, planOf, runWritten, wordWritten}
 use Rattle.run.specs.Taking.{Took}

@@ -9,6 +9,7 @@ use lib.Seq.{getD-set-same, getD-set-other}
 use lib.Dec.{ltb, eqb}
 use borrow.Author.Count.{below-none, below-more}
 use borrow.Author.Tests.{eqb-true, not-false}
+use Rattle.quantity.specs.Limits.{mostOperators}
 use Rattle.quantity.specs.Choice.{pick, both}
 use Rattle.quantity.specs.Sums.{every, listOf}
 use Rattle.quantity.specs.declared.Slots.{Slots}
@@ -35,7 +36,7 @@ use Rattle.run.specs.declared.Stage.{Stage}
 use Rattle.run.specs.declared.Run.{Run}
 use Rattle.run.specs.declared.test.Tested.{Tested}
 use Rattle.run.specs.declared.watch.Watched.{Watched}
-use Rattle.run.specs.Runs.{mostOperators, meterIn, meterWords, operatorWords, noStage, noOperator, stageAt, singleOf, singleIn, stageMisplaced, stageUnusable, stageFits, runUnusable}
+use Rattle.run.specs.Runs.{meterIn, meterWords, operatorWords, noStage, noOperator, stageAt, singleOf, singleIn, stageMisplaced, stageUnusable, stageFits, runUnusable}
 use Rattle.run.specs.Watching.{runHolds, unitsHeld, watchedOf}
 use Rattle.run.specs.Steps.{notTested, countedIn, testedOf}
 use Rattle.run.proofs.UsableRun.{UsableRun, run-usable, run-unusable}

@@ -6,6 +6,7 @@ use Prim.Native.Nat.{ℕ, _≤_, _<_}
 use lib.ListN.{length}
 use lib.Dec.{leb, ltb, eqb}
 use borrow.Author.Tests.{eqb-true, eq-eqb, leb-true, le-leb, lt-ltb, le-ltb, not-true, not-false}
+use Rattle.quantity.specs.Limits.{mostOperators}
 use Rattle.quantity.specs.Choice.{pick, both}
 use Rattle.quantity.specs.Sums.{every}
 use Rattle.quantity.proofs.Laws.{pick-true, pick-false, either-false, either-none}
@@ -15,7 +16,7 @@ use Rattle.operator.specs.Operators.{numberInRange}
 use Rattle.meter.specs.Meter.{meterUnusable}
 use Rattle.operator.proofs.SingleLaws.{Usable, usable}
 use Rattle.run.specs.declared.Run.{Run}
-use Rattle.run.specs.Runs.{runWordCount, mostOperators, meterWords, operatorWords, noOperator, stageAt, meterIn, singleIn, stageMisplaced, stageUnusable, stageFits, runUnusable}
+use Rattle.run.specs.Runs.{runWordCount, meterWords, operatorWords, noOperator, stageAt, meterIn, singleIn, stageMisplaced, stageUnusable, stageFits, runUnusable}
 
 pub record UsableRun (run : Run) (words : List ℕ) : Type 0 where
   pub sized : length words ≡ runWordCount

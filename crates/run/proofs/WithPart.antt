@@ -5,11 +5,12 @@ use Prim.Native.Nat.{ℕ, _+_, _-_, _≤_, _<_}
 use native.Mathlib.Omega.{arith}
 use lib.ListN.{length, take, drop, length-append, length-take, length-drop, List·getD-append}
 use lib.Seq.{length-take-le, take-at, drop-at, getD-take, getD-drop, getD-append-add, drop-drop, ext-getD}
+use Rattle.quantity.specs.Limits.{mostOperators}
 use Rattle.operator.specs.Single.{wordCount}
 use Rattle.meter.specs.Meter.{meterWordCount}
 use Rattle.words.specs.Stored.{wordAt}
 use Rattle.sheet.specs.Bodies.{part}
-use Rattle.run.specs.Runs.{runWordCount, mostOperators, meterWords, operatorAtWord, operatorWords}
+use Rattle.run.specs.Runs.{runWordCount, meterWords, operatorAtWord, operatorWords}
 use Rattle.run.specs.Steps.{withPart}
 use Rattle.run.proofs.Parts.{length-part, part-at, operator-within}
 

@@ -11,6 +11,7 @@ use lib.Dec.{ltb}
 use lib.ListN.{length, getD, set, take, drop, length-set}
 use lib.Seq.{getD-set-same, getD-set-other}
 use borrow.Author.Tests.{ltb-true, ltb-false, lt-ltb, le-ltb}
+use Rattle.quantity.specs.Limits.{mostOperators}
 use Rattle.quantity.specs.Choice.{pick}
 use Rattle.quantity.specs.Sums.{listOf}
 use Rattle.quantity.specs.Refusals.{Case, firstOf}
@@ -30,7 +31,7 @@ use Rattle.sheet.specs.Bodies.{part}
 use Rattle.run.specs.declared.Stage.{Stage}
 use Rattle.run.specs.declared.Run.{Run}
 use Rattle.run.specs.declared.decide.Move.{Move}
-use Rattle.run.specs.Runs.{runWordCount, mostOperators, meterWords, operatorAtWord, operatorWords, noStage, stageAt, meterIn, singleOf}
+use Rattle.run.specs.Runs.{runWordCount, meterWords, operatorAtWord, operatorWords, noStage, stageAt, meterIn, singleOf}
 use Rattle.run.specs.Steps.{noMove, withPart, meterWritten, stageWritten, stageWords, runWritten, stageWord, wordWritten}
 use Rattle.run.proofs.Parts.{length-part, part-at}
 use Rattle.run.proofs.Joined.{length-operatorWords, operator-word}

@@ -8,7 +8,7 @@ use lib.Dec.{ltb}
 use lib.ListN.{getD}
 use borrow.Author.Tests.{ltb-true, ltb-false, not-true, not-false}
 use Rattle.quantity.specs.Choice.{pick}
-use Rattle.quantity.specs.Limits.{largestAmount}
+use Rattle.quantity.specs.Limits.{largestAmount, mostOperators}
 use Rattle.quantity.specs.Sums.{listOf}
 use Rattle.quantity.proofs.Laws.{either-false}
 use Rattle.quantity.proofs.Sums.{every-at, getD-listOf}
@@ -28,7 +28,7 @@ use Rattle.run.specs.declared.Stage.{Stage}
 use Rattle.run.specs.declared.Run.{Run}
 use Rattle.run.specs.declared.decide.Move.{Move}
 use Rattle.run.specs.Calls.{Call, amountTooLarge}
-use Rattle.run.specs.Runs.{mostOperators, meterWords, operatorWords, stageAt, meterIn, singleIn}
+use Rattle.run.specs.Runs.{meterWords, operatorWords, stageAt, meterIn, singleIn}
 use Rattle.run.specs.Slots.{inputInto, slotBreaks, choiceCases, leavesTooMuchAt, slotLeavesTooMuch, slotCases, singleNext, stageNext, runNext, operatorWordNext, wordNext}
 use Rattle.run.specs.Watching.{runHolds}
 use Rattle.run.specs.Steps.{countedIn, noMove, runHoldsNext, moveOf, meterWritten, stageWritten, stageWords, runWritten, stageWord, wordWritten}

@@ -7,10 +7,15 @@ use lib.Dec.{leb, ltb, eqb}
 use Rattle.quantity.specs.Choice.{either}
 use Rattle.quantity.specs.Sums.{every}
 use Rattle.quantity.specs.Limits.{largestAmount}
+use Rattle.quantity.specs.declared.Units.{Units}
 
 pub record Call : Type 0 where
   pub input : ℕ
   pub choices : List ℕ
+
+-- the call of these arguments
+abbrev pub callOf : Units → List ℕ → Call
+callOf input choices = record { input = input .0; choices = choices }
 
 -- the choice for operator k
 abbrev pub choiceFor : Call → ℕ → ℕ

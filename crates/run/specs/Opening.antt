@@ -1,19 +1,20 @@
 -- Opening a run (sections 6 and 7): 1, then 2 to 9 of the sheet; accepted, it clears all words and does not test what they held.
 use Prim.Native.Nat.{ℕ}
 use mathlib.Core.Bool.{not}
-use mathlib.Core.List.{List, _∷_, _++_}
+use mathlib.Core.List.{List, _∷_}
 use lib.ListN.{length, replicate}
 use lib.Dec.{eqb}
+use Rattle.quantity.specs.Limits.{mostOperators}
 use Rattle.quantity.specs.Sums.{listOf}
 use Rattle.quantity.specs.Refusals.{Case, _⇒_, firstOf}
 use Rattle.quantity.specs.declared.refusal.Refusal.{Refusal}
 use Rattle.quantity.specs.declared.refusal.Refusal.the-variants.{Unusable}
 use Rattle.flow.specs.declared.Kind.{Kind}
 use Rattle.sheet.specs.Paths.{Path}
-use Rattle.sheet.specs.Sheets.{sheetCases, pathIn}
+use Rattle.sheet.specs.Sheets.{pathIn}
 use Rattle.sheet.specs.declared.read.Verdict.{Verdict}
-use Rattle.figures.specs.Answers.{operatorAt, pathCases}
-use Rattle.run.specs.Runs.{runWordCount, mostOperators, noStage}
+use Rattle.figures.specs.Answers.{operatorAt, figuresCases}
+use Rattle.run.specs.Runs.{runWordCount, noStage}
 use Rattle.run.specs.declared.Stage.{Stage}
 use Rattle.run.specs.declared.Run.{Run}
 use Rattle.run.specs.declared.opening.Opened.{Opened}
@@ -39,7 +40,7 @@ noRun =
     }
 
 abbrev pub openCases : List ℕ → List ℕ → List Case
-openCases sheet words = (not (eqb (length words) runWordCount) ⇒ Unusable) ∷ (sheetCases sheet ++ pathCases (pathIn sheet))
+openCases sheet words = (not (eqb (length words) runWordCount) ⇒ Unusable) ∷ figuresCases sheet
 
 unfoldable pub refusedOpening : Refusal → Opened
 refusedOpening why = record { verdict = Verdict.Refused why; run = noRun }

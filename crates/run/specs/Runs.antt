@@ -4,6 +4,7 @@ use mathlib.Core.Bool.{Bool, false, not}
 use mathlib.Core.List.{List, [], _∷_}
 use lib.ListN.{length, getD}
 use lib.Dec.{leb, ltb, eqb}
+use Rattle.quantity.specs.Limits.{mostOperators}
 use Rattle.quantity.specs.Choice.{pick, both, anyOf}
 use Rattle.quantity.specs.Sums.{every}
 use Rattle.quantity.specs.declared.Slots.{Slots}
@@ -19,12 +20,9 @@ use Rattle.sheet.specs.Bodies.{part}
 use Rattle.run.specs.declared.Stage.{Stage}
 use Rattle.run.specs.declared.Run.{Run}
 
--- a run's words, and the most operators that it can have
+-- a run's words
 abbrev pub runWordCount : ℕ
 runWordCount = 2_048
-
-abbrev pub mostOperators : ℕ
-mostOperators = 16
 
 -- the meter's words are the first 1,024; word 1,024 + 64·k + a is word a of operator k
 unfoldable pub meterWords : List ℕ → List ℕ

@@ -3,6 +3,7 @@ use Prim.Native.Nat.{ℕ, zero, suc, _+_, _-_, _/_, _%_}
 use mathlib.Core.Bool.{Bool, not}
 use mathlib.Core.List.{List, [], _∷_, _++_}
 use lib.Dec.{ltb}
+use Rattle.quantity.specs.Limits.{mostOperators}
 use Rattle.quantity.specs.Choice.{pick}
 use Rattle.quantity.specs.Sums.{every, listOf}
 use Rattle.quantity.specs.Refusals.{Case, _⇒_, firstOf}
@@ -13,7 +14,7 @@ use Rattle.operator.specs.Single.{wordCount, sent, choiceAbove, leavesTooMuch, 
 use Rattle.meter.specs.Meter.{meterWordCount, inputBreaks, meterNext, meterWordNext}
 use Rattle.operator.specs.declared.SingleOperator.{SingleOperator}
 use Rattle.run.specs.Calls.{Call, choiceFor, choicesMiscounted, amountTooLarge}
-use Rattle.run.specs.Runs.{runWordCount, mostOperators, meterWords, operatorWords, stageAt, meterIn, singleIn, runUnusable}
+use Rattle.run.specs.Runs.{runWordCount, meterWords, operatorWords, stageAt, meterIn, singleIn, runUnusable}
 use Rattle.run.specs.declared.Stage.{Stage}
 use Rattle.run.specs.declared.Run.{Run}
 use Rattle.run.specs.declared.slot.Outcome.{Outcome}

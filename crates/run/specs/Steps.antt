@@ -1,3 +1,4 @@
+-- Serves the private contracts of the run, and need not be believed: no public call cites it.
 -- The three steps of a slot, as the code takes them: what the test finds, what is decided of each operator, and the call that the arguments are.
 use Prim.Native.Nat.{ℕ, suc, _+_, _-_, _/_, _%_}
 use mathlib.Core.Bool.{Bool, true, false}
@@ -5,11 +6,10 @@ use mathlib.Core.List.{List, [], _∷_, _++_}
 use lib.Dec.{leb, ltb}
 use lib.ListN.{length, getD, take, drop, replicate}
 use Rattle.quantity.specs.Choice.{pick, both}
-use Rattle.quantity.specs.Limits.{largestAmount}
+use Rattle.quantity.specs.Limits.{largestAmount, mostOperators}
 use Rattle.quantity.specs.Sums.{listOf}
 use Rattle.quantity.specs.Refusals.{_⇒_, firstOf}
 use Rattle.quantity.specs.declared.Slots.{Slots}
-use Rattle.quantity.specs.declared.Units.{Units}
 use Rattle.quantity.specs.declared.refusal.Refusal.the-variants.{Unusable}
 use Rattle.operator.specs.Held.{Held}
 use Rattle.operator.specs.Single.{wordCount, holdsNext}
@@ -21,7 +21,7 @@ use Rattle.meter.specs.declared.SourceMeter.{SourceMeter}
 use Rattle.operator.specs.declared.single.Kept.{Kept}
 use Rattle.meter.specs.declared.Metered.{Metered}
 use Rattle.run.specs.Calls.{Call}
-use Rattle.run.specs.Runs.{mostOperators, meterWords, operatorWords, stageAt, meterIn, singleOf, singleIn, runUnusable}
+use Rattle.run.specs.Runs.{meterWords, operatorWords, stageAt, meterIn, singleOf, singleIn, runUnusable}
 use Rattle.run.specs.Slots.{inputInto, choiceCases, slotLeavesTooMuch, slotOutput}
 use Rattle.run.specs.Watching.{unitsHeld}
 use Rattle.run.specs.declared.Stage.{Stage}
@@ -29,10 +29,6 @@ use Rattle.run.specs.declared.Run.{Run}
 use Rattle.run.specs.declared.slot.Outcome.{Outcome}
 use Rattle.run.specs.declared.test.Tested.{Tested}
 use Rattle.run.specs.declared.decide.Move.{Move}
-
--- the call of these arguments
-abbrev pub callOf : Units → List ℕ → Call
-callOf input choices = record { input = input .0; choices = choices }
 
 -- Test.
 

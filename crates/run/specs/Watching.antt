@@ -3,6 +3,7 @@ use Prim.Native.Nat.{ℕ}
 use mathlib.Core.List.{List, [], _∷_}
 use lib.Dec.{ltb}
 use lib.ListN.{replicate}
+use Rattle.quantity.specs.Limits.{mostOperators}
 use Rattle.quantity.specs.Choice.{pick}
 use Rattle.quantity.specs.Sums.{listOf}
 use Rattle.quantity.specs.Refusals.{_⇒_, firstOf}
@@ -12,7 +13,7 @@ use Rattle.quantity.specs.declared.refusal.Refusal.the-variants.{Unusable}
 use Rattle.operator.specs.Held.{Held}
 use Rattle.operator.specs.Single.{holds}
 use Rattle.sheet.specs.declared.read.Verdict.{Verdict}
-use Rattle.run.specs.Runs.{mostOperators, operatorWords, singleIn, runUnusable}
+use Rattle.run.specs.Runs.{operatorWords, singleIn, runUnusable}
 use Rattle.run.specs.declared.Run.{Run}
 use Rattle.run.specs.declared.watch.Watched.{Watched}
 

@@ -13,12 +13,13 @@ ghost use mathlib.Core.Path.{_≡_};
 ghost use mathlib.Core.Bool.{false};
 ghost use Prim.Native.Nat.{ℕ, _<_};
 ghost use lib.ListN.{length, getD};
+ghost use Rattle.quantity.specs.Limits.{mostOperators};
 ghost use Rattle.quantity.specs.Sums.{listOf};
 ghost use Rattle.operator.specs.Within.{decidedOf};
-ghost use Rattle.run.specs.Calls.{choicesMiscounted, amountTooLarge};
-ghost use Rattle.run.specs.Runs.{runWordCount, mostOperators, operatorWords, singleOf, runUnusable};
+ghost use Rattle.run.specs.Calls.{choicesMiscounted, amountTooLarge, callOf};
+ghost use Rattle.run.specs.Runs.{runWordCount, operatorWords, singleOf, runUnusable};
 ghost use Rattle.run.specs.Watching.{unitsHeld};
-ghost use Rattle.run.specs.Steps.{callOf, noMove, moveOf, storable, planOf};
+ghost use Rattle.run.specs.Steps.{noMove, moveOf, storable, planOf};
 ghost use Rattle.run.specs.Taking.{Took};
 
 // What an operator of the path gets in a slot, and has once it has sent.

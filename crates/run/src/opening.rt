@@ -16,10 +16,10 @@ use sheet::read::Verdict;
 ghost use mathlib.Core.Path.{_≡_};
 ghost use Prim.Native.Nat.{_≤_};
 ghost use lib.ListN.{length};
+ghost use Rattle.quantity.specs.Limits.{mostOperators};
 ghost use Rattle.quantity.specs.Sums.{listOf};
 ghost use Rattle.sheet.specs.Paths.{Path};
 ghost use Rattle.sheet.specs.Forms.{valueOfPath};
-ghost use Rattle.run.specs.Runs.{mostOperators};
 ghost use Rattle.run.specs.Opening.{newRun, noRun, refusedOpening, openedOf, wordsOpened};
 
 // The run of an accepted sheet. Beside a refusal it is the empty one.

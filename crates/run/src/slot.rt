@@ -14,9 +14,8 @@ ghost use lib.ListN.{length, getD};
 ghost use Rattle.quantity.specs.Choice.{both};
 ghost use Rattle.quantity.specs.Limits.{largestAmount};
 ghost use Rattle.quantity.specs.Sums.{every};
-ghost use Rattle.run.specs.Calls.{choicesMiscounted, amountTooLarge};
+ghost use Rattle.run.specs.Calls.{choicesMiscounted, amountTooLarge, callOf};
 ghost use Rattle.run.specs.Slots.{refusedSlot, slottedOf, wordsSlotted};
-ghost use Rattle.run.specs.Steps.{callOf};
 
 // What a slot call answers: the last operator's output, or why it is refused.
 pub enum Outcome {

@@ -15,9 +15,10 @@ ghost use mathlib.Core.Path.{_≡_};
 ghost use mathlib.Core.Bool.{true, not};
 ghost use Prim.Native.Nat.{_<_};
 ghost use lib.ListN.{length};
+ghost use Rattle.quantity.specs.Limits.{mostOperators};
 ghost use Rattle.quantity.specs.Sums.{every, listOf};
 ghost use Rattle.operator.specs.Within.{storedOf};
-ghost use Rattle.run.specs.Runs.{runWordCount, mostOperators, operatorWords, noOperator, singleOf, stageMisplaced, stageFits};
+ghost use Rattle.run.specs.Runs.{runWordCount, operatorWords, noOperator, singleOf, stageMisplaced, stageFits};
 ghost use Rattle.run.specs.Watching.{unitsHeld};
 ghost use Rattle.run.specs.Steps.{notTested, testedOf};
 

@@ -15,9 +15,10 @@ use quantity::Units;
 ghost use mathlib.Core.Path.{_≡_};
 ghost use Prim.Native.Nat.{_≤_, _<_};
 ghost use lib.ListN.{length};
+ghost use Rattle.quantity.specs.Limits.{mostOperators};
 ghost use Rattle.quantity.specs.Sums.{listOf};
 ghost use Rattle.meter.specs.MeterWithin.{wordsNoted};
-ghost use Rattle.run.specs.Runs.{runWordCount, mostOperators, operatorAtWord, meterWords, operatorWords, meterIn};
+ghost use Rattle.run.specs.Runs.{runWordCount, operatorAtWord, meterWords, operatorWords, meterIn};
 ghost use Rattle.run.specs.Steps.{withPart, meterWritten, stageWritten, stageWords, runWritten, wordWritten};
 
 pub(crate) fn write(

@@ -24,7 +24,7 @@ use Rattle.sheet.specs.Bodies.{part, kindByte, declarationBody, wantedBo
 use Rattle.sheet.specs.House.{houseIn, houseBody, delayerSlots, houseInRange, houseFits, housePath}
 use Rattle.sheet.specs.Forms.{inFull, standsFor, houseValue, noPath}
 use Rattle.sheet.specs.Fields.{fieldOf, bodyAt, fieldMissing, headerCutOff, fieldUnexpected, bodyCutOff, bodyOutOfRange}
-use Rattle.sheet.specs.Sheets.{furtherCases, inHouseForm, sheetCases, valueIn, pathIn, readSheet, operatorFields, sheetOf, operatorsInRange, pathInRange, sheetOfValue, writeCases, writeAnswer, behindSheet, bytesWritten}
+use Rattle.sheet.specs.Sheets.{furtherCases, inHouseForm, sheetCases, valueIn, pathIn, readSheet, operatorFields, sheetOf, operatorsInRange, pathInRange, sheetOfValue, writeCases, writeAnswer, bytesWritten}
 
 -- a path of smooth (m, 30), its delay wanted, its count and an operator on link 0
 abbrev pub path : ℕ → ℕ → ℕ → Operator → PathValue
@@ -112,7 +112,7 @@ expected =
     ∷ []
 
 pub reference-sheets : computed ≡ expected
-unfolding computed expected inRange roundUp numberInRange declarationInRange bytesOf inFull standsFor kindByte declarationBody wantedBody operatorByte operatorNumber operatorBody operatorInRange houseBody delayerSlots houseInRange fieldOf operatorFields sheetOf operatorsInRange pathInRange sheetOfValue writeCases writeAnswer behindSheet bytesWritten
+unfolding computed expected inRange roundUp numberInRange declarationInRange bytesOf inFull standsFor kindByte declarationBody wantedBody operatorByte operatorNumber operatorBody operatorInRange houseBody delayerSlots houseInRange fieldOf operatorFields sheetOf operatorsInRange pathInRange sheetOfValue writeCases writeAnswer bytesWritten
 reference-sheets = refl
 
 -- profile 2 of three hops, written and read

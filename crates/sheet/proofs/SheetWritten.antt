@@ -9,6 +9,7 @@ use borrow.Author.Tests.{eq-eqb, ne-eqb, lt-ltb, le-ltb}
 use lib.ListN.{length, take}
 use lib.Seq.{sets}
 use lib.Dec.{eqb, ltb}
+use Rattle.quantity.specs.Lent.{writtenOver}
 use Rattle.quantity.specs.Choice.{both, either}
 use Rattle.quantity.specs.Ranges.{inRange, wantedDelayRange}
 use Rattle.quantity.specs.Refusals.{firstOf}
@@ -27,7 +28,7 @@ use Rattle.sheet.specs.Bodies.{declarationBody, wantedBody}
 use Rattle.sheet.specs.House.{houseBody, houseInRange}
 use Rattle.sheet.specs.Forms.{inFull, standsFor}
 use Rattle.sheet.specs.Fields.{fieldOf}
-use Rattle.sheet.specs.Sheets.{operatorFields, operatorsInRange, sheetOf, pathInRange, sheetOfValue, writeCases, writeAnswer, bytesWritten, behindSheet}
+use Rattle.sheet.specs.Sheets.{operatorFields, operatorsInRange, sheetOf, pathInRange, sheetOfValue, writeCases, writeAnswer, bytesWritten}
 use Rattle.sheet.proofs.Forms.{stands-in-fields, sheet-in-fields, refusals-in-fields, sheet-in-house, refusals-in-house}
 use Rattle.sheet.proofs.HouseLaws.{length-houseBody}
 use Rattle.sheet.proofs.Runs.{stored-first}
@@ -55,8 +56,7 @@ module _ {A : Type 0} (refused : Refusal → A) (result : A) (value : PathValue)
       first-house out = rw (refusals-in-house value h house lent) (simp (eq-eqb (length lent) 256 full, out))
 
 -- the sheet, stored from the start on, and behind it what the bytes held
-stored-sheet : (sheet lent : List ℕ) → length sheet ≤ length lent → sets lent 0 sheet ≡ behindSheet sheet lent
-unfolding behindSheet
+stored-sheet : (sheet lent : List ℕ) → length sheet ≤ length lent → sets lent 0 sheet ≡ writtenOver sheet lent
 stored-sheet = stored-first
 
 -- a field 04 has 25 bytes
@@ -77,7 +77,7 @@ module _ (value : PathValue) (lent : List ℕ) where
 
   pub wrong-length : (length lent ≡ 256 → ⊥) → Answers value lent (Written.Refused Unusable) lent
   unfolding writeAnswer bytesWritten
-  wrong-length h = (first-length Written.Refused (Written.Length (length sheet)) value lent h, first-length kept (behindSheet sheet lent) value lent h)
+  wrong-length h = (first-length Written.Refused (Written.Length (length sheet)) value lent h, first-length kept (writtenOver sheet lent) value lent h)
 
   -- behind all tests
   all-passed : length lent ≡ 256 → NoneStands (writeCases value lent) → {stored left : List ℕ} → sheetOfValue value ≡ stored → left ≡ sets lent 0 stored → length stored ≤ 256
@@ -86,19 +86,19 @@ module _ (value : PathValue) (lent : List ℕ) where
   all-passed full stands {stored} same held room =
       rw same (
         sym (firstOf-none Written.Refused (Written.Length (length stored)) (writeCases value lent) stands),
-        held ∙ stored-sheet stored lent (rw full room) ∙ sym (firstOf-none kept (behindSheet stored lent) (writeCases value lent) stands),
+        held ∙ stored-sheet stored lent (rw full room) ∙ sym (firstOf-none kept (writtenOver stored lent) (writeCases value lent) stands),
       )
 
   module _ (full : length lent ≡ 256) where
     module _ (fields : value .form ≡ Form.Fields) where
       pub wrong-count : (value .count ≡ 0) ⊎ (16 < value .count) → Answers value lent (Written.Refused (FieldUnexpected 0)) lent
       unfolding writeAnswer bytesWritten
-      wrong-count h = (first-count Written.Refused (Written.Length (length sheet)) value lent full fields h, first-count kept (behindSheet sheet lent) value lent full fields h)
+      wrong-count h = (first-count Written.Refused (Written.Length (length sheet)) value lent full fields h, first-count kept (writtenOver sheet lent) value lent full fields h)
 
       module _ (some : value .count ≡ 0 → ⊥) (few : value .count ≤ 16) where
         pub wrong-number : pathInRange (standsFor value) ≡ false → Answers value lent (Written.Refused (OutOfRange 0)) lent
         unfolding writeAnswer bytesWritten
-        wrong-number h = (first-number Written.Refused (Written.Length (length sheet)) value lent full fields some few h, first-number kept (behindSheet sheet lent) value lent full fields some few h)
+        wrong-number h = (first-number Written.Refused (Written.Length (length sheet)) value lent full fields some few h, first-number kept (writtenOver sheet lent) value lent full fields some few h)
 
         pub all-right : pathInRange (standsFor value) ≡ true → {left : List ℕ} → left ≡ sets lent 0 (sheetOf (standsFor value)) → length (sheetOf (standsFor value)) ≤ 256
             → Answers value lent (Written.Length (length (sheetOf (standsFor value)))) left
@@ -110,7 +110,7 @@ module _ (value : PathValue) (lent : List ℕ) where
     module _ (h : House) (house : value .form ≡ Form.House h) where
       pub wrong-house : houseInRange h ≡ false → Answers value lent (Written.Refused (OutOfRange 0)) lent
       unfolding writeAnswer bytesWritten
-      wrong-house out = (first-house Written.Refused (Written.Length (length sheet)) value lent full h house out, first-house kept (behindSheet sheet lent) value lent full h house out)
+      wrong-house out = (first-house Written.Refused (Written.Length (length sheet)) value lent full h house out, first-house kept (writtenOver sheet lent) value lent full h house out)
 
       pub house-right : houseInRange h ≡ true → {left : List ℕ} → left ≡ sets lent 0 (fieldOf 0x04 (houseBody h)) → Answers value lent (Written.Length 25) left
       house-right in-range stored =

@@ -1,6 +1,7 @@
 -- A path value has a form: it is written out in fields 01, 02 and 03, or it is a house profile. What it stands for, and the value of a path in a form.
 use mathlib.Core.List.{_++_}
 use lib.ListN.{length, take, replicate}
+use Rattle.quantity.specs.Limits.{mostOperators}
 use Rattle.flow.specs.declared.Kind.{Kind}
 use Rattle.sheet.specs.declared.House.{House}
 use Rattle.sheet.specs.declared.Form.{Form}
@@ -29,7 +30,7 @@ valueOfPath form path =
       declaration = path .declaration;
       wanted = record { 0 = path .wanted };
       count = length (path .operators);
-      operators = take 16 (path .operators ++ replicate 16 noLinkedOperator);
+      operators = take mostOperators (path .operators ++ replicate mostOperators noLinkedOperator);
     }
 
 -- the value of a house profile: the nine numbers, and the path that they stand for written out
@@ -39,4 +40,4 @@ houseValue h = valueOfPath (Form.House h) (housePath h)
 
 -- the path handed back beside a refusal
 abbrev pub noPath : PathValue
-noPath = record { form = Form.Fields; declaration = record { kind = Kind.Smooth; interval = record { 0 = 0 }; quota = record { 0 = 0 } }; wanted = record { 0 = 0 }; count = 0; operators = replicate 16 noLinkedOperator }
+noPath = record { form = Form.Fields; declaration = record { kind = Kind.Smooth; interval = record { 0 = 0 }; quota = record { 0 = 0 } }; wanted = record { 0 = 0 }; count = 0; operators = replicate mostOperators noLinkedOperator }

@@ -1,10 +1,12 @@
 -- Section 5: one field 01, one 02, then 1 to 16 of 03, or one 04 (document 02, item 2); what reading and writing a sheet answer (section 7).
-use Prim.Native.Nat.{ℕ, zero, suc, _+_}
+use Prim.Native.Nat.{ℕ, zero, suc, _+_, _-_}
 use mathlib.Core.Bool.{Bool, true, not}
 use mathlib.Core.List.{List, [], _∷_, _++_}
-use lib.ListN.{length, getD, drop}
+use lib.ListN.{length, getD}
 use lib.Dec.{leb, ltb, eqb}
 use Rattle.quantity.specs.Choice.{pick, both, either}
+use Rattle.quantity.specs.Lent.{writtenOver}
+use Rattle.quantity.specs.Limits.{mostOperators}
 use Rattle.quantity.specs.Ranges.{inRange, wantedDelayRange}
 use Rattle.quantity.specs.Refusals.{Case, _⇒_, firstOf}
 use Rattle.quantity.specs.declared.refusal.Refusal.the-variants.{Unusable, HeaderCutOff, FieldUnexpected, OutOfRange}
@@ -46,7 +48,7 @@ fieldsCases sheet =
     fieldCases sheet declarationAt declarationFormat
     ++ fieldCases sheet wantedAt wantedFormat
     ++ fieldCases sheet operatorsAt operatorFormat
-    ++ furtherCases 15 (operatorsAt + operatorLength) sheet
+    ++ furtherCases (mostOperators - 1) (operatorsAt + operatorLength) sheet
 
 -- one field 04 begins at the sheet's start and is 25 bytes long; what begins behind it is refused as behind the sixteenth operator
 abbrev pub houseAt : ℕ
@@ -77,7 +79,7 @@ fieldsPath sheet =
     record {
       declaration = declarationIn (bodyAt sheet declarationAt (declarationFormat .width));
       wanted = wantedIn (bodyAt sheet wantedAt (wantedFormat .width));
-      operators = operatorsFrom 16 operatorsAt sheet;
+      operators = operatorsFrom mostOperators operatorsAt sheet;
     }
 
 -- the value of the path of a sheet that is not refused
@@ -138,7 +140,7 @@ sheetOfValue value = sheetIn (value .form) (standsFor value)
 -- 3: a path written out has 0 or over 16 operators; 5: a number is out of its range
 formCases : Form → PathValue → List Case
 formCases Form.Fields value =
-    (either (eqb (value .count) 0) (ltb 16 (value .count)) ⇒ FieldUnexpected 0)
+    (either (eqb (value .count) 0) (ltb mostOperators (value .count)) ⇒ FieldUnexpected 0)
     ∷ (not (pathInRange (standsFor value)) ⇒ OutOfRange 0)
     ∷ []
 formCases (Form.House h) value = (not (houseInRange h) ⇒ OutOfRange 0) ∷ []
@@ -152,10 +154,6 @@ writeCases value lent = (not (eqb (length lent) 256) ⇒ Unusable) ∷ formCases
 unfoldable pub writeAnswer : PathValue → List ℕ → Written
 writeAnswer value lent = firstOf (writeCases value lent) Written.Refused (Written.Length (length (sheetOfValue value)))
 
-unfoldable pub behindSheet : List ℕ → List ℕ → List ℕ
-behindSheet sheet lent = sheet ++ drop (length sheet) lent
-
 -- what the lent bytes hold then: the sheet, and behind it what they held; all that they held where it is refused
 unfoldable pub bytesWritten : PathValue → List ℕ → List ℕ
-unfolding behindSheet
-bytesWritten value lent = firstOf (writeCases value lent) (λ why. lent) (behindSheet (sheetOfValue value) lent)
+bytesWritten value lent = firstOf (writeCases value lent) (λ why. lent) (writtenOver (sheetOfValue value) lent)

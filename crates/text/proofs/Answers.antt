@@ -7,13 +7,14 @@ use native.Mathlib.Omega.{arith}
 use lib.ListN.{length, drop, length-drop}
 use lib.Dec.{leb, ltb, eqb}
 use borrow.Author.Tests.{ltb-true, eqb-false}
+use Rattle.quantity.specs.Limits.{largest64}
 use Rattle.quantity.specs.Choice.{pick}
 use Rattle.text.specs.declared.line.Gathered.{Gathered}
 use Rattle.text.specs.declared.decimal.Decimal.{Decimal}
 use Rattle.text.specs.declared.decimal.Decimals.{Decimals}
 use Rattle.text.specs.declared.hexadecimal.Hexadecimal.{Hexadecimal}
 use Rattle.text.specs.Lines.{gatheredOf}
-use Rattle.text.specs.Decimals.{largestNumber, isDigit, leadingDigits, valueOf, decimalOf, decimalAt}
+use Rattle.text.specs.Decimals.{isDigit, leadingDigits, valueOf, decimalOf, decimalAt}
 use Rattle.text.specs.Rows.{Row, numbers, fault, ahead}
 use Rattle.text.specs.DecimalRows.{due, behind, rowFrom, decimalsFrom}
 use Rattle.text.specs.Hexadecimals.{bytesIn, fitted, hexadecimalFrom}
@@ -52,7 +53,7 @@ decimal-within text from value next e = of (leadingDigits (drop from text)) (lea
 
     of : (digits : List ℕ) → length digits ≤ length (drop from text) → decimalOf digits from ≡ Decimal.Number value next → (from < next) × (next ≤ length text)
     of digits few same =
-        let (some, end) = by-tests digits (eqb (length digits) 0) (leb (valueOf digits) largestNumber) refl same in
+        let (some, end) = by-tests digits (eqb (length digits) 0) (leb (valueOf digits) largest64) refl same in
         (omega arith, omega (arith, length-drop from text))
 
 -- no more numbers than places

@@ -10,12 +10,13 @@ use lib.ListN.{length, getD, drop, drop-of-length-le}
 use lib.Seq.{drop-cons}
 use lib.Dec.{leb, eqb}
 use borrow.Author.Tests.{leb-true, leb-false, le-leb, lt-leb, ne-eqb}
+use Rattle.quantity.specs.Limits.{largest64}
 use Rattle.quantity.specs.Choice.{pick}
 use Rattle.quantity.proofs.Laws.{pick-true, picked-true, picked-false}
 use Rattle.quantity.proofs.Sums.{both-true}
 use Rattle.text.specs.declared.decimal.Decimal.the-variants.{Number, NoDigit, TooLarge}
 use Rattle.text.specs.declared.decimal.Extended.{Extended}
-use Rattle.text.specs.Decimals.{largestNumber, isDigit, leadingDigits, withDigit, withDigits, valueOf, decimalOf, decimalAt}
+use Rattle.text.specs.Decimals.{isDigit, leadingDigits, withDigit, withDigits, valueOf, decimalOf, decimalAt}
 use Rattle.text.proofs.Elements.{fails-past, stands-within}
 
 pub digit-least : (byte : ℕ) → isDigit byte ≡ true → 48 ≤ byte
@@ -54,7 +55,7 @@ value-grows number (digit ∷ digits) = omega (arith, value-grows (10 * number +
 
 -- the digits before an index are read: their value, and that no digit is passed over
 pub record ReadDigits (text : List ℕ) (from value at : ℕ) : Type 0 where
-  pub small : value ≤ largestNumber
+  pub small : value ≤ largest64
   pub valued : withDigits value (leadingDigits (drop at text)) ≡ valueOf (leadingDigits (drop from text))
   pub placed : at + length (leadingDigits (drop at text)) ≡ from + length (leadingDigits (drop from text))
 
@@ -63,7 +64,7 @@ unfolding valueOf
 read-first text from = record { small = omega arith; valued = refl; placed = refl }
 
 module _ (text : List ℕ) (from value at : ℕ) (so-far : ReadDigits text from value at) where
-  pub read-next : isDigit (getD text at 0) ≡ true → withDigit value (getD text at 0) ≤ largestNumber → ReadDigits text from (withDigit value (getD text at 0)) (at + 1)
+  pub read-next : isDigit (getD text at 0) ≡ true → withDigit value (getD text at 0) ≤ largest64 → ReadDigits text from (withDigit value (getD text at 0)) (at + 1)
   unfolding withDigits
   read-next digit small =
       let more = leading-more text at digit in
@@ -86,14 +87,14 @@ module _ (text : List ℕ) (from value at : ℕ) (so-far : ReadDigits text from 
         let none = leading-none text at other in
         let number : value ≡ valueOf (leadingDigits (drop from text)) = sym (ap (withDigits value) none) ∙ so-far .valued in
         let end : at ≡ from + length (leadingDigits (drop from text)) = omega (arith, ap length none, so-far .placed) in
-        rw (some-digits, ← number, le-leb value largestNumber (so-far .small), ← end)
+        rw (some-digits, ← number, le-leb value largest64 (so-far .small), ← end)
 
     -- one digit more makes it too large, and so do all
-    pub read-large : isDigit (getD text at 0) ≡ true → largestNumber < withDigit value (getD text at 0) → TooLarge ≡ decimalAt text from
+    pub read-large : isDigit (getD text at 0) ≡ true → largest64 < withDigit value (getD text at 0) → TooLarge ≡ decimalAt text from
     unfolding withDigits decimalAt decimalOf
     read-large digit large =
         let all : withDigits (withDigit value (getD text at 0)) (leadingDigits (drop (at + 1) text)) ≡ valueOf (leadingDigits (drop from text)) = sym (ap (withDigits value) (leading-more text at digit)) ∙ so-far .valued in
-        let above : largestNumber < valueOf (leadingDigits (drop from text)) = omega (arith, value-grows (withDigit value (getD text at 0)) (leadingDigits (drop (at + 1) text))) in
+        let above : largest64 < valueOf (leadingDigits (drop from text)) = omega (arith, value-grows (withDigit value (getD text at 0)) (leadingDigits (drop (at + 1) text))) in
         rw (some-digits, lt-leb _ _ above)
 
 pub read-none : (text : List ℕ) (from : ℕ) → isDigit (getD text from 0) ≡ false → NoDigit ≡ decimalAt text from
@@ -101,12 +102,12 @@ unfolding decimalAt decimalOf
 read-none text from other = rw (leading-none text from other)
 
 -- what one digit more says of the number with it
-module _ (number : ℕ) {r : Extended} (answered : r ≡ pick (leb number largestNumber) (Extended.Number number) Extended.TooLarge) where
-  pub extended-small : (value : ℕ) → r ≡ Extended.Number value → (value ≡ number) × (number ≤ largestNumber)
+module _ (number : ℕ) {r : Extended} (answered : r ≡ pick (leb number largest64) (Extended.Number number) Extended.TooLarge) where
+  pub extended-small : (value : ℕ) → r ≡ Extended.Number value → (value ≡ number) × (number ≤ largest64)
   extended-small value e =
-      let fits : leb number largestNumber ≡ true = picked-true _ _ _ answered (λ other. let z : _≡_ {A = ℕ} 0 1 = cc in omega arith) in
+      let fits : leb number largest64 ≡ true = picked-true _ _ _ answered (λ other. let z : _≡_ {A = ℕ} 0 1 = cc in omega arith) in
       let same : r ≡ Extended.Number number = answered ∙ pick-true _ _ _ fits in
       (cc, leb-true _ _ fits)
 
-  pub extended-large : r ≡ Extended.TooLarge → largestNumber < number
+  pub extended-large : r ≡ Extended.TooLarge → largest64 < number
   extended-large e = leb-false _ _ (picked-false _ _ _ answered (λ other. let z : _≡_ {A = ℕ} 0 1 = cc in omega arith))

@@ -5,12 +5,9 @@ use mathlib.Core.List.{List, [], _∷_}
 use lib.ListN.{length, drop}
 use lib.Dec.{leb, eqb}
 use Rattle.quantity.specs.Choice.{pick, both}
+use Rattle.quantity.specs.Limits.{largest64}
 use Rattle.text.specs.declared.decimal.Decimal.{Decimal}
 use Rattle.text.specs.declared.decimal.Decimal.the-variants.{Number, NoDigit, TooLarge}
-
--- the largest number of 64 bits
-abbrev pub largestNumber : ℕ
-largestNumber = 18_446_744_073_709_551_615
 
 -- '0' to '9'
 unfoldable pub isDigit : ℕ → Bool
@@ -38,7 +35,7 @@ valueOf digits = withDigits 0 digits
 unfoldable pub decimalOf : List ℕ → ℕ → Decimal
 decimalOf digits from =
     pick (eqb (length digits) 0) NoDigit
-    (pick (leb (valueOf digits) largestNumber) (Number (valueOf digits) (from + length digits)) TooLarge)
+    (pick (leb (valueOf digits) largest64) (Number (valueOf digits) (from + length digits)) TooLarge)
 
 -- the number in a text from an index on
 unfoldable pub decimalAt : List ℕ → ℕ → Decimal

@@ -1,7 +1,8 @@
 -- A row: numbers that stand in a text one behind the other, or, if the text has a fault, what is answered for it.
 use Prim.Native.Nat.{ℕ}
-use mathlib.Core.List.{List, _∷_, _++_}
-use lib.ListN.{length, drop}
+use mathlib.Core.List.{List, _∷_}
+use lib.ListN.{length}
+use Rattle.quantity.specs.Lent.{writtenOver}
 
 -- what stands between two
 abbrev pub space : ℕ
@@ -24,5 +25,5 @@ answerOf counted (fault why) = why
 
 -- what lent memory holds then: the numbers from index 0 on, and behind them what it held; where there is a fault, all that it held
 unfoldable pub storedIn : {Answer : Type 0} → List ℕ → Row Answer → List ℕ
-storedIn lent (numbers ns) = ns ++ drop (length ns) lent
+storedIn lent (numbers ns) = writtenOver ns lent
 storedIn lent (fault why) = lent

@@ -5,9 +5,10 @@ ghost use mathlib.Core.Path.{_≡_};
 ghost use mathlib.Core.Bool.{true};
 ghost use lib.ListN.{length, getD};
 ghost use lib.Dec.{leb};
+ghost use Rattle.quantity.specs.Limits.{largest64};
 ghost use Rattle.quantity.specs.Choice.{pick};
 ghost use Rattle.text.specs.Rows.{fault};
-ghost use Rattle.text.specs.Decimals.{largestNumber, isDigit, withDigit, decimalAt};
+ghost use Rattle.text.specs.Decimals.{isDigit, withDigit, decimalAt};
 ghost use Rattle.text.specs.DecimalRows.{rowFrom, decimalsFrom, numbersAfter};
 
 // A number and the index behind its last digit.
@@ -124,7 +125,7 @@ fn is_digit(byte: u8) -> bool
 // Ten times the number and the digit. The test is turned so that nothing wraps.
 fn extend(number: u64, digit: u8) -> Extended
     requires { ⌜ isDigit digit ≡ true ⌝ }
-    ensures { λ r. ⌜ r ≡ pick (leb (withDigit number digit) largestNumber) (Extended.Number (withDigit number digit)) Extended.TooLarge ⌝ }
+    ensures { λ r. ⌜ r ≡ pick (leb (withDigit number digit) largest64) (Extended.Number (withDigit number digit)) Extended.TooLarge ⌝ }
 {
     let units = (digit - 48) as u64;
     if (18_446_744_073_709_551_615 - units) / 10 < number {

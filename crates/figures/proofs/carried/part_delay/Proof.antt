@@ -2,7 +2,7 @@
 use Prim.Native.Nat.{_+_, _≤_}
 use borrow.Author.Needs.{needs}
 use native.Mathlib.Omega.{arith}
-use Rattle.quantity.specs.Quantities.{mostSlots}
+use Rattle.quantity.specs.Limits.{largest32}
 use Rattle.quantity.proofs.Quantities.{slots-sum}
 use Rattle.figures.specs.Figures.{partDelay}
 use Rattle.figures.specs.Carried.{classIn}
@@ -45,7 +45,7 @@ returns-2 c = let s = c .before .before .before .before .before .before .before 
     let slowest = c .before .before .before .before .before .slowest .given .1 in
     let rate = rate-within slowest (s .pre .slowest) in
     let few = round-up-at-most (c .before .before .before .burst .result .0) (c .before .before .wide .result) (omega arith) in
-    let fits : c .before .round-up .result + s .args .carried .e .0 ≤ mostSlots = omega (arith, few, burst-bound (classIn (s .args .carried .class)) (s .pre .class)) in
+    let fits : c .before .round-up .result + s .args .carried .e .0 ≤ largest32 = omega (arith, few, burst-bound (classIn (s .args .carried .class)) (s .pre .class)) in
     rw (slowest, c .plus .ensures, slots-sum _ _ fits, c .before .round-up .ensures, c .before .before .before .burst .ensures, c .before .before .wide .ensures)
 
 pub part-delay-spec : {M : Type 1} → statement M

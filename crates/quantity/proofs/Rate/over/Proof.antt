@@ -4,7 +4,8 @@ use Prim.Native.Nat.{_≤_}
 use borrow.Author.Needs.{needs}
 use native.Mathlib.Nat.{mul-le-mul}
 use native.Mathlib.Omega.{arith}
-use Rattle.quantity.specs.Quantities.{mostSlots, unitsOver}
+use Rattle.quantity.specs.Limits.{largest32}
+use Rattle.quantity.specs.Quantities.{unitsOver}
 use Rattle.quantity.proofs.Rate.over.Statement.{statement}
 use Rattle.quantity.proofs.Rate.over.Tie as tie
 
@@ -16,8 +17,8 @@ cast-t4 c = search needs
 
 mul-t5 : tie.Need-mul-t5
 mul-t5 c = let args = c .before .before .args in
-    let rate : args .self .0 ≤ mostSlots = omega arith in
-    let slots : args .slots .0 ≤ mostSlots = omega arith in
+    let rate : args .self .0 ≤ largest32 = omega arith in
+    let slots : args .slots .0 ≤ largest32 = omega arith in
     omega (arith, mul-le-mul rate slots)
 
 returns : tie.Need-returns

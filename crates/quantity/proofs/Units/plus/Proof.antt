@@ -3,7 +3,8 @@ use Prim.Native.Nat.{_+_, _≤_}
 use borrow.Author.Needs.{needs}
 use native.Mathlib.Nat.{min-eq-left, min-eq-right}
 use native.Mathlib.Omega.{arith}
-use Rattle.quantity.specs.Quantities.{mostUnits, unitsSum}
+use Rattle.quantity.specs.Limits.{largest64}
+use Rattle.quantity.specs.Quantities.{unitsSum}
 use Rattle.quantity.proofs.Units.plus.Statement.{statement}
 use Rattle.quantity.proofs.Units.plus.Tie as tie
 
@@ -16,13 +17,13 @@ add-t6 c = search needs
 returns : tie.Need-returns
 unfolding unitsSum
 returns c = let s = c .before .before .before .before .before in
-    let fits : s .args .self .0 + s .args .other .0 ≤ mostUnits = omega arith in
+    let fits : s .args .self .0 + s .args .other .0 ≤ largest64 = omega arith in
     rw (min-eq-left fits)
 
 returns-2 : tie.Need-returns-2
 unfolding unitsSum
 returns-2 c = let s = c .before .before .before in
-    let beyond : mostUnits ≤ s .args .self .0 + s .args .other .0 = omega arith in
+    let beyond : largest64 ≤ s .args .self .0 + s .args .other .0 = omega arith in
     rw (min-eq-right beyond)
 
 pub plus-spec : {M : Type 1} → statement M

@@ -7,7 +7,8 @@ use native.Mathlib.Omega.{arith}
 use borrow.Author.Needs.{needs}
 use Rattle.quantity.specs.Choice.{both}
 use Rattle.run.specs.declared.Run.{Run}
-use Rattle.run.specs.Steps.{callOf, storable}
+use Rattle.run.specs.Calls.{callOf}
+use Rattle.run.specs.Steps.{storable}
 use Rattle.run.proofs.DecideLaws.{both-first, both-none, Given, given, Deciding, deciding-start, decidedAt, decided-here, refused-above, sends-within, refused-plan, deciding-next, sent-plan, unusable-plan}
 use Rattle.run.proofs.decide.decide_all.Statement.{statement}
 use Rattle.run.proofs.decide.decide_all.Tie as tie

@@ -3,7 +3,7 @@ use mathlib.Core.Path.{_≡_}
 use Prim.Native.Nat.{_-_}
 use native.Mathlib.Omega.{arith}
 use borrow.Author.Needs.{needs}
-use Rattle.run.specs.Runs.{mostOperators}
+use Rattle.quantity.specs.Limits.{mostOperators}
 use Rattle.run.proofs.OpeningLaws.{Staged, staged-first, staged-next, staged-run}
 use Rattle.run.proofs.opening.new_run.Statement.{statement}
 use Rattle.run.proofs.opening.new_run.Tie as tie

@@ -3,11 +3,12 @@ use mathlib.Core.Path.{_≡_, sym, _∙_}
 use mathlib.Core.Bool.{true, false}
 use borrow.Author.Needs.{needs}
 use borrow.Author.Tests.{not-true, not-false}
+use Rattle.quantity.specs.Limits.{mostOperators}
 use Rattle.quantity.specs.Sums.{listOf}
 use Rattle.meter.specs.MeterWithin.{withinQuota}
-use Rattle.run.specs.Calls.{Call, choicesMiscounted, amountTooLarge}
-use Rattle.run.specs.Runs.{mostOperators, runUnusable}
-use Rattle.run.specs.Steps.{callOf, countedIn}
+use Rattle.run.specs.Calls.{Call, choicesMiscounted, amountTooLarge, callOf}
+use Rattle.run.specs.Runs.{runUnusable}
+use Rattle.run.specs.Steps.{countedIn}
 use Rattle.run.specs.Watching.{unitsHeld}
 use Rattle.run.proofs.UsableRun.{usable-run}
 use Rattle.run.proofs.SlotLaws.{arguments-pass, stored-passes, refused-arguments, refused-stored, refused-input, refused-planned, taken}

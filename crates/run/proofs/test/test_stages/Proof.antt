@@ -6,7 +6,8 @@ use native.Mathlib.Omega.{arith}
 use lib.ListN.{getD}
 use lib.Dec.{ltb}
 use borrow.Author.Needs.{needs}
-use Rattle.run.specs.Runs.{mostOperators, noStage, stageMisplaced}
+use Rattle.quantity.specs.Limits.{mostOperators}
+use Rattle.run.specs.Runs.{noStage, stageMisplaced}
 use Rattle.run.proofs.TestLaws.{Found, found-first, found-next, found-all, misplaced-fails, unusable-fails, fits-run, units-run}
 use Rattle.run.proofs.test.test_stages.Statement.{statement}
 use Rattle.run.proofs.test.test_stages.Tie as tie

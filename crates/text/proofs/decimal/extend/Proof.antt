@@ -2,7 +2,8 @@
 use native.Mathlib.Omega.{arith}
 use borrow.Author.Needs.{needs}
 use borrow.Author.Tests.{le-leb, lt-leb}
-use Rattle.text.specs.Decimals.{largestNumber, withDigit}
+use Rattle.quantity.specs.Limits.{largest64}
+use Rattle.text.specs.Decimals.{withDigit}
 use Rattle.text.proofs.DecimalLaws.{digit-least}
 use Rattle.text.proofs.decimal.extend.Statement.{statement}
 use Rattle.text.proofs.decimal.extend.Tie as tie
@@ -24,11 +25,11 @@ add-t10 c = search needs
 
 returns : tie.Need-returns
 unfolding withDigit
-returns c = rw (lt-leb (withDigit (c .before .args .number) (c .before .args .digit)) largestNumber (omega arith))
+returns c = rw (lt-leb (withDigit (c .before .args .number) (c .before .args .digit)) largest64 (omega arith))
 
 returns-2 : tie.Need-returns-2
 unfolding withDigit
-returns-2 c = rw (le-leb (withDigit (c .before .args .number) (c .before .args .digit)) largestNumber (omega arith))
+returns-2 c = rw (le-leb (withDigit (c .before .args .number) (c .before .args .digit)) largest64 (omega arith))
 
 pub extend-spec : {M : Type 1} → statement M
 extend-spec = tie.close (tie.spec sub-units cast-units sub-if1 mul-t9 add-t10 returns returns-2)
