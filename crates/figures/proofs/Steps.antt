@@ -1,7 +1,7 @@
 -- What holds before an operator holds behind it, and it keeps its figures: one lemma for each kind of operator, from the operators' laws.
 use mathlib.Core.Path.{_≡_, refl, sym, ap, _∙_}
 use mathlib.Core.Bool.{Bool, true, false, true≢false}
-use Prim.Native.Nat.{ℕ, zero, suc, _+_, _≤_}
+use Prim.Native.Nat.{ℕ, _+_, _≤_}
 use native.Mathlib.Nat.{add-zero, le-refl, le-trans}
 use native.Mathlib.Omega.{arith}
 use lib.Dec.{leb}
@@ -12,12 +12,7 @@ use Rattle.quantity.specs.declared.Interval.{Interval}
 use Rattle.quantity.specs.declared.Rate.{Rate}
 use Rattle.quantity.specs.declared.Delay.{Delay}
 use Rattle.quantity.proofs.Sums.{both-true}
-use Rattle.operator.specs.Held.{Held, keeps}
-use Rattle.operator.specs.Limiter.{limiterAfter}
-use Rattle.operator.specs.Compactor.{compactorAfter}
-use Rattle.operator.specs.Expander.{expanderAfter}
-use Rattle.operator.specs.Delayer.{delayerAfter}
-use Rattle.operator.specs.Operators.{heldAfter, numberInRange, expander}
+use Rattle.operator.specs.Operators.{numberInRange, expander}
 use Rattle.flow.specs.Flows.{Flow, Smooth, InTime, Behind, Envelope}
 use Rattle.operator.specs.OnFlows.{heldOn, outputOn, Fitting}
 use Rattle.flow.specs.Classes.{Class, smooth, uniform, Keeps, burst, changedTo}
@@ -69,12 +64,6 @@ pub above-least : (range : Range) (value : ℕ) → inRange range value ≡ true
 unfolding inRange
 above-least range value e = leb-true (range .least) value (both-true (leb (range .least) value) (leb value (range .largest)) e .0)
 
--- an operator that has no h
-beside-none : (op : Operator) (r c : Flow) → ((x : Held) (i s : ℕ) → heldAfter op x i s .h ≡ 0) → (n : ℕ) → heldOn op r c n .h ≡ 0
-unfolding heldOn
-beside-none op r c none zero = refl
-beside-none op r c none (suc n) = none _ _ _
-
 not-in-part : (t : Bool) → pick t true false ≡ false → t ≡ false
 not-in-part true e = e
 not-in-part false e = refl
@@ -116,7 +105,7 @@ module _ (p : Progress) (g f c : Flow) (known : Known p g f) where
         rw (← all, ← known .plain before .1) late
 
   step-limiter : (R : Rate) → Passed p (Limiter R) → Fitting (Limiter R) f c → Step p (Limiter R) g f c
-  unfolding behind capacity ownDelay pairs isFramed framedAfterFilter rateTooLow numberInRange heldAfter limiterAfter keeps
+  unfolding behind capacity ownDelay pairs isFramed framedAfterFilter rateTooLow numberInRange
   step-limiter R passed fits =
       let output = outputOn (Limiter R) f c in
       let before = not-in-part (p .inFilterPart) (passed .placed) in
@@ -125,7 +114,7 @@ module _ (p : Progress) (g f c : Flow) (known : Known p g f) where
       record {
         known = known-start (uniform 1 (R .0)) output (le-refl 1) (Laws.limiter-uniform (R .0) f c fits);
         held = Laws.limiter-held (R .0) (burst (p .class)) f c fits bound;
-        beside = λ n. omega (arith, beside-none (Limiter R) f c (λ x i s. refl) n);
+        beside = λ n. omega (arith, Laws.beside-none (Limiter R) (λ R same. let z : _≡_ {A = ℕ} 0 1 = cc in omega arith) f c n);
         timed = λ r D next pair makes timed. timed-start r (uniform 1 (R .0)) next output _
             (Flows.in-time-add D _ r f output (late-into before r D (timed-counted r p (Limiter R) g f D (λ n. refl) timed)) late);
       }
@@ -139,7 +128,7 @@ module _ (p : Progress) (g f c : Flow) (known : Known p g f) where
       timed-start r q next _ _ (Flows.in-time-add D (n .0) r f (outputOn (Expander n) f c) late (Laws.expander-in-time (n .0) f c large fits))
 
   step-expander : (n : Interval) → Passed p (Expander n) → Fitting (Expander n) f c → Step p (Expander n) g f c
-  unfolding behind capacity ownDelay pairs isFramed framedAfterFilter numberInRange heldAfter expanderAfter keeps
+  unfolding behind capacity ownDelay pairs isFramed framedAfterFilter numberInRange
   step-expander n passed fits =
       let output = outputOn (Expander n) f c in
       let Q = changedTo (n .0) (p .class) .quota in
@@ -149,7 +138,7 @@ module _ (p : Progress) (g f c : Flow) (known : Known p g f) where
       record {
         known = known-start (smooth (n .0) Q) output large (Laws.expander-smooth (n .0) Q f c large fits kept);
         held = Laws.expander-held (n .0) Q f c large fits kept;
-        beside = λ k. omega (arith, beside-none (Expander n) f c (λ x i s. refl) k);
+        beside = λ k. omega (arith, Laws.beside-none (Expander n) (λ R same. let z : _≡_ {A = ℕ} 0 1 = cc in omega arith) f c k);
         timed = λ r D next pair makes timed. timed-expander n _ large fits r D next (late-into before r D (timed-counted r p (Expander n) g f D (λ n. refl) timed)) pair makes;
       }
 
@@ -166,7 +155,7 @@ module _ (p : Progress) (g f c : Flow) (known : Known p g f) where
       (rw (← into) (Laws.pair-in-time (n .0) s e c large (rw interval at first) (rw into fits)))
 
   step-compactor : (n : Interval) → Passed p (Compactor n) → Fitting (Compactor n) f c → Step p (Compactor n) g f c
-  unfolding behind capacity ownDelay isFramed framedAfterFilter numberInRange heldAfter compactorAfter keeps
+  unfolding behind capacity ownDelay isFramed framedAfterFilter numberInRange
   step-compactor n passed fits =
       let output = outputOn (Compactor n) f c in
       let Q = changedTo (n .0) (p .class) .quota in
@@ -176,7 +165,7 @@ module _ (p : Progress) (g f c : Flow) (known : Known p g f) where
       record {
         known = known-start (uniform (n .0) Q) output large (Laws.compactor-uniform (n .0) Q f c large fits kept);
         held = Laws.compactor-held (n .0) Q f c large fits kept;
-        beside = λ k. omega (arith, beside-none (Compactor n) f c (λ x i s. refl) k);
+        beside = λ k. omega (arith, Laws.beside-none (Compactor n) (λ R same. let z : _≡_ {A = ℕ} 0 1 = cc in omega arith) f c k);
         timed = λ r D next pair makes timed. timed-start r (uniform (n .0) Q) next output _ (late-compactor n before large fits r D timed);
       }
 
@@ -210,14 +199,14 @@ module _ (p : Progress) (g f c : Flow) (known : Known p g f) where
       }
 
   step-delayer : (d : Delay) → Passed p (Delayer d) → Fitting (Delayer d) f c → Step p (Delayer d) g f c
-  unfolding behind capacity ownDelay pairs isFramed heldAfter delayerAfter
+  unfolding behind capacity ownDelay pairs isFramed
   step-delayer d passed fits =
       let output = outputOn (Delayer d) f c in
       let served = Laws.served-delayer (p .slowest) (p .e) (d .0) g f c (known .served) fits in
       record {
         known = known-in-part (Delayer d) (p .e + d .0) (p .slowest) (known .carries) fits served;
         held = part-held (p .class) g (known .large) (known .kept) f c (known .entered) (Delayer d) (p .slowest) _ (known .carries) fits served;
-        beside = λ n. omega (arith, beside-none (Delayer d) f c (λ x i s. refl) n);
+        beside = λ n. omega (arith, Laws.beside-none (Delayer d) (λ R same. let z : _≡_ {A = ℕ} 0 1 = cc in omega arith) f c n);
         timed = λ r D next pair makes timed.
             let (E, sum, late) = timed-counted r p (Delayer d) g f D (λ n. refl) timed in
             counted E (omega (arith, delay-le-longer (p .class) (p .e) (d .0) (p .slowest))) late;

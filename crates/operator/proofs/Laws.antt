@@ -4,6 +4,7 @@ use mathlib.Core.Path.{_≡_}
 use mathlib.Core.List.{[], _∷_}
 use Prim.Native.Nat.{ℕ, suc, _+_, _*_, _/_, _≤_}
 use Rattle.quantity.specs.Sums.{total, listOf}
+use Rattle.quantity.specs.declared.Rate.{Rate}
 use Rattle.quantity.specs.Rounding.{roundUp}
 use Rattle.operator.specs.Held.{Held, nothing}
 use Rattle.operator.specs.Operators.{leastOutput, greatestOutput, heldAfter, limiter, compactor, expander, filter, delayer}
@@ -12,6 +13,8 @@ use Rattle.flow.specs.Flows.{Flow, flowOf, Smooth, Uniform, InTime, Behind, Env
 use Rattle.operator.specs.OnFlows.{heldOn, outputOn, Fitting, none}
 use Rattle.operator.specs.FilterPart.{Slowest, unfiltered, filtered, slower, Served}
 use Rattle.operator.specs.declared.Operator.{Operator}
+use Rattle.operator.specs.declared.Operator.the-variants.{Filter}
+use Rattle.operator.proofs.Steps as Steps
 use Rattle.operator.proofs.Conservation as Conservation
 use Rattle.operator.proofs.Limiter as Limiter
 use Rattle.operator.proofs.Compactor as Compactor
@@ -44,6 +47,10 @@ none-fits = Conservation.none-fits
 -- what came is what left and what is held
 pub conserved : (op : Operator) (r c : Flow) → Fitting op r c → (n : ℕ) → total r n ≡ total (outputOn op r c) n + heldOn op r c n .b
 conserved = Conservation.conserved
+
+-- no operator but a filter has an h
+pub beside-none : (op : Operator) → ((R : Rate) → op ≡ Filter R → ⊥) → (r c : Flow) (n : ℕ) → heldOn op r c n .h ≡ 0
+beside-none = Steps.beside-none
 
 pub behind : (op : Operator) (r c : Flow) → Fitting op r c → Behind r (outputOn op r c)
 behind = Conservation.behind

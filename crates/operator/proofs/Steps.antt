@@ -1,6 +1,7 @@
 -- One slot of an operator on a flow: what is held before the first and after each, by the definitions.
 use mathlib.Core.Path.{_≡_, refl}
-use Prim.Native.Nat.{ℕ, suc, _+_, _-_}
+use Prim.Native.Nat.{ℕ, zero, suc, _+_, _-_}
+use Rattle.quantity.specs.declared.Rate.{Rate}
 use Rattle.operator.specs.Held.{Held, keeps}
 use Rattle.operator.specs.Limiter.{limiterAfter}
 use Rattle.operator.specs.Compactor.{compactorAfter}
@@ -32,3 +33,17 @@ held-b-zero op r c = refl
 
 pub held-b-suc : (op : Operator) (r c : Flow) (n : ℕ) → heldOn op r c (suc n) .b ≡ heldOn op r c n .b + r n - outputOn op r c n
 held-b-suc op r c n = rw held-suc (after-b op (heldOn op r c n) (r n) (outputOn op r c n))
+
+-- h of an operator that is no filter
+after-h : (op : Operator) → ((R : Rate) → op ≡ Filter R → ⊥) → (x : Held) (r s : ℕ) → heldAfter op x r s .h ≡ 0
+unfolding heldAfter limiterAfter compactorAfter expanderAfter delayerAfter keeps
+after-h (Limiter R) other x r s = refl
+after-h (Compactor m) other x r s = refl
+after-h (Expander m) other x r s = refl
+after-h (Filter R) other x r s = absurd (other R refl)
+after-h (Delayer d) other x r s = refl
+
+pub beside-none : (op : Operator) → ((R : Rate) → op ≡ Filter R → ⊥) → (r c : Flow) (n : ℕ) → heldOn op r c n .h ≡ 0
+unfolding heldOn
+beside-none op other r c zero = refl
+beside-none op other r c (suc n) = after-h op other _ _ _
