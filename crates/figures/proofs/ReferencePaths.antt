@@ -1,4 +1,4 @@
--- Section 8: the lines marked P, as one table that is computed from the definitions.
+-- Section 8: the lines marked P, as one table that is computed from the definitions. Behind them, what they leave open: bursts and windows of a uniform class, and delayers before a filter.
 use mathlib.Core.Path.{_≡_, refl}
 use mathlib.Core.List.{List, [], _∷_, map}
 use Prim.Native.Nat.{ℕ}
@@ -27,25 +27,28 @@ use Rattle.figures.specs.Progress.{behind, progressAt}
 use Rattle.figures.specs.Figures.{partCapacity, partDelay, capacity, ownDelay, pairs, isFramed, framedAfterFilter, changedQuota, figureTooLarge, rateTooLow}
 use Rattle.figures.specs.Answers.{operatorAt, before, pairedAt, capacityAt, delayAt, pathDelay, operatorsCases, pathCases}
 
--- a path of smooth (m, Q), its delay wanted and its operators, all on link 0
-abbrev pub path : ℕ → ℕ → ℕ → List Operator → Path
-path m Q wanted operators =
+-- a path of a kind's (m, Q), its delay wanted and its operators, all on link 0
+abbrev pub pathOf : Kind → ℕ → ℕ → ℕ → List Operator → Path
+pathOf kind m Q wanted operators =
     record {
-      declaration = record { kind = Kind.Smooth; interval = record { 0 = m }; quota = record { 0 = Q } };
+      declaration = record { kind = kind; interval = record { 0 = m }; quota = record { 0 = Q } };
       wanted = wanted;
       operators = map (λ operator. record { operator = operator; link = record { 0 = 0 } }) operators;
     }
 
--- what a line of the table says: a refusal's number and place; or the capacities, the delays and the path's delay
+abbrev pub path : ℕ → ℕ → ℕ → List Operator → Path
+path = pathOf Kind.Smooth
+
+-- what a row of the table says: a refusal's number and place; the capacities and the delays, and the sums of both; or a unit's output
 pub data Outcome : Type 0 where
   refused : ℕ → ℕ → Outcome
-  figures : List ℕ → List ℕ → ℕ → Outcome
+  figures : List ℕ → List ℕ → ℕ → ℕ → Outcome
   output : List ℕ → Outcome
 
 abbrev pub outcome : Path → Outcome
 outcome path =
     firstOf (pathCases path) (λ why. refused (refusalNumber why) (refusalPlace why))
-    (figures (listOf (capacityAt path) (length (path .operators))) (listOf (delayAt path) (length (path .operators))) (pathDelay path))
+    (figures (listOf (capacityAt path) (length (path .operators))) (listOf (delayAt path) (length (path .operators))) (total (capacityAt path) (length (path .operators))) (pathDelay path))
 
 -- a new filter 2's first step, of input 5
 abbrev pub stepOutcome : Stepped → Outcome
@@ -73,22 +76,30 @@ computed =
     ∷ filtered 3
     ∷ filtered 4
     ∷ output (listOf (outputOn (delayer 2) (flowOf (4 ∷ 0 ∷ 0 ∷ [])) none) 3)
+    ∷ outcome (pathOf Kind.Uniform 10 30 30 (limiter 4 ∷ []))
+    ∷ outcome (pathOf Kind.Uniform 10 30 30 (delayer 7 ∷ delayer 5 ∷ []))
+    ∷ outcome (path 10 30 30 (delayer 7 ∷ delayer 5 ∷ []))
+    ∷ outcome (pathOf Kind.Uniform 10 30 30 (delayer 7 ∷ filter 4 ∷ delayer 5 ∷ filter 3 ∷ []))
     ∷ []
 
 pub expected : List Outcome
 expected =
-    figures (30 ∷ 30 ∷ 30 ∷ 30 ∷ []) (10 ∷ 0 ∷ 10 ∷ 10 ∷ []) 30
+    figures (30 ∷ 30 ∷ 30 ∷ 30 ∷ []) (10 ∷ 0 ∷ 10 ∷ 10 ∷ []) 120 30
     ∷ refused 9 0
-    ∷ figures (60 ∷ 30 ∷ 30 ∷ []) (20 ∷ 10 ∷ 10 ∷ []) 40
-    ∷ figures (60 ∷ 75 ∷ 75 ∷ 87 ∷ []) (20 ∷ 5 ∷ 0 ∷ 4 ∷ []) 29
+    ∷ figures (60 ∷ 30 ∷ 30 ∷ []) (20 ∷ 10 ∷ 10 ∷ []) 120 40
+    ∷ figures (60 ∷ 75 ∷ 75 ∷ 87 ∷ []) (20 ∷ 5 ∷ 0 ∷ 4 ∷ []) 297 29
     ∷ refused 8 0
-    ∷ figures (60 ∷ []) (15 ∷ []) 15
-    ∷ figures (16 ∷ []) (6 ∷ []) 6
-    ∷ figures (8 ∷ []) (2 ∷ []) 2
+    ∷ figures (60 ∷ []) (15 ∷ []) 60 15
+    ∷ figures (16 ∷ []) (6 ∷ []) 16 6
+    ∷ figures (8 ∷ []) (2 ∷ []) 8 2
     ∷ output (0 ∷ 0 ∷ 0 ∷ 3 ∷ 0 ∷ 0 ∷ [])
     ∷ output (5 ∷ [])
     ∷ refused 14 0
     ∷ output (0 ∷ 0 ∷ 4 ∷ [])
+    ∷ figures (30 ∷ []) (8 ∷ []) 30 8
+    ∷ figures (30 ∷ 60 ∷ []) (7 ∷ 5 ∷ []) 90 12
+    ∷ figures (60 ∷ 90 ∷ []) (7 ∷ 5 ∷ []) 150 12
+    ∷ figures (30 ∷ 58 ∷ 78 ∷ 66 ∷ []) (7 ∷ 8 ∷ 5 ∷ 2 ∷ []) 232 22
     ∷ []
 
 pub reference-paths : computed ≡ expected

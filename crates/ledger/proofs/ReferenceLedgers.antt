@@ -1,10 +1,24 @@
--- Ledgers that no list of calls leads to, as one table that is computed from the definitions: which of them refusal 1 lets pass, what a release and a spare rate answer then, and a new ledger over records that hold something.
+-- Ledgers that no list of calls leads to, as one table that is computed from the definitions: which of them refusal 1 lets pass, what a release and a spare rate answer then, a new ledger over records that hold something; and an admission with its rate.
 use mathlib.Core.Path.{_≡_, refl}
 use mathlib.Core.Bool.{Bool, true, false}
 use mathlib.Core.List.{List, [], _∷_}
 use Prim.Native.Nat.{ℕ}
 use lib.ListN.{replicate, set}
 use Rattle.quantity.specs.Sums.{total, every, listOf}
+use Rattle.quantity.specs.Rounding.{roundUp}
+use Rattle.quantity.specs.Divisors.{euclid, gcd}
+use Rattle.flow.specs.Declarations.{declarationInRange}
+use Rattle.flow.specs.Classes.{burst, mostIn, blocksMet, changedTo}
+use Rattle.operator.specs.Operators.{numberInRange}
+use Rattle.operator.specs.FilterPart.{slower}
+use Rattle.sheet.specs.Numbers.{valueOfBytes}
+use Rattle.sheet.specs.Bodies.{part, declarationIn, declarationFits, wantedIn, wantedFits, operatorOf, operatorIn, operatorInRange, operatorFits}
+use Rattle.sheet.specs.Fields.{bodyAt, fieldMissing, headerCutOff, fieldUnexpected, bodyCutOff, bodyOutOfRange}
+use Rattle.sheet.specs.Forms.{inFull, standsFor, valueOfPath}
+use Rattle.sheet.specs.Sheets.{furtherCases, inHouseForm, sheetCases, operatorsFrom, fieldsPath, valueIn, pathIn}
+use Rattle.figures.specs.Progress.{behind, progressAt}
+use Rattle.figures.specs.Figures.{partCapacity, partDelay, capacity, ownDelay, pairs, isFramed, framedAfterFilter, changedQuota, figureTooLarge, rateTooLow}
+use Rattle.figures.specs.Answers.{operatorAt, before, pairedAt, capacityAt, delayAt, pathDelay, operatorsCases}
 use Rattle.quantity.specs.Ranges.{inRange}
 use Rattle.quantity.specs.Refusals.{refusalNumber, refusalPlace}
 use Rattle.sheet.specs.declared.read.Verdict.{Verdict}
@@ -13,6 +27,7 @@ use Rattle.ledger.specs.declared.Ledger.{Ledger}
 use Rattle.ledger.specs.Records.{noRecord, hasLink, share, reserved, among, placeAmong, allDiffer, stands}
 use Rattle.ledger.specs.Ledgers.{capacitiesFit, recordInRange, recordClear, recordFits, linkFits, ledgerUnusable}
 use Rattle.ledger.specs.Opening.{newLedger, refusedOpening, openedOf, recordsOpened}
+use Rattle.ledger.specs.Admission.{rateOf, namesLink, bitsOf, linksOf, recordOf, ledgerFull, linkShort, refusedAdmission, acceptedAdmission, admissionOf, recordsAdmitted}
 use Rattle.ledger.specs.Release.{closedUp, refusedRelease, acceptedRelease, releasedOf, recordsReleased}
 use Rattle.ledger.specs.Spare.{refusedSpare, spareOf}
 
@@ -109,3 +124,16 @@ reference-openings = refl
 pub reference-cleared : recordsOpened (replicate 16 5) (replicate 64 (entry 99_999 0 99_999)) ≡ replicate 64 noRecord
 unfolding recordsOpened capacitiesFit inRange every
 reference-cleared = refl
+
+-- an admission to an empty ledger: smooth (10, 31), delay wanted 30, a compactor 10 on link 2; it reserves ⌈31/10⌉ on that link alone
+abbrev pub admitted : List ℕ
+admitted = 1 ∷ 0 ∷ 7 ∷ 0 ∷ 0 ∷ 10 ∷ 0 ∷ 0 ∷ 0 ∷ 31 ∷ 2 ∷ 0 ∷ 4 ∷ 0 ∷ 0 ∷ 0 ∷ 30 ∷ 3 ∷ 0 ∷ 6 ∷ 1 ∷ 2 ∷ 0 ∷ 0 ∷ 0 ∷ 10 ∷ []
+
+pub reference-admission : admissionOf (links-of 1000 0) (replicate 64 noRecord) 17 admitted
+    ≡ record { verdict = Verdict.Accepted; ledger = links-of 1000 1; rate = record { 0 = 4 }; delay = record { 0 = 10 } }
+unfolding roundUp euclid gcd total every listOf inRange valueOfBytes part declarationInRange numberInRange declarationIn declarationFits wantedIn wantedFits operatorOf operatorIn operatorInRange operatorFits bodyAt fieldMissing headerCutOff fieldUnexpected bodyCutOff bodyOutOfRange furtherCases inHouseForm sheetCases operatorsFrom fieldsPath valueIn valueOfPath standsFor inFull pathIn burst mostIn blocksMet changedTo slower behind progressAt partCapacity partDelay capacity ownDelay pairs isFramed framedAfterFilter changedQuota figureTooLarge rateTooLow operatorAt before pairedAt capacityAt delayAt pathDelay operatorsCases rateOf namesLink bitsOf linksOf recordOf ledgerFull linkShort acceptedAdmission refusedAdmission admissionOf recordsAdmitted stands ledgerUnusable capacitiesFit recordFits recordInRange recordClear linkFits reserved share hasLink allDiffer among
+reference-admission = refl
+
+pub reference-admitted : recordsAdmitted (links-of 1000 0) (replicate 64 noRecord) 17 admitted ≡ (entry 17 4 4 ∷ replicate 63 noRecord)
+unfolding roundUp euclid gcd total every listOf inRange valueOfBytes part declarationInRange numberInRange declarationIn declarationFits wantedIn wantedFits operatorOf operatorIn operatorInRange operatorFits bodyAt fieldMissing headerCutOff fieldUnexpected bodyCutOff bodyOutOfRange furtherCases inHouseForm sheetCases operatorsFrom fieldsPath valueIn valueOfPath standsFor inFull pathIn burst mostIn blocksMet changedTo slower behind progressAt partCapacity partDelay capacity ownDelay pairs isFramed framedAfterFilter changedQuota figureTooLarge rateTooLow operatorAt before pairedAt capacityAt delayAt pathDelay operatorsCases rateOf namesLink bitsOf linksOf recordOf ledgerFull linkShort acceptedAdmission refusedAdmission admissionOf recordsAdmitted stands ledgerUnusable capacitiesFit recordFits recordInRange recordClear linkFits reserved share hasLink allDiffer among
+reference-admitted = refl

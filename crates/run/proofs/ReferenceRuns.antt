@@ -1,4 +1,4 @@
--- Section 8's operators and paths on the account, as one table that is computed from the definitions: what each call of a list answers, and what is held at the end.
+-- A path of frames and one of stamps on the account, as one table that is computed from the definitions: what each call of a list answers, and what is held at the end.
 use mathlib.Core.Path.{_≡_, refl}
 use mathlib.Core.List.{List, [], _∷_}
 use Prim.Native.Nat.{ℕ}
@@ -10,11 +10,12 @@ use Rattle.operator.specs.Compactor.{compactorLeast, compactorGreatest, compact
 use Rattle.operator.specs.Expander.{expanderLeast, expanderGreatest, expanderAfter}
 use Rattle.operator.specs.Filter.{besideAfter, filterLeast, filterGreatest, filterAfter}
 use Rattle.operator.specs.Delayer.{ofAge, olderThan, staysOf, delayerLeast, delayerGreatest, delayerAfter}
+use Rattle.flow.specs.declared.Kind.{Kind}
 use Rattle.operator.specs.Operators.{leastOutput, greatestOutput, heldAfter, compactor, expander, filter, delayer}
 use Rattle.flow.specs.Keeping.{keepsTo, keepsClass}
 use Rattle.sheet.specs.Paths.{Path}
 use Rattle.figures.specs.Answers.{operatorAt}
-use Rattle.figures.proofs.ReferencePaths.{path}
+use Rattle.figures.proofs.ReferencePaths.{pathOf, path}
 use Rattle.run.specs.Calls.{Call, choicesMiscounted, amountTooLarge}
 use Rattle.run.specs.Account.{Account, newAccount, arriving, slotsUsedUp, breaksDeclaration, choiceTooLarge, choicesTooLarge, accountAnswer, accountNext, accountAfter}
 use Rattle.run.specs.Lists.{accountAll}
@@ -46,19 +47,16 @@ given input choices = record { input = input; choices = choices }
 
 pub computed : List Ran
 computed =
-    ran (path 10 30 30 (compactor 3 ∷ [])) (given 1 (0 ∷ []) ∷ given 2 (0 ∷ []) ∷ given 0 (0 ∷ []) ∷ given 3 (0 ∷ []) ∷ given 0 (0 ∷ []) ∷ given 0 (0 ∷ []) ∷ [])
-    ∷ ran (path 10 30 30 (filter 2 ∷ [])) (given 5 (4 ∷ []) ∷ given 5 (3 ∷ []) ∷ [])
-    ∷ ran (path 10 30 30 (delayer 2 ∷ [])) (given 4 (0 ∷ []) ∷ given 0 (0 ∷ []) ∷ given 0 (0 ∷ []) ∷ [])
-    ∷ ran (path 10 30 30 (compactor 10 ∷ expander 10 ∷ compactor 10 ∷ expander 10 ∷ []))
+    ran (path 10 30 30 (compactor 10 ∷ expander 10 ∷ compactor 10 ∷ expander 10 ∷ []))
     (given 30 (0 ∷ 0 ∷ 0 ∷ []) ∷ given 1_073_741_824 (0 ∷ 0 ∷ 0 ∷ 0 ∷ []) ∷ given 31 (0 ∷ 0 ∷ 0 ∷ 1 ∷ []) ∷ given 30 (0 ∷ 0 ∷ 0 ∷ 1 ∷ []) ∷ given 30 (0 ∷ 0 ∷ 0 ∷ 0 ∷ []) ∷ given 1 (0 ∷ 0 ∷ 0 ∷ 0 ∷ []) ∷ [])
+    ∷ ran (pathOf Kind.Uniform 2 4 30 (filter 2 ∷ delayer 2 ∷ []))
+    (given 4 (0 ∷ 0 ∷ []) ∷ given 1 (0 ∷ 0 ∷ []) ∷ given 0 (1 ∷ 0 ∷ []) ∷ given 0 (0 ∷ 1 ∷ []) ∷ given 5 (0 ∷ 0 ∷ []) ∷ given 3 (2 ∷ 1 ∷ []) ∷ given 0 (0 ∷ 0 ∷ []) ∷ [])
     ∷ []
 
 pub expected : List Ran
 expected =
-    record { answered = sent 0 ∷ sent 0 ∷ sent 0 ∷ sent 3 ∷ sent 0 ∷ sent 0 ∷ []; held = 3 ∷ [] }
-    ∷ record { answered = refused 14 0 ∷ sent 5 ∷ []; held = 0 ∷ [] }
-    ∷ record { answered = sent 0 ∷ sent 0 ∷ sent 4 ∷ []; held = 0 ∷ [] }
-    ∷ record { answered = refused 1 0 ∷ refused 1 0 ∷ refused 13 0 ∷ refused 14 3 ∷ sent 0 ∷ refused 13 0 ∷ []; held = 30 ∷ 0 ∷ 0 ∷ 0 ∷ [] }
+    record { answered = refused 1 0 ∷ refused 1 0 ∷ refused 13 0 ∷ refused 14 3 ∷ sent 0 ∷ refused 13 0 ∷ []; held = 30 ∷ 0 ∷ 0 ∷ 0 ∷ [] }
+    ∷ record { answered = sent 0 ∷ refused 13 0 ∷ refused 14 0 ∷ sent 1 ∷ refused 13 0 ∷ refused 14 0 ∷ sent 1 ∷ []; held = 0 ∷ 2 ∷ [] }
     ∷ []
 
 pub reference-runs : computed ≡ expected

@@ -37,7 +37,7 @@ path m wanted count operator =
       operators = record { operator = operator; link = record { 0 = 0 } } ∷ replicate 15 noLinkedOperator;
     }
 
--- document 02, item 2: a profile of so many hops, smooth (10, 30), delay wanted 60, R 3, L 1, X 2 and C 100
+-- document 02, item 2: a profile of so many hops, smooth (10, 30), delay wanted 60, R 2, L 1, X 2 and C 100
 abbrev pub profile : ℕ → ℕ → House
 profile which hops =
     record {
@@ -46,7 +46,7 @@ profile which hops =
       wanted = record { 0 = 60 };
       interval = record { 0 = 10 };
       quota = record { 0 = 30 };
-      rate = record { 0 = 3 };
+      rate = record { 0 = 2 };
       «own_packet» = record { 0 = 1 };
       «longest_packet» = record { 0 = 2 };
       «link_rate» = record { 0 = 100 };
@@ -120,7 +120,7 @@ abbrev pub house : House
 house = profile 2 3
 
 abbrev pub houseSheet : List ℕ
-houseSheet = 4 ∷ 0 ∷ 22 ∷ 2 ∷ 3 ∷ 0 ∷ 0 ∷ 0 ∷ 60 ∷ 0 ∷ 10 ∷ 0 ∷ 0 ∷ 0 ∷ 30 ∷ 0 ∷ 0 ∷ 0 ∷ 3 ∷ 0 ∷ 1 ∷ 0 ∷ 2 ∷ 0 ∷ 100 ∷ []
+houseSheet = 4 ∷ 0 ∷ 22 ∷ 2 ∷ 3 ∷ 0 ∷ 0 ∷ 0 ∷ 60 ∷ 0 ∷ 10 ∷ 0 ∷ 0 ∷ 0 ∷ 30 ∷ 0 ∷ 0 ∷ 0 ∷ 2 ∷ 0 ∷ 1 ∷ 0 ∷ 2 ∷ 0 ∷ 100 ∷ []
 
 pub house-sheet : take 27 (bytesWritten (houseValue house) (replicate 256 7)) ≡ houseSheet ++ (7 ∷ 7 ∷ [])
 unfolding inRange roundUp bytesOf houseBody delayerSlots houseInRange houseValue fieldOf sheetOfValue writeCases bytesWritten
@@ -130,14 +130,14 @@ pub house-read : readSheet houseSheet ≡ record { verdict = Verdict.Accepted; p
 unfolding inRange roundUp number.valueOfBytes part houseIn delayerSlots houseInRange houseFits bodyAt fieldMissing headerCutOff fieldUnexpected bodyCutOff bodyOutOfRange furtherCases inHouseForm sheetCases valueIn readSheet
 house-read = refl
 
--- a filter and a delayer of ⌈106/300⌉ slots at each hop
+-- a filter and a delayer of ⌈104/200⌉ slots at each hop: with L and X exchanged it would be ⌈202/200⌉
 abbrev pub placed : Operator → ℕ → LinkedOperator
 placed operator link = record { operator = operator; link = record { 0 = link } }
 
 pub house-path : pathIn houseSheet ≡ record {
   declaration = record { kind = Kind.Smooth; interval = record { 0 = 10 }; quota = record { 0 = 30 } };
   wanted = 60;
-  operators = placed (filter 3) 0 ∷ placed (delayer 1) 0 ∷ placed (filter 3) 1 ∷ placed (delayer 1) 1 ∷ placed (filter 3) 2 ∷ placed (delayer 1) 2 ∷ [];
+  operators = placed (filter 2) 0 ∷ placed (delayer 1) 0 ∷ placed (filter 2) 1 ∷ placed (delayer 1) 1 ∷ placed (filter 2) 2 ∷ placed (delayer 1) 2 ∷ [];
 }
 unfolding roundUp listOf number.valueOfBytes part houseIn delayerSlots housePath bodyAt inHouseForm valueIn standsFor houseValue pathIn
 house-path = refl
