@@ -4,3 +4,4 @@ pub mod input;
 pub mod listing;
 pub mod numbers;
 pub mod print;
+pub mod words;

@@ -1,5 +1,7 @@
 // The listing of a sheet (document 01, section 8): a line for each operator and one for the path, or the refusal.
 
+use crate::print::end_line;
+use crate::print::labelled;
 use crate::print::number;
 use crate::print::refused;
 use crate::print::text;
@@ -18,11 +20,9 @@ pub fn list(sheet: &[u8]) {
             let figures = answer.figures;
             let capacity = sum(figures);
             lines(path, figures);
-            text(b"path ");
-            number(capacity.0);
-            text(b" ");
-            number(answer.delay.0 as u64);
-            text(b"\n");
+            labelled(b"path ", capacity.0);
+            labelled(b" ", answer.delay.0 as u64);
+            end_line();
         }
         Verdict::Refused(why) => refused(why),
     }
@@ -57,9 +57,8 @@ fn line(index: usize, operator: Operator, figure: Figure) {
     number(index as u64);
     kind(operator);
     number(figure.capacity.0);
-    text(b" ");
-    number(figure.delay.0 as u64);
-    text(b"\n");
+    labelled(b" ", figure.delay.0 as u64);
+    end_line();
 }
 
 fn kind(operator: Operator) {

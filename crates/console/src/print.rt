@@ -12,6 +12,15 @@ pub fn number(n: u64) {
     io::print_decimal(STDOUT_FILENO, n);
 }
 
+pub fn labelled(label: &[u8], n: u64) {
+    text(label);
+    number(n);
+}
+
+pub fn end_line() {
+    text(b"\n");
+}
+
 // Bytes in hexadecimal, two digits each.
 pub fn hexadecimal(bytes: &[u8]) {
     let mut k = 0;
@@ -31,18 +40,15 @@ fn digit(value: u8) -> u8
 
 // `refused`, the number and the place of document 01, section 7.
 pub fn refused(why: Refusal) {
-    text(b"refused ");
-    number(why.number() as u64);
-    text(b" ");
-    number(why.place() as u64);
-    text(b"\n");
+    labelled(b"refused ", why.number() as u64);
+    labelled(b" ", why.place() as u64);
+    end_line();
 }
 
 // `error`, the number of the line, and what is wrong with it.
 pub fn error(line: u64, what: &[u8]) {
-    text(b"error ");
-    number(line);
+    labelled(b"error ", line);
     text(b" ");
     text(what);
-    text(b"\n");
+    end_line();
 }
