@@ -10,13 +10,23 @@
 //     words N              the first N words
 // Before the first unit any other line is `no unit`. A number wider than its field is the field's largest, which is out of every range.
 
+use crate::command::BOUNDS;
+use crate::command::Command;
+use crate::command::ROOM;
+use crate::command::SET_BLOCK;
+use crate::command::SET_HELD;
+use crate::command::SET_SLOT;
+use crate::command::SMOOTH_METER;
+use crate::command::UNKNOWN;
+use crate::command::command_in;
+use crate::command::with_numbers;
 use crate::words::clear;
 use console::input::Input;
 use console::input::advance;
 use console::input::begin;
 use console::numbers::narrow;
-use console::numbers::numbers_of;
 use console::print::error;
+use console::words::error_of;
 use flow::Declaration;
 use flow::Kind;
 use meter::SourceMeter;
@@ -28,9 +38,9 @@ use quantity::Quota;
 use quantity::Rate;
 use quantity::Slots;
 use quantity::Units;
-use text::line::starts_with;
 ghost use Prim.Native.Nat.{_≤_};
 
+mod command;
 mod metering;
 mod setting;
 mod single;
@@ -72,105 +82,97 @@ fn end_line(unit: Unit, input: Input, line: &[u8; 1023], words: &mut [u32; 1024]
     answer_line(unit, input.lines, &whole[0..length], words)
 }
 
-// A new meter, a new operator, or a command to the unit there is.
-fn answer_line(unit: Unit, lines: u64, command: &[u8], words: &mut [u32; 1024]) -> Unit {
-    if starts_with(command, b"meter smooth ") {
-        return new_meter(unit, lines, command, 13, Kind::Smooth, words);
-    }
-    if starts_with(command, b"meter uniform ") {
-        return new_meter(unit, lines, command, 14, Kind::Uniform, words);
-    }
-    answer_operator(unit, lines, command, words)
-}
-
-// A kind has the number 0 until its own is read.
-fn answer_operator(unit: Unit, lines: u64, command: &[u8], words: &mut [u32; 1024]) -> Unit {
-    let limiter = Operator::Limiter(Rate(0));
-    let compactor = Operator::Compactor(Interval(0));
-    let expander = Operator::Expander(Interval(0));
-    let filter = Operator::Filter(Rate(0));
-    let delayer = Operator::Delayer(Delay(0));
-    if starts_with(command, b"limiter ") {
-        return new_operator(unit, lines, command, 8, limiter, words);
-    }
-    if starts_with(command, b"compactor ") {
-        return new_operator(unit, lines, command, 10, compactor, words);
-    }
-    if starts_with(command, b"expander ") {
-        return new_operator(unit, lines, command, 9, expander, words);
-    }
-    if starts_with(command, b"filter ") {
-        return new_operator(unit, lines, command, 7, filter, words);
-    }
-    if starts_with(command, b"delayer ") {
-        return new_operator(unit, lines, command, 8, delayer, words);
+fn answer_line(unit: Unit, lines: u64, line: &[u8], words: &mut [u32; 1024]) -> Unit {
+    let command = read_command(unit, lines, line);
+    if command.index < SET_SLOT {
+        clear(words);
+        return new_unit(command);
     }
     command_unit(unit, lines, command, words)
 }
 
-fn command_unit(unit: Unit, lines: u64, command: &[u8], words: &mut [u32; 1024]) -> Unit {
+// What a line asks of the unit there is, or the unit that it makes; else the line is an error and the command unknown.
+fn read_command(unit: Unit, lines: u64, line: &[u8]) -> Command {
+    let found = command_in(line);
+    let fault = fault_of(unit, found.index);
+    if fault < 4 {
+        error_of(
+            lines,
+            b"no unit|unknown command|not a meter|not an operator",
+            fault,
+        );
+        return Command {
+            index: UNKNOWN,
+            first: 0,
+            second: 0,
+        };
+    }
+    with_numbers(lines, line, found)
+}
+
+// Which error a command is to the unit there is; 4: none.
+fn fault_of(unit: Unit, command: usize) -> usize {
+    if command < SET_SLOT {
+        return 4;
+    }
     match unit {
-        Unit::Missing => {
-            error(lines, b"no unit");
-            unit
-        }
+        Unit::Missing => 0,
+        Unit::Alone(_) => match command {
+            UNKNOWN => 1,
+            SET_BLOCK..=ROOM => 2,
+            _ => 4,
+        },
+        Unit::Metering(_) => match command {
+            UNKNOWN => 1,
+            SET_HELD..=BOUNDS => 3,
+            _ => 4,
+        },
+    }
+}
+
+fn command_unit(unit: Unit, lines: u64, command: Command, words: &mut [u32; 1024]) -> Unit {
+    match unit {
+        Unit::Missing => unit,
         Unit::Alone(state) => Unit::Alone(single::answer(state, lines, command, words)),
         Unit::Metering(state) => Unit::Metering(metering::answer(state, lines, command, words)),
     }
 }
 
-// The operator of a kind, its number from an index on.
-fn new_operator(
-    unit: Unit,
-    lines: u64,
-    command: &[u8],
-    from: usize,
-    kind: Operator,
-    words: &mut [u32; 1024],
-) -> Unit {
-    let numbers = numbers_of(lines, command, from, 1);
-    if !numbers.given {
-        return unit;
+fn new_unit(command: Command) -> Unit {
+    let first = narrow(command.first);
+    let second = narrow(command.second);
+    if command.index < SMOOTH_METER {
+        return Unit::Alone(SingleOperator {
+            operator: operator_of(command.index, first),
+            slot: Slots(0),
+            held: Units(0),
+            beside: Units(0),
+        });
     }
-    clear(words);
-    Unit::Alone(SingleOperator {
-        operator: with_number(kind, narrow(numbers.first)),
-        slot: Slots(0),
-        held: Units(0),
-        beside: Units(0),
-    })
-}
-
-fn with_number(kind: Operator, n: u32) -> Operator {
-    match kind {
-        Operator::Limiter(_) => Operator::Limiter(Rate(n)),
-        Operator::Compactor(_) => Operator::Compactor(Interval(n)),
-        Operator::Expander(_) => Operator::Expander(Interval(n)),
-        Operator::Filter(_) => Operator::Filter(Rate(n)),
-        Operator::Delayer(_) => Operator::Delayer(Delay(n)),
-    }
-}
-
-fn new_meter(
-    unit: Unit,
-    lines: u64,
-    command: &[u8],
-    from: usize,
-    kind: Kind,
-    words: &mut [u32; 1024],
-) -> Unit {
-    let numbers = numbers_of(lines, command, from, 2);
-    if !numbers.given {
-        return unit;
-    }
-    clear(words);
     Unit::Metering(SourceMeter {
         declaration: Declaration {
-            kind,
-            interval: Interval(narrow(numbers.first)),
-            quota: Quota(narrow(numbers.second)),
+            kind: kind_of(command.index),
+            interval: Interval(first),
+            quota: Quota(second),
         },
         slot: Slots(0),
         block: Units(0),
     })
+}
+
+fn operator_of(command: usize, number: u32) -> Operator {
+    match command {
+        0 => Operator::Limiter(Rate(number)),
+        1 => Operator::Compactor(Interval(number)),
+        2 => Operator::Expander(Interval(number)),
+        3 => Operator::Filter(Rate(number)),
+        _ => Operator::Delayer(Delay(number)),
+    }
+}
+
+fn kind_of(command: usize) -> Kind {
+    match command {
+        SMOOTH_METER => Kind::Smooth,
+        _ => Kind::Uniform,
+    }
 }

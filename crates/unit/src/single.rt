@@ -1,14 +1,21 @@
 // A single operator's commands.
 
+use crate::command::BOUNDS;
+use crate::command::Command;
+use crate::command::SET_BESIDE;
+use crate::command::SET_HELD;
+use crate::command::SET_SLOT;
+use crate::command::SET_WORD;
+use crate::command::STATE;
+use crate::command::STEP;
+use crate::command::WORDS;
 use crate::setting::is_set;
 use crate::words::list_words;
 use crate::words::set_word;
 use console::numbers::narrow;
-use console::numbers::numbers_of;
-use console::print::error;
-use console::print::number;
+use console::print::end_line;
+use console::print::labelled;
 use console::print::refused;
-use console::print::text;
 use operator::SingleOperator;
 use operator::single::Bounds;
 use operator::single::Stepped;
@@ -18,108 +25,72 @@ use operator::single::step_alone;
 use operator::single::stored_in;
 use quantity::Slots;
 use quantity::Units;
-use text::line::starts_with;
 ghost use Prim.Native.Nat.{_≤_};
 ghost use lib.ListN.{length};
 
 // The words of an operator.
-const WORDS: u64 = 64;
+const COUNT: u64 = 64;
 
 pub(crate) fn answer(
     state: SingleOperator,
     lines: u64,
-    command: &[u8],
+    command: Command,
     words: &mut [u32; 1024],
 ) -> SingleOperator {
-    if starts_with(command, b"step ") {
-        return step(state, lines, command, words);
+    let index = command.index;
+    match index {
+        SET_SLOT => return set_slot(state, Slots(narrow(command.first))),
+        SET_HELD => return set_held(state, Units(command.first)),
+        SET_BESIDE => return set_beside(state, Units(command.first)),
+        STEP => return step(state, command.first, command.second, words),
+        BOUNDS => ask_bounds(state, command.first, words),
+        STATE => show(state),
+        SET_WORD => set_word(lines, command, words, COUNT),
+        WORDS => list_words(lines, command.first, words, COUNT),
+        _ => {}
     }
-    if starts_with(command, b"bounds ") {
-        ask_bounds(state, lines, command, words);
-        return state;
-    }
-    if starts_with(command, b"set ") {
-        return set(state, lines, command, words);
-    }
-    if starts_with(command, b"words ") {
-        list_words(lines, command, words, WORDS);
-        return state;
-    }
-    if starts_with(command, b"state") && command.len() == 5 {
-        show(state);
-        return state;
-    }
-    of_a_meter(lines, command);
     state
 }
 
-// `take INPUT` and `room` are for a meter.
-fn of_a_meter(lines: u64, command: &[u8]) {
-    if starts_with(command, b"take ") {
-        error(lines, b"not a meter");
-        return;
-    }
-    if starts_with(command, b"room") && command.len() == 4 {
-        error(lines, b"not a meter");
-        return;
-    }
-    error(lines, b"unknown command");
-}
-
 // `step INPUT CHOICE`: a refused step leaves the state as it was.
-fn step(
-    state: SingleOperator,
-    lines: u64,
-    command: &[u8],
-    words: &mut [u32; 1024],
-) -> SingleOperator {
-    let numbers = numbers_of(lines, command, 5, 2);
-    if !numbers.given {
-        return state;
-    }
-    let input = Units(numbers.first);
-    let bounds = bounds_in(state, words, input);
-    match step_in(state, words, input, Units(numbers.second)) {
+fn step(state: SingleOperator, input: u64, choice: u64, words: &mut [u32; 1024]) -> SingleOperator {
+    let bounds = bounds_in(state, words, Units(input));
+    match step_in(state, words, Units(input), Units(choice)) {
         Stepped::Refused(why) => {
             refused(why);
             state
         }
         Stepped::Sent { output, next } => {
-            if let Bounds::Outputs { least, greatest } = bounds {
-                between(state.slot, least, greatest);
-            }
-            text(b" output ");
-            number(output.0);
-            text(b" held ");
-            number(held_in(next, words));
-            text(b"\n");
+            sent(state.slot, bounds, output);
+            labelled(b" held ", held_in(next, words));
+            end_line();
             next
         }
     }
 }
 
-// `bounds INPUT`
-fn ask_bounds(state: SingleOperator, lines: u64, command: &[u8], words: &[u32; 1024]) {
-    let numbers = numbers_of(lines, command, 7, 1);
-    if !numbers.given {
-        return;
+fn sent(slot: Slots, bounds: Bounds, output: Units) {
+    if let Bounds::Outputs { least, greatest } = bounds {
+        between(slot, least, greatest);
     }
-    match bounds_in(state, words, Units(numbers.first)) {
+    labelled(b" output ", output.0);
+}
+
+// `bounds INPUT`
+fn ask_bounds(state: SingleOperator, input: u64, words: &[u32; 1024]) {
+    match bounds_in(state, words, Units(input)) {
         Bounds::Refused(why) => refused(why),
         Bounds::Outputs { least, greatest } => {
             between(state.slot, least, greatest);
-            text(b"\n");
+            end_line();
         }
     }
 }
 
 fn between(slot: Slots, least: Units, greatest: Units) {
-    text(b"slot ");
-    number(slot.0 as u64);
-    text(b" least ");
-    number(least.0);
-    text(b" greatest ");
-    number(greatest.0);
+    labelled(b"slot ", slot.0 as u64);
+    labelled(b" least ", least.0);
+    labelled(b" greatest ", greatest.0);
 }
 
 // The library's calls on the operator's words.
@@ -146,65 +117,22 @@ fn held_in(state: SingleOperator, words: &[u32; 1024]) -> u64 {
     }
 }
 
-// `set slot N`, `set held N`, `set beside N` and `set word J N`
-fn set(
-    state: SingleOperator,
-    lines: u64,
-    command: &[u8],
-    words: &mut [u32; 1024],
-) -> SingleOperator {
-    if starts_with(command, b"set slot ") {
-        return set_slot(state, lines, command);
-    }
-    if starts_with(command, b"set held ") {
-        return set_held(state, lines, command);
-    }
-    if starts_with(command, b"set beside ") {
-        return set_beside(state, lines, command);
-    }
-    if starts_with(command, b"set word ") {
-        set_word(lines, command, words, WORDS);
-        return state;
-    }
-    if starts_with(command, b"set block ") {
-        error(lines, b"not a meter");
-        return state;
-    }
-    error(lines, b"unknown command");
-    state
-}
-
-fn set_slot(state: SingleOperator, lines: u64, command: &[u8]) -> SingleOperator {
-    let numbers = numbers_of(lines, command, 9, 1);
-    if !numbers.given {
-        return state;
-    }
-    let slot = Slots(narrow(numbers.first));
-    is_set(b"slot", slot.0 as u64);
+fn set_slot(state: SingleOperator, slot: Slots) -> SingleOperator {
+    is_set(b"slot ", slot.0 as u64);
     let mut next = state;
     next.slot = slot;
     next
 }
 
-fn set_held(state: SingleOperator, lines: u64, command: &[u8]) -> SingleOperator {
-    let numbers = numbers_of(lines, command, 9, 1);
-    if !numbers.given {
-        return state;
-    }
-    let held = Units(numbers.first);
-    is_set(b"held", held.0);
+fn set_held(state: SingleOperator, held: Units) -> SingleOperator {
+    is_set(b"held ", held.0);
     let mut next = state;
     next.held = held;
     next
 }
 
-fn set_beside(state: SingleOperator, lines: u64, command: &[u8]) -> SingleOperator {
-    let numbers = numbers_of(lines, command, 11, 1);
-    if !numbers.given {
-        return state;
-    }
-    let beside = Units(numbers.first);
-    is_set(b"beside", beside.0);
+fn set_beside(state: SingleOperator, beside: Units) -> SingleOperator {
+    is_set(b"beside ", beside.0);
     let mut next = state;
     next.beside = beside;
     next
@@ -212,11 +140,8 @@ fn set_beside(state: SingleOperator, lines: u64, command: &[u8]) -> SingleOperat
 
 // `state`
 fn show(state: SingleOperator) {
-    text(b"slot ");
-    number(state.slot.0 as u64);
-    text(b" held ");
-    number(state.held.0);
-    text(b" beside ");
-    number(state.beside.0);
-    text(b"\n");
+    labelled(b"slot ", state.slot.0 as u64);
+    labelled(b" held ", state.held.0);
+    labelled(b" beside ", state.beside.0);
+    end_line();
 }

@@ -1,9 +1,10 @@
 // The lent words: an operator has the first 64, a meter has all.
 
+use crate::command::Command;
 use console::numbers::narrow;
-use console::numbers::numbers_of;
+use console::print::end_line;
 use console::print::error;
-use console::print::number;
+use console::print::labelled;
 use console::print::text;
 ghost use Prim.Native.Nat.{_≤_};
 
@@ -16,38 +17,28 @@ pub(crate) fn clear(words: &mut [u32; 1024]) {
 }
 
 // `set word J N`, of so many words.
-pub(crate) fn set_word(lines: u64, command: &[u8], words: &mut [u32; 1024], count: u64)
+pub(crate) fn set_word(lines: u64, command: Command, words: &mut [u32; 1024], count: u64)
     requires { ⌜ count ≤ 1024 ⌝ }
 {
-    let numbers = numbers_of(lines, command, 9, 2);
-    if !numbers.given {
-        return;
-    }
-    let j = numbers.first;
+    let j = command.first;
     if count <= j {
         error(lines, b"no such word");
         return;
     }
-    let word = narrow(numbers.second);
+    let word = narrow(command.second);
     words[j as usize] = word;
-    text(b"set word ");
-    number(j);
-    text(b" ");
-    number(word as u64);
-    text(b"\n");
+    labelled(b"set word ", j);
+    labelled(b" ", word as u64);
+    end_line();
 }
 
 // `words N`, of so many words.
-pub(crate) fn list_words(lines: u64, command: &[u8], words: &[u32; 1024], count: u64) {
-    let numbers = numbers_of(lines, command, 6, 1);
-    if !numbers.given {
-        return;
-    }
-    if count < numbers.first {
+pub(crate) fn list_words(lines: u64, wanted: u64, words: &[u32; 1024], count: u64) {
+    if count < wanted {
         error(lines, b"no such word");
         return;
     }
-    list_first(words, numbers.first as usize);
+    list_first(words, wanted as usize);
 }
 
 fn list_first(words: &[u32], count: usize) {
@@ -57,10 +48,9 @@ fn list_first(words: &[u32], count: usize) {
         list_word(words[j]);
         j += 1;
     }
-    text(b"\n");
+    end_line();
 }
 
 fn list_word(word: u32) {
-    text(b" ");
-    number(word as u64);
+    labelled(b" ", word as u64);
 }

@@ -5,10 +5,10 @@ use Rattle.unit.proofs.words.list_first.Statement.{statement}
 use Rattle.unit.proofs.words.list_first.Tie as tie
 
 abbrev Inv-loop : tie.InvT-loop
-Inv-loop words count j₀ t5 j = j ≤ count
+Inv-loop words count j₀ j = j ≤ count
 
 abbrev μ-loop : tie.MeasureT-loop
-μ-loop words count j₀ t5 j = count - j
+μ-loop words count j₀ j = count - j
 
 slice-aggregate-text : tie.Need-slice-aggregate-text Inv-loop μ-loop
 slice-aggregate-text c = search needs
@@ -37,11 +37,8 @@ loop-less c = search needs
 loop-again : tie.Need-loop-again Inv-loop μ-loop
 loop-again c = search needs
 
-slice-aggregate-text-2 : tie.Need-slice-aggregate-text-2 Inv-loop μ-loop
-slice-aggregate-text-2 c = search needs
-
-text-requires-2 : tie.Need-text-requires-2 Inv-loop μ-loop
-text-requires-2 c κs = search needs
+end-line-requires : tie.Need-end-line-requires Inv-loop μ-loop
+end-line-requires c κs = search needs
 
 returns : tie.Need-returns Inv-loop μ-loop
 returns c = search needs
@@ -61,6 +58,5 @@ list-first-spec =
     add-j
     loop-less
     loop-again
-    slice-aggregate-text-2
-    text-requires-2
+    end-line-requires
     returns)
