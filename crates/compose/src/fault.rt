@@ -1,6 +1,6 @@
 // What can be wrong with a line of a path's text, and the words for it.
 
-use console::print::error;
+use console::words::error_of;
 
 pub enum Fault {
     UnknownWord,
@@ -27,29 +27,43 @@ pub enum Fault {
     LineTooLong,
 }
 
+// The words stand in the order of the faults.
 pub(crate) fn say(line: u64, why: Fault) {
+    error_of(
+        line,
+        b"unknown word|not a number|number too large|too few numbers|too many numbers|\
+          interval out of range|quota out of range|delay wanted out of range|\
+          rate out of range|delay out of range|link out of range|profile out of range|\
+          hops out of range|packet out of range|link rate out of range|\
+          delayer of more than 64 slots|link is missing|smooth or uniform is missing here|\
+          wanted is missing here|a line is missing|a line too many|line too long",
+        index_of(why),
+    );
+}
+
+fn index_of(why: Fault) -> usize {
     match why {
-        Fault::UnknownWord => error(line, b"unknown word"),
-        Fault::NotANumber => error(line, b"not a number"),
-        Fault::NumberTooLarge => error(line, b"number too large"),
-        Fault::TooFewNumbers => error(line, b"too few numbers"),
-        Fault::TooManyNumbers => error(line, b"too many numbers"),
-        Fault::IntervalOutOfRange => error(line, b"interval out of range"),
-        Fault::QuotaOutOfRange => error(line, b"quota out of range"),
-        Fault::WantedOutOfRange => error(line, b"delay wanted out of range"),
-        Fault::RateOutOfRange => error(line, b"rate out of range"),
-        Fault::DelayOutOfRange => error(line, b"delay out of range"),
-        Fault::LinkOutOfRange => error(line, b"link out of range"),
-        Fault::ProfileOutOfRange => error(line, b"profile out of range"),
-        Fault::HopsOutOfRange => error(line, b"hops out of range"),
-        Fault::PacketOutOfRange => error(line, b"packet out of range"),
-        Fault::LinkRateOutOfRange => error(line, b"link rate out of range"),
-        Fault::DelayerTooLong => error(line, b"delayer of more than 64 slots"),
-        Fault::LinkMissing => error(line, b"link is missing"),
-        Fault::DeclarationMissing => error(line, b"smooth or uniform is missing here"),
-        Fault::WantedMissing => error(line, b"wanted is missing here"),
-        Fault::LineMissing => error(line, b"a line is missing"),
-        Fault::LineTooMany => error(line, b"a line too many"),
-        Fault::LineTooLong => error(line, b"line too long"),
+        Fault::UnknownWord => 0,
+        Fault::NotANumber => 1,
+        Fault::NumberTooLarge => 2,
+        Fault::TooFewNumbers => 3,
+        Fault::TooManyNumbers => 4,
+        Fault::IntervalOutOfRange => 5,
+        Fault::QuotaOutOfRange => 6,
+        Fault::WantedOutOfRange => 7,
+        Fault::RateOutOfRange => 8,
+        Fault::DelayOutOfRange => 9,
+        Fault::LinkOutOfRange => 10,
+        Fault::ProfileOutOfRange => 11,
+        Fault::HopsOutOfRange => 12,
+        Fault::PacketOutOfRange => 13,
+        Fault::LinkRateOutOfRange => 14,
+        Fault::DelayerTooLong => 15,
+        Fault::LinkMissing => 16,
+        Fault::DeclarationMissing => 17,
+        Fault::WantedMissing => 18,
+        Fault::LineMissing => 19,
+        Fault::LineTooMany => 20,
+        Fault::LineTooLong => 21,
     }
 }

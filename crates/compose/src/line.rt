@@ -3,6 +3,7 @@
 use crate::fault::Fault;
 use crate::profile::read_profile;
 use console::numbers::narrow;
+use console::words::find;
 use flow::Declaration;
 use flow::Kind;
 use operator::Operator;
@@ -18,7 +19,6 @@ use text::decimal::Decimal;
 use text::decimal::Decimals;
 use text::decimal::decimal_at;
 use text::decimal::decimals_from;
-use text::line::starts_with;
 
 pub(crate) const SPACE: u8 = 32;
 
@@ -38,125 +38,89 @@ enum Numbers {
     Wrong(Fault),
 }
 
-enum OperatorWord {
-    Limiter,
-    Compactor,
-    Expander,
-    Filter,
-    Delayer,
-}
-
-// The numbers begin behind the word and a space, at the index that is given with each word.
+// The operators have the numbers of document 01, section 5. What follows a word begins behind a space.
 pub(crate) fn read_line(line: &[u8]) -> Said {
-    if starts_with(line, b"hex") && line.len() == 3 {
-        return Said::Hexadecimal;
+    let found = find(
+        b"limiter|compactor|expander|filter|delayer|smooth|uniform|wanted|profile",
+        line,
+    );
+    let word = found.index;
+    let from = found.behind;
+    if word < 8 {
+        return said_by(word, numbers_behind(word, line, from));
     }
-    if has_word(line, b"smooth") {
-        return read_declaration(Kind::Smooth, numbers_from(line, 7, 2));
-    }
-    if has_word(line, b"uniform") {
-        return read_declaration(Kind::Uniform, numbers_from(line, 8, 2));
-    }
-    if has_word(line, b"wanted") {
-        return read_wanted(numbers_from(line, 7, 1));
-    }
-    if has_word(line, b"profile") {
-        return read_profile(line);
-    }
-    read_operator(line)
-}
-
-fn read_operator(line: &[u8]) -> Said {
-    if has_word(line, b"limiter") {
-        return read_linked(OperatorWord::Limiter, number_and_link(line, 8));
-    }
-    if has_word(line, b"compactor") {
-        return read_linked(OperatorWord::Compactor, number_and_link(line, 10));
-    }
-    if has_word(line, b"expander") {
-        return read_linked(OperatorWord::Expander, number_and_link(line, 9));
-    }
-    if has_word(line, b"filter") {
-        return read_linked(OperatorWord::Filter, number_and_link(line, 7));
-    }
-    if has_word(line, b"delayer") {
-        return read_linked(OperatorWord::Delayer, number_and_link(line, 8));
+    if word == 8 {
+        return read_profile(line, from);
     }
     Said::Wrong(Fault::UnknownWord)
 }
 
-// Whether a text begins with a word that ends there or at a space.
-pub(crate) fn has_word(line: &[u8], word: &[u8]) -> bool {
-    let end = word.len();
-    if end < line.len() {
-        if line[end] != SPACE {
-            return false;
-        }
+// `limiter R link k` and so for each operator; `smooth m Q`, `uniform m Q`; `wanted N`
+fn numbers_behind(word: usize, line: &[u8], from: usize) -> Numbers {
+    if word < 5 {
+        return number_and_link(line, from);
     }
-    starts_with(line, word)
+    if word < 7 {
+        return numbers_from(line, from, 2);
+    }
+    numbers_from(line, from, 1)
 }
 
-// `smooth m Q`, `uniform m Q`
-fn read_declaration(kind: Kind, numbers: Numbers) -> Said {
+fn said_by(word: usize, numbers: Numbers) -> Said {
     match numbers {
         Numbers::Wrong(why) => Said::Wrong(why),
-        Numbers::Given { first, second } => {
-            let interval = Interval(first);
-            let quota = Quota(second);
-            if !interval.in_range() {
-                return Said::Wrong(Fault::IntervalOutOfRange);
-            }
-            if !quota.in_range() {
-                return Said::Wrong(Fault::QuotaOutOfRange);
-            }
-            Said::Declaration(Declaration {
-                kind,
-                interval,
-                quota,
-            })
-        }
+        Numbers::Given { first, second } => said_of(word, first, second),
     }
 }
 
-// `wanted N`
-fn read_wanted(numbers: Numbers) -> Said {
-    match numbers {
-        Numbers::Wrong(why) => Said::Wrong(why),
-        Numbers::Given { first, second: _ } => {
-            let wanted = WantedDelay(first);
-            if !wanted.in_range() {
-                return Said::Wrong(Fault::WantedOutOfRange);
-            }
-            Said::Wanted(wanted)
-        }
-    }
-}
-
-// `limiter R link k`, and so for each operator.
-fn read_linked(word: OperatorWord, numbers: Numbers) -> Said {
-    match numbers {
-        Numbers::Wrong(why) => Said::Wrong(why),
-        Numbers::Given { first, second } => {
-            let operator = operator_of(word, first);
-            let link = Link(second);
-            if !operator.number_in_range() {
-                return Said::Wrong(number_fault(operator));
-            }
-            if !link.in_range() {
-                return Said::Wrong(Fault::LinkOutOfRange);
-            }
-            Said::LinkedOperator(LinkedOperator { operator, link })
-        }
-    }
-}
-
-fn operator_of(word: OperatorWord, number: u32) -> Operator {
+fn said_of(word: usize, first: u32, second: u32) -> Said {
     match word {
-        OperatorWord::Limiter => Operator::Limiter(Rate(number)),
-        OperatorWord::Compactor => Operator::Compactor(Interval(number)),
-        OperatorWord::Expander => Operator::Expander(Interval(number)),
-        OperatorWord::Filter => Operator::Filter(Rate(number)),
-        OperatorWord::Delayer => Operator::Delayer(Delay(number)),
+        5 => said_declaration(Kind::Smooth, Interval(first), Quota(second)),
+        6 => said_declaration(Kind::Uniform, Interval(first), Quota(second)),
+        7 => said_wanted(WantedDelay(first)),
+        _ => said_linked(operator_of(word, first), Link(second)),
+    }
+}
+
+fn said_declaration(kind: Kind, interval: Interval, quota: Quota) -> Said {
+    if !interval.in_range() {
+        return Said::Wrong(Fault::IntervalOutOfRange);
+    }
+    if !quota.in_range() {
+        return Said::Wrong(Fault::QuotaOutOfRange);
+    }
+    Said::Declaration(Declaration {
+        kind,
+        interval,
+        quota,
+    })
+}
+
+fn said_wanted(wanted: WantedDelay) -> Said {
+    if wanted.in_range() {
+        Said::Wanted(wanted)
+    } else {
+        Said::Wrong(Fault::WantedOutOfRange)
+    }
+}
+
+fn said_linked(operator: Operator, link: Link) -> Said {
+    if !operator.number_in_range() {
+        return Said::Wrong(number_fault(operator));
+    }
+    if !link.in_range() {
+        return Said::Wrong(Fault::LinkOutOfRange);
+    }
+    Said::LinkedOperator(LinkedOperator { operator, link })
+}
+
+fn operator_of(kind: usize, number: u32) -> Operator {
+    match kind {
+        0 => Operator::Limiter(Rate(number)),
+        1 => Operator::Compactor(Interval(number)),
+        2 => Operator::Expander(Interval(number)),
+        3 => Operator::Filter(Rate(number)),
+        _ => Operator::Delayer(Delay(number)),
     }
 }
 
@@ -178,28 +142,30 @@ fn number_and_link(line: &[u8], from: usize) -> Numbers {
     match decimal_at(line, from) {
         Decimal::NoDigit => Numbers::Wrong(Fault::NotANumber),
         Decimal::TooLarge => Numbers::Wrong(Fault::NumberTooLarge),
-        Decimal::Number { value, next } => {
-            if line.len() <= next {
-                return Numbers::Wrong(Fault::LinkMissing);
-            }
-            if line[next] != SPACE {
-                return Numbers::Wrong(Fault::NotANumber);
-            }
-            let behind = next + 1;
-            with_link(value, &line[behind..])
-        }
+        Decimal::Number { value, next } => link_behind(narrow(value), line, next),
     }
 }
 
-// The number and what stands behind it and a space.
-fn with_link(number: u64, rest: &[u8]) -> Numbers {
-    if !has_word(rest, b"link") {
+fn link_behind(number: u32, line: &[u8], end: usize) -> Numbers {
+    if line.len() <= end {
         return Numbers::Wrong(Fault::LinkMissing);
     }
-    match numbers_from(rest, 5, 1) {
+    if line[end] != SPACE {
+        return Numbers::Wrong(Fault::NotANumber);
+    }
+    let behind = end + 1;
+    with_link(number, &line[behind..])
+}
+
+fn with_link(number: u32, rest: &[u8]) -> Numbers {
+    let found = find(b"link", rest);
+    if 0 < found.index {
+        return Numbers::Wrong(Fault::LinkMissing);
+    }
+    match numbers_from(rest, found.behind, 1) {
         Numbers::Wrong(why) => Numbers::Wrong(why),
         Numbers::Given { first, second: _ } => Numbers::Given {
-            first: narrow(number),
+            first: number,
             second: first,
         },
     }
@@ -211,7 +177,12 @@ fn numbers_from(line: &[u8], from: usize, count: usize) -> Numbers {
         return Numbers::Wrong(Fault::TooFewNumbers);
     }
     let mut numbers = [0u64; 2];
-    match decimals_from(line, from, &mut numbers) {
+    let read = decimals_from(line, from, &mut numbers);
+    numbers_of(read, count, narrow(numbers[0]), narrow(numbers[1]))
+}
+
+fn numbers_of(read: Decimals, count: usize, first: u32, second: u32) -> Numbers {
+    match read {
         Decimals::NotANumber => Numbers::Wrong(Fault::NotANumber),
         Decimals::TooLarge => Numbers::Wrong(Fault::NumberTooLarge),
         Decimals::TooMany => Numbers::Wrong(Fault::TooManyNumbers),
@@ -222,10 +193,7 @@ fn numbers_from(line: &[u8], from: usize, count: usize) -> Numbers {
             if count < n {
                 return Numbers::Wrong(Fault::TooManyNumbers);
             }
-            Numbers::Given {
-                first: narrow(numbers[0]),
-                second: narrow(numbers[1]),
-            }
+            Numbers::Given { first, second }
         }
     }
 }

@@ -10,29 +10,40 @@ use console::input::begin;
 use console::print::hexadecimal;
 use console::print::refused;
 use console::print::text;
-use flow::Declaration;
-use quantity::WantedDelay;
 use sheet::Form;
-use sheet::House;
 use sheet::LinkedOperator;
 use sheet::PathValue;
 use sheet::no_path;
 use sheet::write::Written;
 use sheet::write::write;
+use text::line::starts_with;
 ghost use Prim.Native.Nat.{_≤_};
 
 mod fault;
 mod line;
 mod profile;
 
-// The path so far, which of its lines were there, whether it is complete, as a house profile is, whether its bytes are wanted in hexadecimal, and whether a line was wrong.
+// The first of a path's lines is its declaration or a house profile, then comes its delay wanted, then its operators.
+const FIRST: u8 = 0;
+
+const SECOND: u8 = 1;
+
+const OPERATORS: u8 = 2;
+
+const NOTHING: u8 = 3;
+
+// The path so far, which of its lines comes next, whether its bytes are wanted in hexadecimal, and whether a line was wrong.
 struct Draft {
     path: PathValue,
-    declared: bool,
-    delay_given: bool,
-    complete: bool,
+    next: u8,
     in_hexadecimal: bool,
     wrong: bool,
+}
+
+// Which of a path's lines a line is, and which comes behind it.
+struct Turn {
+    this: u8,
+    next: u8,
 }
 
 fn main() {
@@ -41,9 +52,7 @@ fn main() {
     let mut input = begin();
     let mut draft = Draft {
         path: no_path(),
-        declared: false,
-        delay_given: false,
-        complete: false,
+        next: FIRST,
         in_hexadecimal: false,
         wrong: false,
     };
@@ -52,7 +61,7 @@ fn main() {
     while turns > 0 && !draft.wrong && !input.ended {
         input = advance(input, &mut block, &mut line);
         if input.whole {
-            draft = end_line(draft, input, &line);
+            draft = take(draft, input.lines, said_in(input, &line));
         }
         turns -= 1;
     }
@@ -61,16 +70,47 @@ fn main() {
     }
 }
 
-// A line is whole, and is taken into the path.
-fn end_line(draft: Draft, input: Input, line: &[u8; 1023]) -> Draft
+// What a line says. `hex` is known as the first line alone.
+fn said_in(input: Input, line: &[u8; 1023]) -> Said
     requires { ⌜ input .length ≤ 1023 ⌝ }
 {
     let length = input.length;
-    if input.too_long {
-        return fail(draft, input.lines, Fault::LineTooLong);
-    }
     let whole = &line[..];
-    take(draft, input.lines, read_line(&whole[0..length]))
+    if input.too_long {
+        return Said::Wrong(Fault::LineTooLong);
+    }
+    if input.lines == 1 {
+        return read_first(&whole[0..length]);
+    }
+    read_line(&whole[0..length])
+}
+
+fn read_first(line: &[u8]) -> Said {
+    if line.len() == 3 {
+        if starts_with(line, b"hex") {
+            return Said::Hexadecimal;
+        }
+    }
+    read_line(line)
+}
+
+// What a line says goes to its place in the path, if it is the one that comes next.
+fn take(draft: Draft, lines: u64, said: Said) -> Draft {
+    match said {
+        Said::Wrong(why) => fail(draft, lines, why),
+        Said::Hexadecimal => {
+            let mut next = draft;
+            next.in_hexadecimal = true;
+            next
+        }
+        _ => {
+            let turn = turn_of(said);
+            if turn.this == draft.next {
+                return put(draft, turn.next, said);
+            }
+            fail(draft, lines, order_fault(draft.next, turn.this))
+        }
+    }
 }
 
 // The first wrong line is the last that is read, and there is no sheet.
@@ -81,107 +121,88 @@ fn fail(draft: Draft, lines: u64, why: Fault) -> Draft {
     next
 }
 
-// What a line says goes to its place in the path, if it is the one that comes next.
-fn take(draft: Draft, lines: u64, said: Said) -> Draft {
+fn turn_of(said: Said) -> Turn {
     match said {
-        Said::Wrong(why) => fail(draft, lines, why),
-        Said::Hexadecimal => take_hexadecimal(draft, lines),
-        Said::Declaration(declaration) => take_declaration(draft, lines, declaration),
-        Said::Wanted(wanted) => take_wanted(draft, lines, wanted),
-        Said::LinkedOperator(linked) => take_linked(draft, lines, linked),
-        Said::House(house) => take_house(draft, lines, house),
+        Said::Declaration(_) => Turn {
+            this: FIRST,
+            next: SECOND,
+        },
+        Said::Wanted(_) => Turn {
+            this: SECOND,
+            next: OPERATORS,
+        },
+        Said::LinkedOperator(_) => Turn {
+            this: OPERATORS,
+            next: OPERATORS,
+        },
+        _ => Turn {
+            this: FIRST,
+            next: NOTHING,
+        },
     }
 }
 
-// Behind the first line the word is not known.
-fn take_hexadecimal(draft: Draft, lines: u64) -> Draft {
-    if lines != 1 {
-        return fail(draft, lines, Fault::UnknownWord);
+fn order_fault(next: u8, this: u8) -> Fault {
+    if this < next {
+        return Fault::LineTooMany;
     }
-    let mut next = draft;
-    next.in_hexadecimal = true;
-    next
+    if next == FIRST {
+        return Fault::DeclarationMissing;
+    }
+    Fault::WantedMissing
 }
 
-fn take_declaration(draft: Draft, lines: u64, declaration: Declaration) -> Draft {
-    if draft.declared {
-        return fail(draft, lines, Fault::LineTooMany);
-    }
-    let mut path = draft.path;
-    path.declaration = declaration;
-    let mut next = draft;
-    next.path = path;
-    next.declared = true;
-    next
-}
-
-fn take_wanted(draft: Draft, lines: u64, wanted: WantedDelay) -> Draft {
-    if !draft.declared {
-        return fail(draft, lines, Fault::DeclarationMissing);
-    }
-    if draft.delay_given {
-        return fail(draft, lines, Fault::LineTooMany);
-    }
-    let mut path = draft.path;
-    path.wanted = wanted;
-    let mut next = draft;
-    next.path = path;
-    next.delay_given = true;
-    next
-}
-
-fn take_linked(draft: Draft, lines: u64, linked: LinkedOperator) -> Draft {
-    if !draft.declared {
-        return fail(draft, lines, Fault::DeclarationMissing);
-    }
-    if !draft.delay_given {
-        return fail(draft, lines, Fault::WantedMissing);
-    }
-    if draft.complete {
-        return fail(draft, lines, Fault::LineTooMany);
-    }
-    let count = draft.path.count;
-    if 16 <= count {
-        return fail(draft, lines, Fault::LineTooMany);
-    }
-    let mut path = draft.path;
-    path.operators[count] = linked;
-    path.count = count + 1;
-    let mut next = draft;
-    next.path = path;
-    next
-}
-
-// A house profile is a path by itself: no line of one comes before it or behind it.
-fn take_house(draft: Draft, lines: u64, house: House) -> Draft {
-    if draft.declared {
-        return fail(draft, lines, Fault::LineTooMany);
-    }
-    let empty = draft.path;
-    let declaration = empty.declaration;
-    let wanted = empty.wanted;
-    let operators = empty.operators;
-    let path = PathValue {
-        form: Form::House(house),
-        declaration,
-        wanted,
-        count: 0,
-        operators,
-    };
+// Behind sixteen operators comes nothing.
+fn put(draft: Draft, next: u8, said: Said) -> Draft {
+    let path = path_with(draft.path, said);
     Draft {
         path,
-        declared: true,
-        delay_given: true,
-        complete: true,
+        next: if path.count < 16 { next } else { NOTHING },
         in_hexadecimal: draft.in_hexadecimal,
         wrong: false,
     }
 }
 
-// Where operators have come, nothing before them is missing.
+fn path_with(path: PathValue, said: Said) -> PathValue {
+    let mut next = path;
+    match said {
+        Said::Declaration(declaration) => next.declaration = declaration,
+        Said::Wanted(wanted) => next.wanted = wanted,
+        Said::LinkedOperator(linked) => return with_linked(path, linked),
+        Said::House(house) => return with_form(path, Form::House(house)),
+        _ => {}
+    }
+    next
+}
+
+fn with_linked(path: PathValue, linked: LinkedOperator) -> PathValue {
+    let count = path.count;
+    if 16 <= count {
+        return path;
+    }
+    let mut next = path;
+    next.operators[count] = linked;
+    next.count = count + 1;
+    next
+}
+
+fn with_form(path: PathValue, form: Form) -> PathValue {
+    let declaration = path.declaration;
+    let wanted = path.wanted;
+    let operators = path.operators;
+    PathValue {
+        form,
+        declaration,
+        wanted,
+        count: path.count,
+        operators,
+    }
+}
+
+// Where an operator has come, or a house profile, nothing is missing.
 fn end_text(draft: Draft, lines: u64) {
     let path = draft.path;
-    if draft.complete || 0 < path.count {
+    if draft.next == NOTHING || 0 < path.count {
         write_path(path, draft.in_hexadecimal);
     } else {
         say(std::num::wrapping_add_u64(lines, 1), Fault::LineMissing);

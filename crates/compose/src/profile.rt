@@ -3,8 +3,8 @@
 use crate::fault::Fault;
 use crate::line::SPACE;
 use crate::line::Said;
-use crate::line::has_word;
 use console::numbers::narrow;
+use console::words::find;
 use quantity::Hops;
 use quantity::Interval;
 use quantity::Packet;
@@ -23,9 +23,9 @@ enum Labelled {
     Wrong(Fault),
 }
 
-// The number of the profile stands behind the word and a space, and says how many follow; those that it does not use are 0.
-pub(crate) fn read_profile(line: &[u8]) -> Said {
-    match number_from(line, 8) {
+// The number of the profile says how many follow; those that it does not use are 0.
+pub(crate) fn read_profile(line: &[u8], from: usize) -> Said {
+    match number_from(line, from) {
         Labelled::Wrong(why) => Said::Wrong(why),
         Labelled::Number { value, end } => {
             if 2 < value {
@@ -44,18 +44,22 @@ fn read_numbers(line: &[u8], profile: u8, from: usize) -> Said {
             if end < line.len() {
                 return Said::Wrong(Fault::TooManyNumbers);
             }
-            said_of(House {
-                profile,
-                hops: Hops(numbers[0]),
-                wanted: WantedDelay(numbers[1]),
-                interval: Interval(numbers[2]),
-                quota: Quota(numbers[3]),
-                rate: Rate(numbers[4]),
-                own_packet: Packet(numbers[5]),
-                longest_packet: Packet(numbers[6]),
-                link_rate: Rate(numbers[7]),
-            })
+            said_of(house_of(profile, &numbers))
         }
+    }
+}
+
+fn house_of(profile: u8, numbers: &[u32; 8]) -> House {
+    House {
+        profile,
+        hops: Hops(numbers[0]),
+        wanted: WantedDelay(numbers[1]),
+        interval: Interval(numbers[2]),
+        quota: Quota(numbers[3]),
+        rate: Rate(numbers[4]),
+        own_packet: Packet(numbers[5]),
+        longest_packet: Packet(numbers[6]),
+        link_rate: Rate(numbers[7]),
     }
 }
 
@@ -98,10 +102,11 @@ fn number_behind(line: &[u8], at: usize, k: usize) -> Labelled {
         return Labelled::Wrong(Fault::NotANumber);
     }
     let begins = at + 1;
-    if !has_label(&line[begins..], k) {
+    let found = find(b"hops|wanted|m|Q|R|L|X|C", &line[begins..]);
+    if found.index != k {
         return Labelled::Wrong(Fault::UnknownWord);
     }
-    number_from(line, begins + label_length(k) + 1)
+    number_from(line, begins + found.behind)
 }
 
 fn number_from(line: &[u8], from: usize) -> Labelled {
@@ -115,29 +120,6 @@ fn number_from(line: &[u8], from: usize) -> Labelled {
             value: narrow(value),
             end: next,
         },
-    }
-}
-
-fn has_label(text: &[u8], k: usize) -> bool {
-    match k {
-        0 => has_word(text, b"hops"),
-        1 => has_word(text, b"wanted"),
-        2 => has_word(text, b"m"),
-        3 => has_word(text, b"Q"),
-        4 => has_word(text, b"R"),
-        5 => has_word(text, b"L"),
-        6 => has_word(text, b"X"),
-        _ => has_word(text, b"C"),
-    }
-}
-
-fn label_length(k: usize) -> usize
-    ensures { λ r. ⌜ r ≤ 6 ⌝ }
-{
-    match k {
-        0 => 4,
-        1 => 6,
-        _ => 1,
     }
 }
 

@@ -22,8 +22,11 @@ loop-holds c = search needs
 advance-requires : tie.Need-advance-requires Inv-loop μ-loop
 advance-requires c κs = search needs
 
-end-line-requires : tie.Need-end-line-requires Inv-loop μ-loop
-end-line-requires c κs = search needs
+said-in-requires : tie.Need-said-in-requires Inv-loop μ-loop
+said-in-requires c κs = search needs
+
+take-requires : tie.Need-take-requires Inv-loop μ-loop
+take-requires c κs = search needs
 
 sub-turns : tie.Need-sub-turns Inv-loop μ-loop
 sub-turns c = search needs
@@ -53,7 +56,8 @@ main-spec =
     no-path-requires
     loop-holds
     advance-requires
-    end-line-requires
+    said-in-requires
+    take-requires
     sub-turns
     loop-less
     loop-again
