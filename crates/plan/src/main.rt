@@ -8,15 +8,21 @@ use console::input::Input;
 use console::input::advance;
 use console::input::begin;
 use console::listing::list;
+use console::numbers::Numbers;
 use console::numbers::narrow;
 use console::numbers::numbers_of;
+use console::print::end_line;
 use console::print::error;
 use console::print::hexadecimal;
+use console::print::labelled;
 use console::print::number;
 use console::print::refused;
 use console::print::text;
+use console::words::Found;
+use console::words::find;
 use ledger::Ledger;
 use ledger::Record;
+use ledger::admission::Admission;
 use ledger::no_record;
 use ledger::opening::no_ledger;
 use quantity::Link;
@@ -30,11 +36,27 @@ use text::decimal::Decimal;
 use text::decimal::decimal_at;
 use text::hexadecimal::Hexadecimal;
 use text::hexadecimal::hexadecimal_from;
-use text::line::starts_with;
 ghost use Prim.Native.Nat.{_≤_};
 ghost use lib.ListN.{length};
 
 const SPACE: u8 = 32;
+
+// The commands, in the order of their table.
+const CAPACITY: usize = 0;
+
+const RELEASE: usize = 1;
+
+const SPARE: usize = 2;
+
+const ADMIT: usize = 3;
+
+const FIGURES: usize = 4;
+
+const READ: usize = 5;
+
+const LIST: usize = 6;
+
+const UNKNOWN: usize = 7;
 
 // The ledger and its records, the capacities that it was opened with, and whether an admission was asked for.
 struct Book {
@@ -61,14 +83,14 @@ fn main() {
     while turns > 0 && !input.ended {
         input = advance(input, &mut block, &mut line);
         if input.whole {
-            book = end_line(book, input, &line);
+            book = answer_input(book, input, &line);
         }
         turns -= 1;
     }
 }
 
 // A line is whole, and is answered.
-fn end_line(book: Book, input: Input, line: &[u8; 1023]) -> Book
+fn answer_input(book: Book, input: Input, line: &[u8; 1023]) -> Book
     requires { ⌜ input .length ≤ 1023 ⌝ }
 {
     let length = input.length;
@@ -80,42 +102,56 @@ fn end_line(book: Book, input: Input, line: &[u8; 1023]) -> Book
     answer_line(book, input.lines, &whole[0..length])
 }
 
-fn answer_line(book: Book, lines: u64, command: &[u8]) -> Book {
-    if starts_with(command, b"capacity ") {
-        return set_capacity(book, lines, command);
+fn answer_line(book: Book, lines: u64, line: &[u8]) -> Book {
+    let found = command_in(line);
+    let command = found.index;
+    match command {
+        CAPACITY | RELEASE | SPARE => answer_numbers(book, lines, found, line),
+        ADMIT => admit_sheet(book, lines, found.behind, line),
+        FIGURES | READ => answer_sheet(book, lines, found, 0, line),
+        LIST => {
+            list_paths(book);
+            book
+        }
+        _ => {
+            error(lines, b"unknown command");
+            book
+        }
     }
-    if starts_with(command, b"admit ") {
-        return admit_sheet(book, lines, command);
-    }
-    if starts_with(command, b"release ") {
-        return release_number(book, lines, command);
-    }
-    if starts_with(command, b"spare ") {
-        ask_spare(book, lines, command);
-        return book;
-    }
-    if starts_with(command, b"figures ") {
-        list_figures(lines, command);
-        return book;
-    }
-    if starts_with(command, b"read ") {
-        read_back(lines, command);
-        return book;
-    }
-    if starts_with(command, b"list") && command.len() == 4 {
-        list_paths(book);
-        return book;
-    }
-    error(lines, b"unknown command");
-    book
 }
 
-// `capacity LINK CAPACITY`, before the first admission: the ledger is opened anew.
-fn set_capacity(book: Book, lines: u64, command: &[u8]) -> Book {
-    let numbers = numbers_of(lines, command, 9, 2);
+// A command with numbers or a sheet goes on behind its word, one without ends with it.
+fn command_in(line: &[u8]) -> Found {
+    let found = find(b"capacity|release|spare|admit|figures|read|list", line);
+    let goes_on = found.behind <= line.len();
+    if goes_on == (found.index < LIST) {
+        return found;
+    }
+    Found {
+        index: UNKNOWN,
+        behind: 0,
+    }
+}
+
+fn answer_numbers(book: Book, lines: u64, found: Found, line: &[u8]) -> Book {
+    let command = found.index;
+    let wanted = if command == CAPACITY { 2 } else { 1 };
+    let numbers = numbers_of(lines, line, found.behind, wanted);
     if !numbers.given {
         return book;
     }
+    match command {
+        CAPACITY => set_capacity(book, lines, numbers),
+        RELEASE => release_number(book, numbers.first),
+        _ => {
+            ask_spare(book, numbers.first);
+            book
+        }
+    }
+}
+
+// `capacity LINK CAPACITY`, before the first admission: the ledger is opened anew.
+fn set_capacity(book: Book, lines: u64, numbers: Numbers) -> Book {
     if book.begun {
         error(lines, b"capacities are set before the first admission");
         return book;
@@ -133,38 +169,89 @@ fn open_with(book: Book, link: u32, capacity: u64) -> Book
 {
     let mut capacities = book.capacities;
     capacities[link as usize] = narrow(capacity);
-    let records = book.records;
-    let fresh = open_book(capacities, records);
+    let lent = book.records;
+    let fresh = open_book(capacities, lent);
     let opened = fresh.opened;
     let verdict = opened.verdict;
     if let Verdict::Refused(why) = verdict {
         refused(why);
         return book;
     }
-    text(b"capacity ");
-    number(link as u64);
-    text(b" ");
-    number(capacity);
-    text(b"\n");
-    let cleared = fresh.records;
+    labelled(b"capacity ", link as u64);
+    labelled(b" ", capacity);
+    end_line();
+    let records = fresh.records;
     let ledger = opened.ledger;
     Book {
         ledger,
-        records: cleared,
+        records,
         capacities,
         begun: false,
     }
 }
 
-// `admit NUMBER SHEET`, the sheet in hexadecimal.
-fn admit_sheet(book: Book, lines: u64, command: &[u8]) -> Book {
-    match decimal_at(command, 6) {
+// `release NUMBER`
+fn release_number(book: Book, path: u64) -> Book {
+    let before = book.ledger;
+    let lent = book.records;
+    let done = release_path(before, lent, narrow(path));
+    let released = done.released;
+    let ledger = released.ledger;
+    let records = done.records;
+    let verdict = released.verdict;
+    say_released(path, verdict);
+    with_ledger(book, ledger, records, book.begun)
+}
+
+fn say_released(path: u64, verdict: Verdict) {
+    match verdict {
+        Verdict::Refused(why) => refused(why),
+        Verdict::Accepted => {
+            labelled(b"released ", path);
+            end_line();
+        }
+    }
+}
+
+fn with_ledger(book: Book, ledger: Ledger, records: [Record; 64], begun: bool) -> Book {
+    let capacities = book.capacities;
+    Book {
+        ledger,
+        records,
+        capacities,
+        begun,
+    }
+}
+
+// `spare LINK`
+fn ask_spare(book: Book, link: u64) {
+    let ledger = book.ledger;
+    let records = book.records;
+    let asked = spare_on(ledger, records, narrow(link));
+    let verdict = asked.verdict;
+    match verdict {
+        Verdict::Refused(why) => refused(why),
+        Verdict::Accepted => {
+            labelled(b"spare ", link);
+            labelled(b" ", asked.rate.0 as u64);
+            end_line();
+        }
+    }
+}
+
+// `admit NUMBER SHEET`
+fn admit_sheet(book: Book, lines: u64, from: usize, line: &[u8]) -> Book {
+    match decimal_at(line, from) {
         Decimal::NoDigit => error(lines, b"not a number"),
         Decimal::TooLarge => error(lines, b"number too large"),
         Decimal::Number { value, next } => {
-            if next < command.len() {
-                if command[next] == SPACE {
-                    return admit_hexadecimal(book, lines, value, command, next + 1);
+            if next < line.len() {
+                if line[next] == SPACE {
+                    let found = Found {
+                        index: ADMIT,
+                        behind: next + 1,
+                    };
+                    return answer_sheet(book, lines, found, value, line);
                 }
             }
             error(lines, b"not a number");
@@ -173,129 +260,56 @@ fn admit_sheet(book: Book, lines: u64, command: &[u8]) -> Book {
     book
 }
 
-fn admit_hexadecimal(book: Book, lines: u64, path: u64, command: &[u8], from: usize) -> Book {
+// The sheet of a command is in hexadecimal.
+fn answer_sheet(book: Book, lines: u64, found: Found, path: u64, line: &[u8]) -> Book {
     let mut bytes = [0u8; 512];
-    match hexadecimal_from(command, from, &mut bytes) {
+    match hexadecimal_from(line, found.behind, &mut bytes) {
         Hexadecimal::NotHexadecimal => error(lines, b"not hexadecimal"),
         Hexadecimal::TooLong => error(lines, b"sheet too long"),
-        Hexadecimal::Length(n) => return admit_bytes(book, path, &bytes, n),
+        Hexadecimal::Length(n) => return answer_bytes(book, found.index, path, &bytes, n),
     }
     book
 }
 
-fn admit_bytes(book: Book, path: u64, bytes: &[u8], n: usize) -> Book
+// `figures SHEET`: the lines of the listing. `read SHEET`: the sheet as it is written back.
+fn answer_bytes(book: Book, command: usize, path: u64, bytes: &[u8], n: usize) -> Book
     requires { ⌜ n ≤ length (now bytes) ⌝ }
 {
+    let sheet = &bytes[0..n];
+    match command {
+        ADMIT => return admit_bytes(book, path, sheet),
+        FIGURES => list(sheet),
+        _ => write_back(sheet),
+    }
+    book
+}
+
+fn admit_bytes(book: Book, path: u64, sheet: &[u8]) -> Book {
     let before = book.ledger;
     let lent = book.records;
-    let done = admit_path(before, lent, narrow(path), &bytes[0..n]);
+    let done = admit_path(before, lent, narrow(path), sheet);
     let admission = done.admission;
+    say_admitted(path, admission);
+    let ledger = admission.ledger;
+    let records = done.records;
+    with_ledger(book, ledger, records, true)
+}
+
+fn say_admitted(path: u64, admission: Admission) {
     let verdict = admission.verdict;
     match verdict {
         Verdict::Refused(why) => refused(why),
         Verdict::Accepted => {
-            text(b"admitted ");
-            number(path);
-            text(b" rate ");
-            number(admission.rate.0 as u64);
-            text(b" delay ");
-            number(admission.delay.0 as u64);
-            text(b"\n");
-        }
-    }
-    let ledger = admission.ledger;
-    let records = done.records;
-    let capacities = book.capacities;
-    Book {
-        ledger,
-        records,
-        capacities,
-        begun: true,
-    }
-}
-
-// `release NUMBER`
-fn release_number(book: Book, lines: u64, command: &[u8]) -> Book {
-    let numbers = numbers_of(lines, command, 8, 1);
-    if !numbers.given {
-        return book;
-    }
-    let before = book.ledger;
-    let lent = book.records;
-    let done = release_path(before, lent, narrow(numbers.first));
-    let released = done.released;
-    let verdict = released.verdict;
-    match verdict {
-        Verdict::Refused(why) => refused(why),
-        Verdict::Accepted => {
-            text(b"released ");
-            number(numbers.first);
-            text(b"\n");
-        }
-    }
-    let ledger = released.ledger;
-    let records = done.records;
-    let capacities = book.capacities;
-    Book {
-        ledger,
-        records,
-        capacities,
-        begun: book.begun,
-    }
-}
-
-// `spare LINK`
-fn ask_spare(book: Book, lines: u64, command: &[u8]) {
-    let numbers = numbers_of(lines, command, 6, 1);
-    if !numbers.given {
-        return;
-    }
-    let ledger = book.ledger;
-    let records = book.records;
-    let asked = spare_on(ledger, records, narrow(numbers.first));
-    let verdict = asked.verdict;
-    match verdict {
-        Verdict::Refused(why) => refused(why),
-        Verdict::Accepted => {
-            text(b"spare ");
-            number(numbers.first);
-            text(b" ");
-            number(asked.rate.0 as u64);
-            text(b"\n");
+            labelled(b"admitted ", path);
+            labelled(b" rate ", admission.rate.0 as u64);
+            labelled(b" delay ", admission.delay.0 as u64);
+            end_line();
         }
     }
 }
 
-// `figures SHEET`: the lines of the listing.
-fn list_figures(lines: u64, command: &[u8]) {
-    let mut bytes = [0u8; 512];
-    match hexadecimal_from(command, 8, &mut bytes) {
-        Hexadecimal::NotHexadecimal => error(lines, b"not hexadecimal"),
-        Hexadecimal::TooLong => error(lines, b"sheet too long"),
-        Hexadecimal::Length(n) => list_bytes(&bytes, n),
-    }
-}
-
-fn list_bytes(bytes: &[u8], n: usize)
-    requires { ⌜ n ≤ length (now bytes) ⌝ }
-{
-    list(&bytes[0..n]);
-}
-
-// `read SHEET`: the sheet as it is written back.
-fn read_back(lines: u64, command: &[u8]) {
-    let mut bytes = [0u8; 512];
-    match hexadecimal_from(command, 5, &mut bytes) {
-        Hexadecimal::NotHexadecimal => error(lines, b"not hexadecimal"),
-        Hexadecimal::TooLong => error(lines, b"sheet too long"),
-        Hexadecimal::Length(n) => write_back(&bytes, n),
-    }
-}
-
-fn write_back(bytes: &[u8], n: usize)
-    requires { ⌜ n ≤ length (now bytes) ⌝ }
-{
-    let answer = read(&bytes[0..n]);
+fn write_back(sheet: &[u8]) {
+    let answer = read(sheet);
     let verdict = answer.verdict;
     match verdict {
         Verdict::Refused(why) => refused(why),
@@ -312,7 +326,7 @@ fn write_path(path: PathValue) {
             if n <= 256 {
                 hexadecimal(&sheet[0..n]);
             }
-            text(b"\n");
+            end_line();
         }
     }
 }
@@ -327,25 +341,22 @@ fn list_paths(book: Book) {
         list_record(entry);
         j += 1;
     }
-    text(b"paths ");
-    number(count as u64);
-    text(b"\n");
+    labelled(b"paths ", count as u64);
+    end_line();
 }
 
 fn list_record(entry: Record) {
     number(entry.number.0 as u64);
-    text(b" rate ");
-    number(entry.rate.0 as u64);
+    labelled(b" rate ", entry.rate.0 as u64);
     text(b" links");
     let mut bits = entry.links;
     let mut link = 0;
     while link < 16 {
         if bits % 2 == 1 {
-            text(b" ");
-            number(link);
+            labelled(b" ", link);
         }
         bits /= 2;
         link += 1;
     }
-    text(b"\n");
+    end_line();
 }

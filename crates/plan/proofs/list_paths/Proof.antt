@@ -5,10 +5,10 @@ use Rattle.plan.proofs.list_paths.Statement.{statement}
 use Rattle.plan.proofs.list_paths.Tie as tie
 
 abbrev Inv-loop : tie.InvT-loop
-Inv-loop records count j₀ t6 t7 j = j ≤ 64
+Inv-loop records count j₀ t6 j = j ≤ 64
 
 abbrev μ-loop : tie.MeasureT-loop
-μ-loop records count j₀ t6 t7 j = 64 - j
+μ-loop records count j₀ t6 j = 64 - j
 
 loop-holds : tie.Need-loop-holds Inv-loop μ-loop
 loop-holds c = search needs
@@ -31,20 +31,14 @@ loop-less c = search needs
 loop-again : tie.Need-loop-again Inv-loop μ-loop
 loop-again c = search needs
 
-slice-aggregate-text : tie.Need-slice-aggregate-text Inv-loop μ-loop
-slice-aggregate-text c = search needs
+slice-aggregate-labelled : tie.Need-slice-aggregate-labelled Inv-loop μ-loop
+slice-aggregate-labelled c = search needs
 
-text-requires : tie.Need-text-requires Inv-loop μ-loop
-text-requires c κs = search needs
+labelled-requires : tie.Need-labelled-requires Inv-loop μ-loop
+labelled-requires c κs = search needs
 
-number-requires : tie.Need-number-requires Inv-loop μ-loop
-number-requires c κs = search needs
-
-slice-aggregate-text-2 : tie.Need-slice-aggregate-text-2 Inv-loop μ-loop
-slice-aggregate-text-2 c = search needs
-
-text-requires-2 : tie.Need-text-requires-2 Inv-loop μ-loop
-text-requires-2 c κs = search needs
+end-line-requires : tie.Need-end-line-requires Inv-loop μ-loop
+end-line-requires c κs = search needs
 
 returns : tie.Need-returns Inv-loop μ-loop
 returns c = search needs
@@ -62,9 +56,7 @@ list-paths-spec =
     add-j
     loop-less
     loop-again
-    slice-aggregate-text
-    text-requires
-    number-requires
-    slice-aggregate-text-2
-    text-requires-2
+    slice-aggregate-labelled
+    labelled-requires
+    end-line-requires
     returns)

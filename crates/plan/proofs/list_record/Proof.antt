@@ -5,10 +5,10 @@ use Rattle.plan.proofs.list_record.Statement.{statement}
 use Rattle.plan.proofs.list_record.Tie as tie
 
 abbrev Inv-loop : tie.InvT-loop
-Inv-loop bits₀ link₀ t6 t7 bits link = link ≤ 16
+Inv-loop bits₀ link₀ t6 bits link = link ≤ 16
 
 abbrev μ-loop : tie.MeasureT-loop
-μ-loop bits₀ link₀ t6 t7 bits link = 16 - link
+μ-loop bits₀ link₀ t6 bits link = 16 - link
 
 cast-number : tie.Need-cast-number Inv-loop μ-loop
 cast-number c = search needs
@@ -16,35 +16,29 @@ cast-number c = search needs
 number-requires : tie.Need-number-requires Inv-loop μ-loop
 number-requires c κs = search needs
 
+slice-aggregate-labelled : tie.Need-slice-aggregate-labelled Inv-loop μ-loop
+slice-aggregate-labelled c = search needs
+
+cast-labelled : tie.Need-cast-labelled Inv-loop μ-loop
+cast-labelled c = search needs
+
+labelled-requires : tie.Need-labelled-requires Inv-loop μ-loop
+labelled-requires c κs = search needs
+
 slice-aggregate-text : tie.Need-slice-aggregate-text Inv-loop μ-loop
 slice-aggregate-text c = search needs
 
 text-requires : tie.Need-text-requires Inv-loop μ-loop
 text-requires c κs = search needs
 
-cast-number-2 : tie.Need-cast-number-2 Inv-loop μ-loop
-cast-number-2 c = search needs
-
-number-requires-2 : tie.Need-number-requires-2 Inv-loop μ-loop
-number-requires-2 c κs = search needs
-
-slice-aggregate-text-2 : tie.Need-slice-aggregate-text-2 Inv-loop μ-loop
-slice-aggregate-text-2 c = search needs
-
-text-requires-2 : tie.Need-text-requires-2 Inv-loop μ-loop
-text-requires-2 c κs = search needs
-
 loop-holds : tie.Need-loop-holds Inv-loop μ-loop
 loop-holds c = search needs
 
-slice-aggregate-text-3 : tie.Need-slice-aggregate-text-3 Inv-loop μ-loop
-slice-aggregate-text-3 c = search needs
+slice-aggregate-labelled-2 : tie.Need-slice-aggregate-labelled-2 Inv-loop μ-loop
+slice-aggregate-labelled-2 c = search needs
 
-text-requires-3 : tie.Need-text-requires-3 Inv-loop μ-loop
-text-requires-3 c κs = search needs
-
-number-requires-3 : tie.Need-number-requires-3 Inv-loop μ-loop
-number-requires-3 c κs = search needs
+labelled-requires-2 : tie.Need-labelled-requires-2 Inv-loop μ-loop
+labelled-requires-2 c κs = search needs
 
 add-link : tie.Need-add-link Inv-loop μ-loop
 add-link c = search needs
@@ -55,11 +49,8 @@ loop-less c = search needs
 loop-again : tie.Need-loop-again Inv-loop μ-loop
 loop-again c = search needs
 
-slice-aggregate-text-4 : tie.Need-slice-aggregate-text-4 Inv-loop μ-loop
-slice-aggregate-text-4 c = search needs
-
-text-requires-4 : tie.Need-text-requires-4 Inv-loop μ-loop
-text-requires-4 c κs = search needs
+end-line-requires : tie.Need-end-line-requires Inv-loop μ-loop
+end-line-requires c κs = search needs
 
 returns : tie.Need-returns Inv-loop μ-loop
 returns c = search needs
@@ -72,19 +63,16 @@ list-record-spec =
     μ-loop
     cast-number
     number-requires
+    slice-aggregate-labelled
+    cast-labelled
+    labelled-requires
     slice-aggregate-text
     text-requires
-    cast-number-2
-    number-requires-2
-    slice-aggregate-text-2
-    text-requires-2
     loop-holds
-    slice-aggregate-text-3
-    text-requires-3
-    number-requires-3
+    slice-aggregate-labelled-2
+    labelled-requires-2
     add-link
     loop-less
     loop-again
-    slice-aggregate-text-4
-    text-requires-4
+    end-line-requires
     returns)

@@ -3,8 +3,9 @@ use mathlib.Core.Path.{sym, _∙_}
 use native.Mathlib.Omega.{arith}
 use Rattle.text.proofs.Answers.{hexadecimal-within}
 use borrow.Author.Needs.{needs}
-use Rattle.plan.proofs.admit_hexadecimal.Statement.{statement}
-use Rattle.plan.proofs.admit_hexadecimal.Tie as tie
+use borrow.Author.Needs.{needs}
+use Rattle.plan.proofs.answer_sheet.Statement.{statement}
+use Rattle.plan.proofs.answer_sheet.Tie as tie
 
 slice-aggregate-hexadecimal-from : tie.Need-slice-aggregate-hexadecimal-from
 slice-aggregate-hexadecimal-from c = search needs
@@ -33,11 +34,11 @@ error-requires-2 c κs = search needs
 enum-known-n : tie.Need-enum-known-n
 enum-known-n c = search needs
 
-slice-aggregate-admit-bytes : tie.Need-slice-aggregate-admit-bytes
-slice-aggregate-admit-bytes c = search needs
+slice-aggregate-answer-bytes : tie.Need-slice-aggregate-answer-bytes
+slice-aggregate-answer-bytes c = search needs
 
-admit-bytes-requires : tie.Need-admit-bytes-requires
-admit-bytes-requires c κs = omega (arith, hexadecimal-within _ _ _ _ (sym (c .before .before .before .before .before .hexadecimal-from .ensures .0) ∙ c .before .before .n .given .1))
+answer-bytes-requires : tie.Need-answer-bytes-requires
+answer-bytes-requires c κs = omega (arith, hexadecimal-within _ _ _ _ (sym (c .before .before .before .before .before .hexadecimal-from .ensures .0) ∙ c .before .before .n .given .1))
 
 returns : tie.Need-returns
 returns c = search needs
@@ -48,8 +49,8 @@ returns-2 c = search needs
 returns-3 : tie.Need-returns-3
 returns-3 c = search needs
 
-pub admit-hexadecimal-spec : {M : Type 1} → statement M
-admit-hexadecimal-spec =
+pub answer-sheet-spec : {M : Type 1} → statement M
+answer-sheet-spec =
     tie.close
     (tie.spec
     slice-aggregate-hexadecimal-from
@@ -61,8 +62,8 @@ admit-hexadecimal-spec =
     slice-aggregate-error-2
     error-requires-2
     enum-known-n
-    slice-aggregate-admit-bytes
-    admit-bytes-requires
+    slice-aggregate-answer-bytes
+    answer-bytes-requires
     returns
     returns-2
     returns-3)
