@@ -3,8 +3,9 @@
 use console::input::Input;
 use console::input::advance;
 use console::input::begin;
+use console::print::end_line;
 use console::print::error;
-use console::print::number;
+use console::print::labelled;
 use console::print::refused;
 use console::print::text;
 use quantity::Units;
@@ -45,14 +46,14 @@ fn main() {
     while turns > 0 && replay.goes_on && !input.ended {
         input = advance(input, &mut block, &mut line);
         if input.whole {
-            replay = end_line(replay, input, &line, &mut words);
+            replay = answer_input(replay, input, &line, &mut words);
         }
         turns -= 1;
     }
 }
 
 // A line is whole, and is answered.
-fn end_line(replay: Replay, input: Input, line: &[u8; 1023], words: &mut [u32; 2048]) -> Replay
+fn answer_input(replay: Replay, input: Input, line: &[u8; 1023], words: &mut [u32; 2048]) -> Replay
     requires { ⌜ input .length ≤ 1023 ⌝ }
 {
     let length = input.length;
@@ -146,10 +147,8 @@ fn run_numbers(replay: Replay, numbers: &[u64], n: usize, words: &mut [u32; 2048
 
 // The slot's number, the output, and what each operator holds then.
 fn sent(slot: u32, output: Units, after: Run, words: &[u32; 2048]) {
-    text(b"slot ");
-    number(slot as u64);
-    text(b" output ");
-    number(output.0);
+    labelled(b"slot ", slot as u64);
+    labelled(b" output ", output.0);
     text(b" held");
     let watched = held(after, words);
     let units = watched.held;
@@ -157,9 +156,8 @@ fn sent(slot: u32, output: Units, after: Run, words: &[u32; 2048]) {
     let mut k = 0;
     while k < 16 && k < count {
         let here = units[k];
-        text(b" ");
-        number(here.0);
+        labelled(b" ", here.0);
         k += 1;
     }
-    text(b"\n");
+    end_line();
 }

@@ -22,8 +22,8 @@ loop-holds c = search needs
 advance-requires : tie.Need-advance-requires Inv-loop μ-loop
 advance-requires c κs = search needs
 
-end-line-requires : tie.Need-end-line-requires Inv-loop μ-loop
-end-line-requires c κs = search needs
+answer-input-requires : tie.Need-answer-input-requires Inv-loop μ-loop
+answer-input-requires c κs = search needs
 
 sub-turns : tie.Need-sub-turns Inv-loop μ-loop
 sub-turns c = search needs
@@ -53,7 +53,7 @@ main-spec =
     no-run-requires
     loop-holds
     advance-requires
-    end-line-requires
+    answer-input-requires
     sub-turns
     loop-less
     loop-again

@@ -5,34 +5,28 @@ use Rattle.replay.proofs.sent.Statement.{statement}
 use Rattle.replay.proofs.sent.Tie as tie
 
 abbrev Inv-loop : tie.InvT-loop
-Inv-loop slot words units count k₀ t13 t14 k = k ≤ 16
+Inv-loop slot words units count k₀ t13 k = k ≤ 16
 
 abbrev μ-loop : tie.MeasureT-loop
-μ-loop slot words units count k₀ t13 t14 k = 16 - k
+μ-loop slot words units count k₀ t13 k = 16 - k
+
+slice-aggregate-labelled : tie.Need-slice-aggregate-labelled Inv-loop μ-loop
+slice-aggregate-labelled c = search needs
+
+labelled-requires : tie.Need-labelled-requires Inv-loop μ-loop
+labelled-requires c κs = search needs
+
+slice-aggregate-labelled-2 : tie.Need-slice-aggregate-labelled-2 Inv-loop μ-loop
+slice-aggregate-labelled-2 c = search needs
+
+labelled-requires-2 : tie.Need-labelled-requires-2 Inv-loop μ-loop
+labelled-requires-2 c κs = search needs
 
 slice-aggregate-text : tie.Need-slice-aggregate-text Inv-loop μ-loop
 slice-aggregate-text c = search needs
 
 text-requires : tie.Need-text-requires Inv-loop μ-loop
 text-requires c κs = search needs
-
-number-requires : tie.Need-number-requires Inv-loop μ-loop
-number-requires c κs = search needs
-
-slice-aggregate-text-2 : tie.Need-slice-aggregate-text-2 Inv-loop μ-loop
-slice-aggregate-text-2 c = search needs
-
-text-requires-2 : tie.Need-text-requires-2 Inv-loop μ-loop
-text-requires-2 c κs = search needs
-
-number-requires-2 : tie.Need-number-requires-2 Inv-loop μ-loop
-number-requires-2 c κs = search needs
-
-slice-aggregate-text-3 : tie.Need-slice-aggregate-text-3 Inv-loop μ-loop
-slice-aggregate-text-3 c = search needs
-
-text-requires-3 : tie.Need-text-requires-3 Inv-loop μ-loop
-text-requires-3 c κs = search needs
 
 held-requires : tie.Need-held-requires Inv-loop μ-loop
 held-requires c κs = search needs
@@ -46,14 +40,11 @@ mul-here c = search needs
 array-copy-out-here : tie.Need-array-copy-out-here Inv-loop μ-loop
 array-copy-out-here c = search needs
 
-slice-aggregate-text-4 : tie.Need-slice-aggregate-text-4 Inv-loop μ-loop
-slice-aggregate-text-4 c = search needs
+slice-aggregate-labelled-3 : tie.Need-slice-aggregate-labelled-3 Inv-loop μ-loop
+slice-aggregate-labelled-3 c = search needs
 
-text-requires-4 : tie.Need-text-requires-4 Inv-loop μ-loop
-text-requires-4 c κs = search needs
-
-number-requires-3 : tie.Need-number-requires-3 Inv-loop μ-loop
-number-requires-3 c κs = search needs
+labelled-requires-3 : tie.Need-labelled-requires-3 Inv-loop μ-loop
+labelled-requires-3 c κs = search needs
 
 add-k : tie.Need-add-k Inv-loop μ-loop
 add-k c = search needs
@@ -64,11 +55,8 @@ loop-less c = search needs
 loop-again : tie.Need-loop-again Inv-loop μ-loop
 loop-again c = search needs
 
-slice-aggregate-text-5 : tie.Need-slice-aggregate-text-5 Inv-loop μ-loop
-slice-aggregate-text-5 c = search needs
-
-text-requires-5 : tie.Need-text-requires-5 Inv-loop μ-loop
-text-requires-5 c κs = search needs
+end-line-requires : tie.Need-end-line-requires Inv-loop μ-loop
+end-line-requires c κs = search needs
 
 returns : tie.Need-returns Inv-loop μ-loop
 returns c = search needs
@@ -79,24 +67,20 @@ sent-spec =
     (tie.spec
     Inv-loop
     μ-loop
+    slice-aggregate-labelled
+    labelled-requires
+    slice-aggregate-labelled-2
+    labelled-requires-2
     slice-aggregate-text
     text-requires
-    number-requires
-    slice-aggregate-text-2
-    text-requires-2
-    number-requires-2
-    slice-aggregate-text-3
-    text-requires-3
     held-requires
     loop-holds
     mul-here
     array-copy-out-here
-    slice-aggregate-text-4
-    text-requires-4
-    number-requires-3
+    slice-aggregate-labelled-3
+    labelled-requires-3
     add-k
     loop-less
     loop-again
-    slice-aggregate-text-5
-    text-requires-5
+    end-line-requires
     returns)
