@@ -3,7 +3,7 @@ use mathlib.Core.Path.{_≡_}
 use mathlib.Core.Bool.{true, false}
 use mathlib.Core.List.{List, [], _∷_, _++_}
 use mathlib.Core.Logic.{_↔_}
-use Prim.Native.Nat.{ℕ, _≤_}
+use Prim.Native.Nat.{ℕ, _≤_, _<_}
 use lib.ListN.{length}
 use Rattle.quantity.specs.Choice.{pick}
 use Rattle.quantity.specs.Limits.{largestAmount, lastSlot}
@@ -11,8 +11,10 @@ use Rattle.quantity.specs.declared.refusal.Refusal.the-variants.{InputBreaksDec
 use Rattle.flow.specs.Declarations.{declarationInRange, classOf}
 use Rattle.flow.specs.Flows.{flowOf}
 use Rattle.flow.specs.Classes.{Keeps}
-use Rattle.meter.specs.Meter.{inputBreaks, meterNext, meterOf}
+use Rattle.meter.specs.Meter.{meterWordCount, inputBreaks, meterNext, meterOf}
 use Rattle.meter.specs.Metering.{newMeter, offeredAll}
+use Rattle.meter.specs.Words.{wordTaken}
+use Rattle.words.specs.Stored.{wordAt}
 use Rattle.flow.specs.declared.Declaration.{Declaration}
 use Rattle.meter.specs.declared.Metered.{Metered}
 use Rattle.meter.proofs.Metering as Metering
@@ -34,3 +36,12 @@ module _ (declared : Declaration) (ranged : declarationInRange declared ≡ true
   pub meter-keeps : let fed = offeredAll (newMeter declared) before in
       (inputBreaks (fed .state) (fed .words) input ≡ false) ↔ Keeps (classOf declared) (flowOf (fed .taken ++ (input ∷ [])))
   meter-keeps = Metering.meter-keeps declared ranged before input small left
+
+-- The meter's words (section 6): of all lists of inputs offered to a new meter, under any declaration, each word is what is said of the inputs taken.
+
+module _ (declared : Declaration) (before : List ℕ) where
+  pub meter-sized : length (offeredAll (newMeter declared) before .words) ≡ meterWordCount
+  meter-sized = Metering.meter-sized declared before
+
+  pub meter-words : let fed = offeredAll (newMeter declared) before in (j : ℕ) → j < meterWordCount → wordAt (fed .words) j ≡ wordTaken declared (fed .taken) j
+  meter-words = Metering.meter-words declared before

@@ -9,10 +9,10 @@ use native.Mathlib.Nat.{add-zero, add-suc, add-mul, zero-mod, mod-lt, mod-eq-of-
 use native.Mathlib.Numerals.{add-one}
 use native.Mathlib.Decide.{ℕ-discrete, decLe}
 use native.Mathlib.Omega.{arith}
-use lib.ListN.{length, length-append, length-replicate, getD-replicate, List·getD-append, List·getD-eq-default}
+use lib.ListN.{length, replicate, length-append, length-replicate, getD-replicate, List·getD-append, List·getD-eq-default}
 use lib.Seq.{getD-at}
 use lib.Dec.{leb, ltb, eqb}
-use borrow.Author.Tests.{ltb-false, eq-eqb, ne-eqb, le-ltb, le-leb}
+use borrow.Author.Tests.{not-false, ltb-false, eq-eqb, ne-eqb, le-ltb, le-leb}
 use Rattle.quantity.specs.Choice.{pick, either}
 use Rattle.quantity.specs.Limits.{largestAmount, lastSlot}
 use Rattle.quantity.specs.Sums.{total, listOf}
@@ -24,6 +24,7 @@ use Rattle.flow.specs.Classes.{KeepsKind, Keeps}
 use Rattle.flow.specs.Keeping.{startOf}
 use Rattle.meter.specs.Meter.{meterWordCount, usesBlock, meterWordsUsed, meterUnusable, countsWith, countedBefore, inputBreaks, meterNext, meterWordNext, meterOf, meterWordsAfter}
 use Rattle.meter.specs.Metering.{Fed, newMeter, offered, offeredAll}
+use Rattle.meter.specs.Words.{latestInput, wordTaken}
 use Rattle.words.specs.Stored.{wordAt, storedFits, wordFits}
 use Rattle.flow.specs.declared.Kind.{Kind}
 use Rattle.flow.specs.declared.Declaration.{Declaration}
@@ -42,11 +43,6 @@ start-le Kind.Uniform m t large = omega arith
 unfoldable pub blockUnits : ℕ → Flow → ℕ → ℕ
 blockUnits m r zero = 0
 blockUnits m r (suc t) = pick (eqb (t % m) 0) 0 (blockUnits m r t) + r t
-
--- the input of the latest slot whose number leaves j
-unfoldable pub latestInput : ℕ → Flow → ℕ → ℕ → ℕ
-latestInput m r zero j = 0
-latestInput m r (suc t) j = pick (eqb j (t % m)) (r t) (latestInput m r t j)
 
 -- neighbouring slots, fewer than m, leave different remainders
 remainders-differ : (m i d : ℕ) → 1 ≤ d → d < m → i % m ≡ (i + d) % m → ⊥
@@ -120,6 +116,10 @@ module _ (m : ℕ) (r : Flow) where
     unfolding blockUnits
     block-units-le Q keeps zero = omega arith
     block-units-le Q keeps (suc t) = omega (arith, block-counts t, keeps-last m Q t r large Kind.Smooth keeps, total-suc r t)
+
+    -- no slot's number leaves m or more
+    latest-beyond : (t j : ℕ) → m ≤ j → latestInput m r t j ≡ 0
+    latest-beyond t j past = latest-none t j (λ i less. omega (arith, mod-lt i large))
 
     -- the word that slot t's input replaces is slot t − m's, 0 where there is none
     latest-replaced : (t i : ℕ) → m + i ≡ t → latestInput m r t (t % m) ≡ r i
@@ -234,7 +234,17 @@ module _ (m Q t : ℕ) (r : Flow) (large : 1 ≤ m) (small : Q ≤ largestAmount
     where
       by-test : (test : Bool) → ltb j m ≡ test → pick test (leb (latestInput m r t j) largestAmount) (eqb (latestInput m r t j) 0) ≡ true
       by-test true e = le-leb (latestInput m r t j) largestAmount (omega (arith, latest-le m r Q (λ i. omega (arith, keeps i 1 large, total-next r i)) t j))
-      by-test false e = eq-eqb (latestInput m r t j) 0 (latest-none m r t j (λ i less. omega (arith, ltb-false j m e, mod-lt i large)))
+      by-test false e = eq-eqb (latestInput m r t j) 0 (latest-beyond m r large t j (ltb-false j m e))
+
+-- the stored word is the definition's
+stored-taken : (m t : ℕ) (r : Flow) → 1 ≤ m → (kind : Kind) (j : ℕ) → storedWord kind m r t j ≡ pick (ltb j (meterWordsUsed kind m)) (latestInput m r t j) 0
+unfolding usesBlock meterWordsUsed
+stored-taken m t r large Kind.Smooth j = rw (le-ltb j 0 (omega arith))
+stored-taken m t r large Kind.Uniform j = by-test (ltb j m) refl
+  where
+    by-test : (test : Bool) → ltb j m ≡ test → latestInput m r t j ≡ pick test (latestInput m r t j) 0
+    by-test true e = refl
+    by-test false e = latest-beyond m r large t j (ltb-false j m e)
 
 abbrev kindOf : Fed → Kind
 kindOf fed = fed .state .declaration .kind
@@ -284,6 +294,12 @@ module _ (fed : Fed) (sound : Sound fed) where
   counted =
       let ranged = declaration-ranged (fed .state .declaration) (sound .ranged) in
       rw (sound .block) (counted-total (intervalOf fed) (slotOf fed) (flowOf (fed .taken)) (fed .words) (kindOf fed) (ranged .large) (ranged .fits) (sound .each))
+
+  pub sound-word : (j : ℕ) → j < meterWordCount → wordAt (fed .words) j ≡ wordTaken (fed .state .declaration) (fed .taken) j
+  unfolding wordTaken
+  sound-word j less =
+      let ranged = declaration-ranged (fed .state .declaration) (sound .ranged) in
+      rw (sound .slots) (sound .each j less ∙ stored-taken (intervalOf fed) (slotOf fed) (flowOf (fed .taken)) (ranged .large) (kindOf fed) j)
 
   pub sound-usable : length (fed .taken) ≤ lastSlot → meterUnusable (fed .state) (fed .words) ≡ false
   unfolding meterUnusable wordFits
@@ -355,8 +371,9 @@ sound-new declared ranged =
       keeps = keeps-none (declared .kind) (declared .interval .0) (declared .quota .0);
     }
 
--- What holds of a meter and of it with each input that it takes holds of it with any inputs.
-module _ (P : Fed → Type 0) (next : (fed : Fed) (input : ℕ) → inputBreaks (fed .state) (fed .words) input ≡ false → P fed → P (afterTaken fed input)) where
+-- What holds of a meter and of it with each input that it takes, which it does only with a declaration in range, holds of it with any inputs.
+module _ (P : Fed → Type 0)
+    (next : (fed : Fed) (input : ℕ) → declarationInRange (fed .state .declaration) ≡ true → inputBreaks (fed .state) (fed .words) input ≡ false → P fed → P (afterTaken fed input)) where
   offered-holds : (fed : Fed) (input : ℕ) → P fed → P (offered fed input)
   unfolding offered meterOf meterWordsAfter
   offered-holds fed input holds =
@@ -368,7 +385,7 @@ module _ (P : Fed → Type 0) (next : (fed : Fed) (input : ℕ) → inputBreaks 
       by-tests true outside breaks e f g = simp e holds
       by-tests false true breaks e f g = simp (e, f) holds
       by-tests false false true e f g = simp (e, f, g) holds
-      by-tests false false false e f g = simp (e, f, g) (next fed input g holds)
+      by-tests false false false e f g = simp (e, f, g) (next fed input (not-false _ f) g holds)
 
   offered-all-holds : (fed : Fed) (inputs : List ℕ) → P fed → P (offeredAll fed inputs)
   unfolding offeredAll
@@ -379,16 +396,62 @@ pub meter-slot : (declared : Declaration) (before : List ℕ) → offeredAll (ne
 unfolding meterNext
 meter-slot declared before =
     offered-all-holds (λ fed. fed .state .slot .0 ≡ length (fed .taken))
-    (λ fed input within e. omega (arith, length-append (fed .taken) (input ∷ [])))
+    (λ fed input ranged within e. omega (arith, length-append (fed .taken) (input ∷ [])))
     (newMeter declared) before refl
 
 module _ (declared : Declaration) (before : List ℕ) where
   declaration-stays : offeredAll (newMeter declared) before .state .declaration ≡ declared
   unfolding meterNext
-  declaration-stays = offered-all-holds (λ fed. fed .state .declaration ≡ declared) (λ fed input within e. e) (newMeter declared) before refl
+  declaration-stays = offered-all-holds (λ fed. fed .state .declaration ≡ declared) (λ fed input ranged within e. e) (newMeter declared) before refl
 
   sound-fed : declarationInRange declared ≡ true → Sound (offeredAll (newMeter declared) before)
-  sound-fed ranged = offered-all-holds Sound (λ fed input within sound. sound-next fed sound input within) (newMeter declared) before (sound-new declared ranged)
+  sound-fed ranged = offered-all-holds Sound (λ fed input ranged within sound. sound-next fed sound input within) (newMeter declared) before (sound-new declared ranged)
+
+-- a meter that took nothing has 0 in every word
+record Untouched (declared : Declaration) (fed : Fed) : Type 0 where
+  declaration : fed .state .declaration ≡ declared
+  words : fed .words ≡ replicate meterWordCount 0
+  taken : fed .taken ≡ []
+
+none-taken : (declared : Declaration) (j : ℕ) → wordTaken declared [] j ≡ 0
+unfolding wordTaken latestInput
+none-taken declared j = by-test (ltb j (meterWordsUsed (declared .kind) (declared .interval .0)))
+  where
+    by-test : (test : Bool) → pick {A = ℕ} test 0 0 ≡ 0
+    by-test true = refl
+    by-test false = refl
+
+module _ (declared : Declaration) (fed : Fed) (untouched : Untouched declared fed) where
+  untouched-sized : length (fed .words) ≡ meterWordCount
+  untouched-sized = rw (untouched .words) (length-replicate {A = ℕ} meterWordCount 0)
+
+  untouched-word : (j : ℕ) → j < meterWordCount → wordAt (fed .words) j ≡ wordTaken declared (fed .taken) j
+  untouched-word j less = rw (untouched .words, untouched .taken) (getD-replicate {A = ℕ} meterWordCount j 0 0 less ∙ sym (none-taken declared j))
+
+module _ (declared : Declaration) (before : List ℕ) where
+  -- a declaration out of range has nothing taken
+  untouched-fed : declarationInRange declared ≡ false → Untouched declared (offeredAll (newMeter declared) before)
+  untouched-fed outside =
+      offered-all-holds (Untouched declared)
+      (λ fed input ranged within untouched. let z : _≡_ {A = ℕ} 0 1 = cc in absurd (omega arith))
+      (newMeter declared) before (record { declaration = refl; words = refl; taken = refl })
+
+  -- a meter's words are 1,024
+  pub meter-sized : length (offeredAll (newMeter declared) before .words) ≡ meterWordCount
+  meter-sized = by-range (declarationInRange declared) refl
+    where
+      by-range : (ranged : Bool) → declarationInRange declared ≡ ranged → length (offeredAll (newMeter declared) before .words) ≡ meterWordCount
+      by-range true ranged = sound-fed declared before ranged .size
+      by-range false outside = untouched-sized declared (offeredAll (newMeter declared) before) (untouched-fed outside)
+
+  -- and each is what section 6 says of the inputs taken
+  pub meter-words : let fed = offeredAll (newMeter declared) before in (j : ℕ) → j < meterWordCount → wordAt (fed .words) j ≡ wordTaken declared (fed .taken) j
+  meter-words j less = by-range (declarationInRange declared) refl
+    where
+      by-range : (ranged : Bool) → declarationInRange declared ≡ ranged
+          → wordAt (offeredAll (newMeter declared) before .words) j ≡ wordTaken declared (offeredAll (newMeter declared) before .taken) j
+      by-range true ranged = rw (declaration-stays declared before) at (sound-word (offeredAll (newMeter declared) before) (sound-fed declared before ranged) j less)
+      by-range false outside = untouched-word declared (offeredAll (newMeter declared) before) (untouched-fed outside) j less
 
 module _ (declared : Declaration) (ranged : declarationInRange declared ≡ true) (before : List ℕ) (input : ℕ) (small : input ≤ largestAmount)
     (left : length (offeredAll (newMeter declared) before .taken) ≤ lastSlot) where

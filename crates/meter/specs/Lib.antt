@@ -1,3 +1,4 @@
 pub mod Meter
 pub mod MeterWithin
 pub mod Metering
+pub mod Words
