@@ -6,6 +6,7 @@ mod Joined
 mod UsableRun
 mod SlotAnswers
 mod Answered
+mod Words
 pub mod NeverLate
 pub mod Taking
 mod Writing

@@ -5,6 +5,7 @@ pub mod Opening
 pub mod Slots
 pub mod Watching
 pub mod Lists
+pub mod Words
 pub mod NeverLate
 pub mod Taking
 pub mod Steps
