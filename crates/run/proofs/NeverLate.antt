@@ -38,6 +38,7 @@ use Rattle.run.specs.NeverLate.{callAt, NeverLate}
 use Rattle.run.proofs.AccountCalls.{declaration-tested}
 use Rattle.run.proofs.AccountFlows.{AccountKept, account-kept}
 use Rattle.run.proofs.Joined.{Joined, joined-new}
+use Rattle.run.proofs.Words.{joined-word}
 use Rattle.run.proofs.Answered.{Passes, answer-same, joined-after}
 
 -- One more call at the end of a list.
@@ -173,6 +174,10 @@ never-late sheet words accepted calls =
       answers = answered-at sheet words accepted calls;
       declared = λ n less. declaration-tested (pathIn sheet) (accountAll (pathIn sheet) newAccount (take n calls)) (callAt calls n) (passes sheet words accepted .large);
       holds = λ n h k less. joined-at sheet words accepted calls n h .stands k less .same;
+      sized = λ n h. joined-at sheet words accepted calls n h .sized;
+      words =
+          λ n h.
+          joined-word (pathIn sheet) (running sheet words accepted calls n .run) (running sheet words accepted calls n .words) (account sheet words accepted calls n) (joined-at sheet words accepted calls n h);
       in-time = rw delay (account-within sheet words accepted calls .in-time);
       within = λ n h k less. rw (capacity-answered sheet words accepted k less) (account-within sheet words accepted (take n calls) .held-within k less);
       unusable-only = λ n less refused. unusable-tested (pathIn sheet) (accountAll (pathIn sheet) newAccount (take n calls)) (callAt calls n) (sym (answered-at sheet words accepted calls n less) ∙ refused);

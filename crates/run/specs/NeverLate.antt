@@ -10,13 +10,16 @@ use Rattle.quantity.specs.declared.refusal.Refusal.the-variants.{Unusable}
 use Rattle.flow.specs.Flows.{flowOf}
 use Rattle.flow.specs.Classes.{Keeps}
 use Rattle.flow.specs.Declarations.{classOf}
+use Rattle.words.specs.Stored.{wordAt}
 use Rattle.sheet.specs.Paths.{Path}
 use Rattle.sheet.specs.Sheets.{pathIn}
 use Rattle.figures.specs.Answers.{figuresOf, noFigure}
 use Rattle.run.specs.Calls.{Call, choicesMiscounted, amountTooLarge}
 use Rattle.run.specs.Account.{Account, newAccount, slotsUsedUp, breaksDeclaration, accountAnswer}
+use Rattle.run.specs.Runs.{runWordCount}
 use Rattle.run.specs.Slots.{slottedOf}
 use Rattle.run.specs.Watching.{runHolds}
+use Rattle.run.specs.Words.{runWord}
 use Rattle.run.specs.Lists.{Running, opened, slottedAll, accountAll}
 use Rattle.run.specs.declared.slot.Outcome.{Outcome}
 
@@ -24,7 +27,7 @@ use Rattle.run.specs.declared.slot.Outcome.{Outcome}
 abbrev pub callAt : List Call → ℕ → Call
 callAt calls n = getD calls n (record { input = 0; choices = [] })
 
-module _ (sheet words : List ℕ) (calls : List Call) where
+module _ (sheet lent : List ℕ) (calls : List Call) where
   -- the path, and the delay and the capacities that `figures` answers for the sheet
   abbrev pub path : Path
   path = pathIn sheet
@@ -37,7 +40,7 @@ module _ (sheet words : List ℕ) (calls : List Call) where
 
   -- run and words after the first n calls, and the account of these
   abbrev pub runningAfter : ℕ → Running
-  runningAfter n = slottedAll (opened sheet words) (take n calls)
+  runningAfter n = slottedAll (opened sheet lent) (take n calls)
 
   abbrev pub accountAfterCalls : ℕ → Account
   accountAfterCalls n = accountAll path newAccount (take n calls)
@@ -58,6 +61,10 @@ module _ (sheet words : List ℕ) (calls : List Call) where
         → (breaksDeclaration path (accountAfterCalls n) (callAt calls n) ≡ false) ↔ Keeps (classOf (path .declaration)) (flowOf (accountAfterCalls n .entered ++ (callAt calls n .input ∷ [])))
     -- before and after every call each operator has the account's b, h and past
     pub holds : (n : ℕ) → n ≤ length calls → (k : ℕ) → k < length (path .operators) → runHolds (runningAfter n .run) (runningAfter n .words) k ≡ accountAfterCalls n .held k
+    -- before and after every call the run has 2,048 words
+    pub sized : (n : ℕ) → n ≤ length calls → length (runningAfter n .words) ≡ runWordCount
+    -- and word j is section 6's: under a uniform declaration the input of the latest slot whose number leaves j; what a delayer holds of a slots ago; other words are 0
+    pub words : (n : ℕ) → n ≤ length calls → (j : ℕ) → j < runWordCount → wordAt (runningAfter n .words) j ≡ runWord path (accountAfterCalls n) j
     -- if the list took slot i + delay, all that entered by the end of slot i had left the last operator by the end of slot i + delay
     pub in-time : (i : ℕ) → i + delay < final .slot → total (flowOf (final .entered)) (suc i) ≤ total (flowOf (final .left)) (suc (i + delay))
     -- after every call each operator's b is at most its capacity
