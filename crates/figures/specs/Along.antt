@@ -27,7 +27,7 @@ module _ (path : Path) (r : Flow) (choices : ℕ → Flow) where
 
   -- what the figures promise
   pub record Promised : Type 0 where
-    -- every flow between operators keeps the class that the figures give it
+    -- the class before operator k is kept by the flow that it is of: the flow there, and inside a filter part the flow into the part
     pub class-kept : (k : ℕ) → k ≤ length (path .operators) → Keeps (before path k .class) (flowOfClass (operatorAt path) r choices k)
     -- no operator holds more than its capacity at any slot's end, nor a filter's h
     pub held-within : (k : ℕ) → k < length (path .operators) → (n : ℕ) → heldOn (operatorAt path k) (flowInto (operatorAt path) r choices k) (choices k) n .b ≤ capacityAt path k
