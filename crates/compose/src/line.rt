@@ -24,6 +24,7 @@ pub(crate) const SPACE: u8 = 32;
 
 // The numbers of what is said are in their ranges.
 pub enum Said {
+    Nothing,
     Hexadecimal,
     Declaration(Declaration),
     Wanted(WantedDelay),

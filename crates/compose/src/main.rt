@@ -1,4 +1,5 @@
 // A path as text, one thing a line in the order of the sheet, becomes the sheet's bytes (document 01, sections 1 and 5).
+// Behind a first line `hex` there are many, each ended by an empty line and answered by its bytes in hexadecimal or by its error.
 
 use crate::fault::Fault;
 use crate::fault::say;
@@ -32,12 +33,13 @@ const OPERATORS: u8 = 2;
 
 const NOTHING: u8 = 3;
 
-// The path so far, which of its lines comes next, whether its bytes are wanted in hexadecimal, and whether a line was wrong.
+// The path so far, which of its lines comes next, whether a line was wrong; whether there are many paths, in hexadecimal, and one was answered.
 struct Draft {
     path: PathValue,
     next: u8,
-    in_hexadecimal: bool,
     wrong: bool,
+    many: bool,
+    answered: bool,
 }
 
 // Which of a path's lines a line is, and which comes behind it.
@@ -53,21 +55,20 @@ fn main() {
     let mut draft = Draft {
         path: no_path(),
         next: FIRST,
-        in_hexadecimal: false,
         wrong: false,
+        many: false,
+        answered: false,
     };
     // A proved loop has to end, and nothing says that the input does, so the loop counts down from a number that no input uses up.
     let mut turns = u64::MAX;
-    while turns > 0 && !draft.wrong && !input.ended {
+    while turns > 0 && !input.ended && (draft.many || !draft.wrong) {
         input = advance(input, &mut block, &mut line);
         if input.whole {
             draft = take(draft, input.lines, said_in(input, &line));
         }
         turns -= 1;
     }
-    if !draft.wrong {
-        end_text(draft, input.lines);
-    }
+    end_text(draft, std::num::wrapping_add_u64(input.lines, 1));
 }
 
 // What a line says. `hex` is known as the first line alone.
@@ -78,6 +79,9 @@ fn said_in(input: Input, line: &[u8; 1023]) -> Said
     let whole = &line[..];
     if input.too_long {
         return Said::Wrong(Fault::LineTooLong);
+    }
+    if length == 0 {
+        return Said::Nothing;
     }
     if input.lines == 1 {
         return read_first(&whole[0..length]);
@@ -94,31 +98,59 @@ fn read_first(line: &[u8]) -> Said {
     read_line(line)
 }
 
-// What a line says goes to its place in the path, if it is the one that comes next.
+// Behind a wrong line the rest of its path is passed over.
 fn take(draft: Draft, lines: u64, said: Said) -> Draft {
     match said {
-        Said::Wrong(why) => fail(draft, lines, why),
+        Said::Nothing => end_path(draft, lines),
         Said::Hexadecimal => {
             let mut next = draft;
-            next.in_hexadecimal = true;
+            next.many = true;
             next
         }
-        _ => {
-            let turn = turn_of(said);
-            if turn.this == draft.next {
-                return put(draft, turn.next, said);
-            }
-            fail(draft, lines, order_fault(draft.next, turn.this))
-        }
+        _ => if draft.wrong {
+            draft
+        } else {
+            take_part(draft, lines, said)
+        },
     }
 }
 
-// The first wrong line is the last that is read, and there is no sheet.
+// What a line says goes to its place in the path, if it is the one that comes next.
+fn take_part(draft: Draft, lines: u64, said: Said) -> Draft {
+    if let Said::Wrong(why) = said {
+        return fail(draft, lines, why);
+    }
+    let turn = turn_of(said);
+    if turn.this == draft.next {
+        return put(draft, turn.next, said);
+    }
+    fail(draft, lines, order_fault(draft.next, turn.this))
+}
+
+// There is no sheet then, and without `hex` the first wrong line is the last that is read.
 fn fail(draft: Draft, lines: u64, why: Fault) -> Draft {
     say(lines, why);
     let mut next = draft;
     next.wrong = true;
     next
+}
+
+// An empty line, where there are many paths: the one so far ends, if there is any, and the next begins.
+fn end_path(draft: Draft, lines: u64) -> Draft {
+    if !draft.many {
+        return fail(draft, lines, Fault::UnknownWord);
+    }
+    let some = draft.wrong || draft.next != FIRST;
+    if some {
+        answer(draft, lines);
+    }
+    Draft {
+        path: no_path(),
+        next: FIRST,
+        wrong: false,
+        many: true,
+        answered: draft.answered || some,
+    }
 }
 
 fn turn_of(said: Said) -> Turn {
@@ -158,8 +190,9 @@ fn put(draft: Draft, next: u8, said: Said) -> Draft {
     Draft {
         path,
         next: if path.count < 16 { next } else { NOTHING },
-        in_hexadecimal: draft.in_hexadecimal,
         wrong: false,
+        many: draft.many,
+        answered: draft.answered,
     }
 }
 
@@ -199,13 +232,23 @@ fn with_form(path: PathValue, form: Form) -> PathValue {
     }
 }
 
-// Where an operator has come, or a house profile, nothing is missing.
+// The input ends, and with it the last path. A text without any path lacks a line.
 fn end_text(draft: Draft, lines: u64) {
+    if draft.next != FIRST || !draft.answered {
+        answer(draft, lines);
+    }
+}
+
+// A wrong line was answered where it stood. Where an operator has come, or a house profile, nothing is missing.
+fn answer(draft: Draft, lines: u64) {
+    if draft.wrong {
+        return;
+    }
     let path = draft.path;
     if draft.next == NOTHING || 0 < path.count {
-        write_path(path, draft.in_hexadecimal);
+        write_path(path, draft.many);
     } else {
-        say(std::num::wrapping_add_u64(lines, 1), Fault::LineMissing);
+        say(lines, Fault::LineMissing);
     }
 }
 

@@ -37,14 +37,14 @@ loop-less c = search needs
 loop-again : tie.Need-loop-again Inv-loop μ-loop
 loop-again c = search needs
 
+wrapping-add-u64-requires : tie.Need-wrapping-add-u64-requires Inv-loop μ-loop
+wrapping-add-u64-requires c κs = search needs
+
 end-text-requires : tie.Need-end-text-requires Inv-loop μ-loop
 end-text-requires c κs = search needs
 
 returns : tie.Need-returns Inv-loop μ-loop
 returns c = search needs
-
-returns-2 : tie.Need-returns-2 Inv-loop μ-loop
-returns-2 c = search needs
 
 pub main-spec : {M : Type 1} → statement M
 main-spec =
@@ -61,6 +61,6 @@ main-spec =
     sub-turns
     loop-less
     loop-again
+    wrapping-add-u64-requires
     end-text-requires
-    returns
-    returns-2)
+    returns)
