@@ -3,5 +3,6 @@
 pub mod input;
 pub mod listing;
 pub mod numbers;
+pub mod paper;
 pub mod print;
 pub mod words;

@@ -6,23 +6,11 @@ use lib.ListN.{length}
 use lib.Seq.{length-take-le}
 use Rattle.page.proofs.Promise.{page-room}
 use borrow.Author.Needs.{needs}
-use Rattle.folder.proofs.main.Statement.{statement}
-use Rattle.folder.proofs.main.Tie as tie
-
-slice-aggregate-read-full : tie.Need-slice-aggregate-read-full
-slice-aggregate-read-full c = search needs
-
-read-full-requires : tie.Need-read-full-requires
-read-full-requires c κs = search needs
-
-array-share-prefix-bytes : tie.Need-array-share-prefix-bytes
-array-share-prefix-bytes c = search needs
+use Rattle.console.proofs.paper.print_page.Statement.{statement}
+use Rattle.console.proofs.paper.print_page.Tie as tie
 
 slice-aggregate-page : tie.Need-slice-aggregate-page
 slice-aggregate-page c = search needs
-
-slice-aggregate-page-2 : tie.Need-slice-aggregate-page-2
-slice-aggregate-page-2 c = search needs
 
 page-requires : tie.Need-page-requires
 page-requires c κs = search needs
@@ -57,15 +45,11 @@ returns c = search needs
 returns-2 : tie.Need-returns-2
 returns-2 c = search needs
 
-pub main-spec : {M : Type 1} → statement M
-main-spec =
+pub print-page-spec : {M : Type 1} → statement M
+print-page-spec =
     tie.close
     (tie.spec
-    slice-aggregate-read-full
-    read-full-requires
-    array-share-prefix-bytes
     slice-aggregate-page
-    slice-aggregate-page-2
     page-requires
     enum-known-why
     refused-requires
