@@ -11,6 +11,7 @@ use console::listing::list;
 use console::numbers::Numbers;
 use console::numbers::narrow;
 use console::numbers::numbers_of;
+use console::paper::print_page;
 use console::print::end_line;
 use console::print::error;
 use console::print::hexadecimal;
@@ -52,11 +53,13 @@ const ADMIT: usize = 3;
 
 const FIGURES: usize = 4;
 
-const READ: usize = 5;
+const PAGE: usize = 5;
 
-const LIST: usize = 6;
+const READ: usize = 6;
 
-const UNKNOWN: usize = 7;
+const LIST: usize = 7;
+
+const UNKNOWN: usize = 8;
 
 // The ledger and its records, the capacities that it was opened with, and whether an admission was asked for.
 struct Book {
@@ -108,7 +111,7 @@ fn answer_line(book: Book, lines: u64, line: &[u8]) -> Book {
     match command {
         CAPACITY | RELEASE | SPARE => answer_numbers(book, lines, found, line),
         ADMIT => admit_sheet(book, lines, found.behind, line),
-        FIGURES | READ => answer_sheet(book, lines, found, 0, line),
+        FIGURES | PAGE | READ => answer_sheet(book, lines, found, 0, line),
         LIST => {
             list_paths(book);
             book
@@ -122,7 +125,7 @@ fn answer_line(book: Book, lines: u64, line: &[u8]) -> Book {
 
 // A command with numbers or a sheet goes on behind its word, one without ends with it.
 fn command_in(line: &[u8]) -> Found {
-    let found = find(b"capacity|release|spare|admit|figures|read|list", line);
+    let found = find(b"capacity|release|spare|admit|figures|page|read|list", line);
     let goes_on = found.behind <= line.len();
     if goes_on == (found.index < LIST) {
         return found;
@@ -271,7 +274,7 @@ fn answer_sheet(book: Book, lines: u64, found: Found, path: u64, line: &[u8]) ->
     book
 }
 
-// `figures SHEET`: the lines of the listing. `read SHEET`: the sheet as it is written back.
+// `figures SHEET`: the lines of the listing. `page SHEET`: the page. `read SHEET`: the sheet as it is written back.
 fn answer_bytes(book: Book, command: usize, path: u64, bytes: &[u8], n: usize) -> Book
     requires { ⌜ n ≤ length (now bytes) ⌝ }
 {
@@ -279,6 +282,7 @@ fn answer_bytes(book: Book, command: usize, path: u64, bytes: &[u8], n: usize) -
     match command {
         ADMIT => return admit_bytes(book, path, sheet),
         FIGURES => list(sheet),
+        PAGE => print_page(sheet),
         _ => write_back(sheet),
     }
     book
