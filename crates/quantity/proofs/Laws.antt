@@ -14,6 +14,11 @@ pick-true t a b e = ap (λ (x : Bool). pick x a b) e
 pub pick-false : {A : Type 0} (t : Bool) (a b : A) → t ≡ false → pick t a b ≡ b
 pick-false t a b e = ap (λ (x : Bool). pick x a b) e
 
+-- what is made of a pick is made of both; `rest` goes on to the picks inside the second
+pub pick-map : {A B : Type 0} (f : A → B) (t : Bool) (a b : A) {c : B} → f b ≡ c → f (pick t a b) ≡ pick t (f a) c
+pick-map f true a b rest = refl
+pick-map f false a b rest = rest
+
 -- a constructor that found its value in range, or out of it, answers what the definition does: for every kind of number
 module _ {A : Type 0} (range : Range) (within : ℕ → A) (outside : A) (value : ℕ) {t : Bool} (tested : t ≡ inRange range value) where
   pub checked-within : t ≡ true → within value ≡ checkedIn range within outside value

@@ -6,6 +6,7 @@ use mathlib.Core.Logic.{_⊎_, inl, inr, ⊎-elim}
 use Rattle.quantity.specs.Choice.{pick}
 use Rattle.quantity.specs.Refusals.{Case, firstOf}
 use Rattle.quantity.specs.declared.refusal.Refusal.{Refusal}
+use Rattle.quantity.proofs.Laws.{pick-map}
 
 -- no case of the list stands
 abbrev pub NoneStands : List Case → Type 0
@@ -39,15 +40,10 @@ module _ {A : Type 0} (refused : Refusal → A) (result : A) where
       by-test true e rest = absurd (never (c .refusal) (rw e at h))
       by-test false e rest = (e, rest (rw e at h))
 
-pick-map : {A B : Type 0} (f : A → B) (t : Bool) (a b : A) → f (pick t a b) ≡ pick t (f a) (f b)
-pick-map f true a b = refl
-pick-map f false a b = refl
-
 -- what is made of an answer is made of each refusal and of the result
 pub firstOf-map : {A B : Type 0} (f : A → B) (refused : Refusal → A) (result : A) (cs : List Case) → f (firstOf cs refused result) ≡ firstOf cs (λ why. f (refused why)) (f result)
 firstOf-map f refused result [] = refl
-firstOf-map f refused result (c ∷ cs) =
-    pick-map f (c .stands) (refused (c .refusal)) (firstOf cs refused result) ∙ ap (pick (c .stands) (f (refused (c .refusal)))) (firstOf-map f refused result cs)
+firstOf-map f refused result (c ∷ cs) = pick-map f (c .stands) (refused (c .refusal)) (firstOf cs refused result) (firstOf-map f refused result cs)
 
 -- the first of the list that stands is this refusal
 abbrev pub FirstIs : List Case → Refusal → Type 0
