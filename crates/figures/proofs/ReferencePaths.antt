@@ -57,7 +57,7 @@ stepOutcome (Stepped.Refused why) = refused (refusalNumber why) (refusalPlace wh
 
 abbrev pub filtered : ℕ → Outcome
 filtered choice =
-    stepOutcome (Single.stepOf Single.mostGiven (record { operator = filter 2; slot = record { 0 = 0 }; held = record { 0 = 0 }; beside = record { 0 = 0 } }) (replicate 64 0) 5 choice)
+    stepOutcome (Single.stepOf (record { operator = filter 2; slot = record { 0 = 0 }; held = record { 0 = 0 }; beside = record { 0 = 0 } }) (replicate 64 0) 5 choice)
 
 pub frames : List Operator
 frames = compactor 10 ∷ expander 10 ∷ compactor 10 ∷ expander 10 ∷ []

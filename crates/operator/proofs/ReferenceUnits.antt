@@ -1,4 +1,4 @@
--- Steps that the programs do not say, as one table that is computed from the definitions: an operator within a path at the most that can be on the way, and words of a wrong length.
+-- What the programs do not say, as tables that are computed from the definitions: a decision at the most that can be on the way within a path, and steps with words of a wrong length.
 use mathlib.Core.Path.{_≡_, refl}
 use mathlib.Core.List.{List, [], _∷_}
 use Prim.Native.Nat.{ℕ}
@@ -7,14 +7,17 @@ use Rattle.quantity.specs.Limits.{largestAmount}
 use Rattle.quantity.specs.Ranges.{inRange}
 use Rattle.quantity.specs.Sums.{total, every}
 use Rattle.quantity.specs.Refusals.{refusalNumber, refusalPlace}
+use Rattle.quantity.specs.declared.refusal.Refusal.the-variants.{Unusable}
 use Rattle.operator.specs.Held.{keeps}
 use Rattle.operator.specs.Limiter.{limiterLeast, limiterGreatest, limiterAfter}
 use Rattle.operator.specs.Expander.{expanderLeast, expanderGreatest, expanderAfter}
 use Rattle.operator.specs.Operators.{leastOutput, greatestOutput, heldAfter, numberInRange, limiter, expander}
 use Rattle.words.specs.Stored.{storedFits, wordFits}
 use Rattle.operator.specs.Single
+use Rattle.operator.specs.Within
 use Rattle.operator.specs.declared.Operator.{Operator}
 use Rattle.operator.specs.declared.SingleOperator.{SingleOperator}
+use Rattle.operator.specs.declared.single.Decided.{Decided}
 use Rattle.operator.specs.declared.single.Stepped.{Stepped}
 
 -- a new operator that holds so much
@@ -30,20 +33,31 @@ abbrev pub stepOutcome : Stepped → Outcome
 stepOutcome (Stepped.Sent s next) = sent (s .0) (next .held .0) (next .beside .0) (next .slot .0)
 stepOutcome (Stepped.Refused why) = refused (refusalNumber why) (refusalPlace why)
 
-pub computed : List Outcome
-computed =
-    -- an expander 1 at the limit within a path, the most on the way, and one more
-    stepOutcome (Single.stepOf Single.mostOnTheWay (holding (expander 1) largestAmount) (replicate 64 0) 18_253_610_991 0)
-    ∷ stepOutcome (Single.stepOf Single.mostOnTheWay (holding (expander 1) largestAmount) (replicate 64 0) 18_253_610_992 0)
-    -- a limiter 2 of 63, 64 and 65 words
-    ∷ stepOutcome (Single.stepOf Single.mostGiven (holding (limiter 2) 0) (replicate 63 0) 0 0)
-    ∷ stepOutcome (Single.stepOf Single.mostGiven (holding (limiter 2) 0) (replicate 64 0) 0 0)
-    ∷ stepOutcome (Single.stepOf Single.mostGiven (holding (limiter 2) 0) (replicate 65 0) 0 0)
+-- an expander 1 at the limit, at the most on the way, and at one more
+pub decisions : List Decided
+decisions =
+    Within.decidedOf (holding (expander 1) largestAmount) (replicate 64 0) largestAmount 18_253_610_991 0
+    ∷ Within.decidedOf (holding (expander 1) largestAmount) (replicate 64 0) largestAmount 18_253_610_992 0
     ∷ []
 
-pub expected : List Outcome
-expected = sent 19_327_352_814 0 0 1 ∷ refused 1 0 ∷ refused 1 0 ∷ sent 0 0 0 1 ∷ refused 1 0 ∷ []
+pub expectedDecisions : List Decided
+expectedDecisions = Decided.Sends (record { 0 = 19_327_352_814 }) (record { 0 = 0 }) (record { 0 = 0 }) ∷ Decided.Refused Unusable ∷ []
 
-pub reference-units : computed ≡ expected
-unfolding computed expected total every inRange keeps limiterLeast limiterGreatest limiterAfter expanderLeast expanderGreatest expanderAfter leastOutput greatestOutput heldAfter numberInRange storedFits wordFits Single.stepOf Single.sent Single.holdsNext Single.choiceAbove Single.leavesTooMuch Single.stateNext Single.holds Single.usesHeld Single.usesBeside Single.wordsUsed Single.storedUnusable Single.unusable
-reference-units = refl
+pub reference-decisions : decisions ≡ expectedDecisions
+unfolding decisions expectedDecisions inRange keeps expanderLeast expanderGreatest expanderAfter leastOutput greatestOutput heldAfter numberInRange Within.undecidable Within.sentWith Within.choiceAboveWith Within.decidedOf
+reference-decisions = refl
+
+-- a limiter 2 of 63, 64 and 65 words
+pub steps : List Outcome
+steps =
+    stepOutcome (Single.stepOf (holding (limiter 2) 0) (replicate 63 0) 0 0)
+    ∷ stepOutcome (Single.stepOf (holding (limiter 2) 0) (replicate 64 0) 0 0)
+    ∷ stepOutcome (Single.stepOf (holding (limiter 2) 0) (replicate 65 0) 0 0)
+    ∷ []
+
+pub expectedSteps : List Outcome
+expectedSteps = refused 1 0 ∷ sent 0 0 0 1 ∷ refused 1 0 ∷ []
+
+pub reference-steps : steps ≡ expectedSteps
+unfolding steps expectedSteps total every inRange keeps limiterLeast limiterGreatest limiterAfter leastOutput greatestOutput heldAfter numberInRange storedFits wordFits Single.stepOf Single.sent Single.holdsNext Single.choiceAbove Single.leavesTooMuch Single.stateNext Single.holds Single.usesHeld Single.usesBeside Single.wordsUsed Single.storedUnusable Single.unusable
+reference-steps = refl

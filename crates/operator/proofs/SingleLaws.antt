@@ -189,36 +189,36 @@ module _ (x : SingleOperator) (words : List ℕ) where
   stored-is-unusable answered = unusable-picked (storedUnusable x words) _ answered
 
 -- what the bounds answer
-module _ (most : ℕ) (x : SingleOperator) (words : List ℕ) (input : ℕ) where
-  pub bounds-unusable : unusable most x words input ≡ true → Bounds.Refused Unusable ≡ boundsOf most x words input
+module _ (x : SingleOperator) (words : List ℕ) (input : ℕ) where
+  pub bounds-unusable : unusable x words input ≡ true → Bounds.Refused Unusable ≡ boundsOf x words input
   unfolding boundsOf
   bounds-unusable test = rw test
 
-  module _ (passed : unusable most x words input ≡ false) where
-    pub bounds-outside : numberInRange (x .operator) ≡ false → Bounds.Refused (OutOfRange 0) ≡ boundsOf most x words input
+  module _ (passed : unusable x words input ≡ false) where
+    pub bounds-outside : numberInRange (x .operator) ≡ false → Bounds.Refused (OutOfRange 0) ≡ boundsOf x words input
     unfolding boundsOf
     bounds-outside outside = rw (passed, outside)
 
     pub bounds-outputs : numberInRange (x .operator) ≡ true → (l g : ℕ)
         → l ≡ leastOutput (x .operator) (x .slot .0) (holds x words) input
         → g ≡ greatestOutput (x .operator) (x .slot .0) (holds x words) input
-        → Bounds.Outputs (record { 0 = l }) (record { 0 = g }) ≡ boundsOf most x words input
+        → Bounds.Outputs (record { 0 = l }) (record { 0 = g }) ≡ boundsOf x words input
     unfolding boundsOf
     bounds-outputs inside l g low-same high-same = rw (passed, inside, low-same, high-same)
 
 -- 1 of the bounds and of a step
-module _ (most : ℕ) (x : SingleOperator) (words : List ℕ) (input : ℕ) where
-  pub unusable-above : most < input → unusable most x words input ≡ true
+module _ (x : SingleOperator) (words : List ℕ) (input : ℕ) where
+  pub unusable-above : largestAmount < input → unusable x words input ≡ true
   unfolding unusable
-  unusable-above above = either-first _ _ (lt-ltb most input above)
+  unusable-above above = either-first _ _ (lt-ltb largestAmount input above)
 
-  pub unusable-stored : storedUnusable x words ≡ true → unusable most x words input ≡ true
+  pub unusable-stored : storedUnusable x words ≡ true → unusable x words input ≡ true
   unfolding unusable
-  unusable-stored test = either-second (ltb most input) _ test
+  unusable-stored test = either-second (ltb largestAmount input) _ test
 
-  pub none-unusable : input ≤ most → Usable x words → unusable most x words input ≡ false
+  pub none-unusable : input ≤ largestAmount → Usable x words → unusable x words input ≡ false
   unfolding unusable
-  none-unusable within stored = either-none _ _ (le-ltb most input within) (stored-usable x words stored)
+  none-unusable within stored = either-none _ _ (le-ltb largestAmount input within) (stored-usable x words stored)
 
 -- the least output, where what is held is given beside the words
 pub least-held : (x : SingleOperator) (words : List ℕ) (input held : ℕ) → held ≡ holds x words .b

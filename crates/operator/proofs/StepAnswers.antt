@@ -15,7 +15,7 @@ use Rattle.quantity.specs.declared.refusal.Refusal.the-variants.{Unusable, OutO
 use Rattle.quantity.proofs.Laws.{pick-true, either-second}
 use Rattle.quantity.proofs.Refusals.{firstOf-map}
 use Rattle.operator.specs.Operators.{numberInRange}
-use Rattle.operator.specs.Single.{mostOnTheWay, holds, unusable, choiceAbove, leavesTooMuch, sent, holdsNext, stateNext, wordsNext, stepOf, wordsAfter}
+use Rattle.operator.specs.Single.{holds, unusable, choiceAbove, leavesTooMuch, sent, holdsNext, stateNext, wordsNext, stepOf, wordsAfter}
 use Rattle.operator.specs.Within.{storedOf, undecidable, sentWith, choiceAboveWith, decidedOf, keptOf, wordsKept}
 use Rattle.operator.specs.declared.SingleOperator.{SingleOperator}
 use Rattle.operator.specs.declared.single.Decided.{Decided}
@@ -51,37 +51,37 @@ abbrev wordsDecided : SingleOperator → List ℕ → ℕ → Decided → List �
 wordsDecided x words input (Decided.Sends output kept beside) = wordsKept x words input (kept .0) (beside .0)
 wordsDecided x words input (Decided.Refused why) = words
 
-module _ (most : ℕ) (x : SingleOperator) (words : List ℕ) (input choice : ℕ) where
+module _ (x : SingleOperator) (words : List ℕ) (input choice : ℕ) where
   -- what a step answers, and what its words are then
   abbrev Answered : Stepped → List ℕ → Type 0
-  Answered answer after = (answer ≡ stepOf most x words input choice) × (after ≡ wordsAfter most x words input choice)
+  Answered answer after = (answer ≡ stepOf x words input choice) × (after ≡ wordsAfter x words input choice)
 
-  refused-first : either (ltb largestAmount choice) (unusable most x words input) ≡ true → Answered (Stepped.Refused Unusable) words
+  refused-first : either (ltb largestAmount choice) (unusable x words input) ≡ true → Answered (Stepped.Refused Unusable) words
   unfolding stepOf wordsAfter
   refused-first test = (sym (pick-true _ _ _ test), sym (pick-true _ _ _ test))
 
-  pub step-above : most < input → Answered (Stepped.Refused Unusable) words
-  step-above above = refused-first (either-second (ltb largestAmount choice) _ (unusable-above most x words input above))
+  pub step-above : largestAmount < input → Answered (Stepped.Refused Unusable) words
+  step-above above = refused-first (either-second (ltb largestAmount choice) _ (unusable-above x words input above))
 
   pub step-unusable : Stored.Unusable ≡ storedOf x words → Answered (Stepped.Refused Unusable) words
   step-unusable answered =
-      refused-first (either-second (ltb largestAmount choice) _ (unusable-stored most x words input (stored-is-unusable x words answered)))
+      refused-first (either-second (ltb largestAmount choice) _ (unusable-stored x words input (stored-is-unusable x words answered)))
 
-  module _ (bounded : most ≤ mostOnTheWay) (within : input ≤ most) (stored : Usable x words) where
-    first-test : either (ltb largestAmount choice) (unusable most x words input) ≡ ltb largestAmount choice
-    first-test = ap (either (ltb largestAmount choice)) (none-unusable most x words input within stored) ∙ either-last (ltb largestAmount choice)
+  module _ (within : input ≤ largestAmount) (stored : Usable x words) where
+    first-test : either (ltb largestAmount choice) (unusable x words input) ≡ ltb largestAmount choice
+    first-test = ap (either (ltb largestAmount choice)) (none-unusable x words input within stored) ∙ either-last (ltb largestAmount choice)
 
     -- the tests of a decision are a step's, but for what it goes on to
     same-tests : {A : Type 0} (refused : Refusal → A) (kept next : A)
         → (numberInRange (x .operator) ≡ true → choiceAbove x words input choice ≡ false → kept ≡ next)
         → firstOf (decisionCases x words (holds x words .b) input choice) refused kept
-        ≡ pick (either (ltb largestAmount choice) (unusable most x words input)) (refused Unusable)
+        ≡ pick (either (ltb largestAmount choice) (unusable x words input)) (refused Unusable)
         (pick (not (numberInRange (x .operator))) (refused (OutOfRange 0)) (pick (choiceAbove x words input choice) (refused (ChoiceAboveGreatest 0)) next))
     unfolding choiceAboveWith choiceAbove holds
     same-tests refused kept next same =
         let rest = pick (not (numberInRange (x .operator))) (refused (OutOfRange 0)) (pick (choiceAbove x words input choice) (refused (ChoiceAboveGreatest 0)) kept) in
         ap (λ (t : Bool). pick t (refused Unusable) rest) (choice-alone x words stored input choice (omega arith) ∙ sym first-test)
-        ∙ ap (pick (either (ltb largestAmount choice) (unusable most x words input)) (refused Unusable))
+        ∙ ap (pick (either (ltb largestAmount choice) (unusable x words input)) (refused Unusable))
         (pick-rest (not (numberInRange (x .operator))) _ _ _ (λ inside. pick-rest (choiceAbove x words input choice) _ _ _ (same (not-false _ inside))))
 
     -- what is kept, or refused, is what a step goes on to
@@ -110,11 +110,11 @@ module _ (most : ℕ) (x : SingleOperator) (words : List ℕ) (input choice : �
           firstOf-map (wordsDecided x words input) Decided.Refused sends cases ∙ same-tests (λ why. words) _ _ (λ inside below. kept-then inside below .1),
         )
 
-  module _ (bounded : most ≤ mostOnTheWay) (within : input ≤ most) {held : Units} (found : Stored.Holds held ≡ storedOf x words) where
+  module _ (within : input ≤ largestAmount) {held : Units} (found : Stored.Holds held ≡ storedOf x words) where
     step-decided : {decided : Decided} → decided ≡ decidedOf x words (held .0) input choice → Answered (stepDecided x words decided) (wordsDecided x words input decided)
     step-decided answered =
         let (stored, same) = stored-holds x words found in
-        rw (answered ∙ ap (λ (b : ℕ). decidedOf x words b input choice) same) (joined bounded within stored)
+        rw (answered ∙ ap (λ (b : ℕ). decidedOf x words b input choice) same) (joined within stored)
 
     pub step-refused : {why : Refusal} → Decided.Refused why ≡ decidedOf x words (held .0) input choice → Answered (Stepped.Refused why) words
     step-refused answered = step-decided answered

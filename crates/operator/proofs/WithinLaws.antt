@@ -22,8 +22,8 @@ use Rattle.operator.specs.Delayer.{ofAge, olderThan, staysOf, delayerAft
 use Rattle.operator.specs.Operators.{leastOutput, greatestOutput, heldAfter, numberInRange}
 use Rattle.operator.specs.Whole.{Whole}
 use Rattle.words.specs.Stored.{wordAt}
-use Rattle.operator.specs.Single.{wordCount, mostOnTheWay, wordsUsed, usesHeld, holds, choiceAbove, leavesTooMuch, sent, holdsNext, stateNext, wordsNext}
-use Rattle.operator.specs.Within.{holdsWith, undecidable, sentWith, choiceAboveWith, holdsOnce, decidedOf, newestOf, stateKept, wordKept, keptOf, wordsKept}
+use Rattle.operator.specs.Single.{wordCount, wordsUsed, usesHeld, holds, choiceAbove, leavesTooMuch, sent, holdsNext, stateNext, wordsNext}
+use Rattle.operator.specs.Within.{mostOnTheWay, holdsWith, undecidable, sentWith, choiceAboveWith, holdsOnce, decidedOf, newestOf, stateKept, wordKept, keptOf, wordsKept}
 use Rattle.operator.specs.declared.Operator.{Operator}
 use Rattle.operator.specs.declared.Operator.the-variants.{Limiter, Compactor, Expander, Filter, Delayer}
 use Rattle.operator.specs.declared.SingleOperator.{SingleOperator}

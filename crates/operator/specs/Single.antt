@@ -1,5 +1,5 @@
 -- Sections 3, 6 and 7: the calls on a single operator and its 64 words. What the calls answer is the first refusal of a list that stands, else the result.
-use Prim.Native.Nat.{ℕ, _+_, _-_, _*_}
+use Prim.Native.Nat.{ℕ, _+_, _-_}
 use mathlib.Core.Bool.{Bool, true, false, not}
 use mathlib.Core.List.{List, [], _∷_}
 use lib.ListN.{length}
@@ -20,13 +20,6 @@ use Rattle.operator.specs.declared.single.Stepped.{Stepped}
 -- an operator's words
 abbrev pub wordCount : ℕ
 wordCount = 64
-
--- what an input is at the most: an amount given; or, within a path, what sixteen operators at the limit and an input can bring
-abbrev pub mostGiven : ℕ
-mostGiven = largestAmount
-
-abbrev pub mostOnTheWay : ℕ
-mostOnTheWay = 17 * largestAmount
 
 -- a delayer d uses the words below d, and only a delayer does
 unfoldable pub wordsUsed : Operator → ℕ
@@ -69,9 +62,9 @@ storedUnusable x words =
     ∷ ltb largestAmount (total (wordAt words) wordCount)
     ∷ [])
 
--- 1: that, or an input above the most
-unfoldable pub unusable : ℕ → SingleOperator → List ℕ → ℕ → Bool
-unusable most x words input = either (ltb most input) (storedUnusable x words)
+-- 1: that, or an input above the limit
+unfoldable pub unusable : SingleOperator → List ℕ → ℕ → Bool
+unusable x words input = either (ltb largestAmount input) (storedUnusable x words)
 
 least : SingleOperator → List ℕ → ℕ → ℕ
 least x words input = leastOutput (x .operator) (x .slot .0) (holds x words) input
@@ -80,11 +73,11 @@ greatest : SingleOperator → List ℕ → ℕ → ℕ
 greatest x words input = greatestOutput (x .operator) (x .slot .0) (holds x words) input
 
 -- the least and greatest output of a step, or the refusal: 1, then 5
-unfoldable pub boundsOf : ℕ → SingleOperator → List ℕ → ℕ → Bounds
+unfoldable pub boundsOf : SingleOperator → List ℕ → ℕ → Bounds
 unfolding least greatest
-boundsOf most x words input =
+boundsOf x words input =
     firstOf
-    ((unusable most x words input ⇒ Unusable)
+    ((unusable x words input ⇒ Unusable)
     ∷ (not (numberInRange (x .operator)) ⇒ OutOfRange 0)
     ∷ [])
     Bounds.Refused
@@ -109,9 +102,9 @@ unfoldable pub leavesTooMuch : SingleOperator → List ℕ → ℕ → ℕ → B
 leavesTooMuch x words input s = either (ltb largestAmount (holdsNext x words input s .b)) (ltb largestAmount (holdsNext x words input s .h))
 
 -- a step goes through 1, 5 and 14, and 1 again
-abbrev pub stepCases : ℕ → SingleOperator → List ℕ → ℕ → ℕ → List Case
-stepCases most x words input choice =
-    (either (ltb largestAmount choice) (unusable most x words input) ⇒ Unusable)
+abbrev pub stepCases : SingleOperator → List ℕ → ℕ → ℕ → List Case
+stepCases x words input choice =
+    (either (ltb largestAmount choice) (unusable x words input) ⇒ Unusable)
     ∷ (not (numberInRange (x .operator)) ⇒ OutOfRange 0)
     ∷ (choiceAbove x words input choice ⇒ ChoiceAboveGreatest 0)
     ∷ (leavesTooMuch x words input (sent x words input choice) ⇒ Unusable)
@@ -135,10 +128,10 @@ sentAnswer : SingleOperator → List ℕ → ℕ → ℕ → Stepped
 sentAnswer x words input s = Stepped.Sent (record { 0 = s }) (stateNext x words input s)
 
 -- what a step answers
-unfoldable pub stepOf : ℕ → SingleOperator → List ℕ → ℕ → ℕ → Stepped
+unfoldable pub stepOf : SingleOperator → List ℕ → ℕ → ℕ → Stepped
 unfolding sentAnswer
-stepOf most x words input choice = firstOf (stepCases most x words input choice) Stepped.Refused (sentAnswer x words input (sent x words input choice))
+stepOf x words input choice = firstOf (stepCases x words input choice) Stepped.Refused (sentAnswer x words input (sent x words input choice))
 
 -- what the words hold then; a refused step writes nothing
-unfoldable pub wordsAfter : ℕ → SingleOperator → List ℕ → ℕ → ℕ → List ℕ
-wordsAfter most x words input choice = firstOf (stepCases most x words input choice) (λ why. words) (wordsNext x words input (sent x words input choice))
+unfoldable pub wordsAfter : SingleOperator → List ℕ → ℕ → ℕ → List ℕ
+wordsAfter x words input choice = firstOf (stepCases x words input choice) (λ why. words) (wordsNext x words input (sent x words input choice))

@@ -1,5 +1,5 @@
 -- A step in three, for whoever runs several operators: test what is lent and stored, decide on numbers, keep what stays. Each is defined on all inputs.
-use Prim.Native.Nat.{ℕ, _+_, _-_, min}
+use Prim.Native.Nat.{ℕ, _+_, _-_, _*_, min}
 use mathlib.Core.Bool.{Bool, not}
 use mathlib.Core.List.{List, [], _∷_}
 use lib.ListN.{length}
@@ -13,11 +13,15 @@ use Rattle.operator.specs.Held.{Held}
 use Rattle.operator.specs.Delayer.{ofAge}
 use Rattle.words.specs.Stored.{wordAt}
 use Rattle.operator.specs.Operators.{leastOutput, greatestOutput, heldAfter, numberInRange}
-use Rattle.operator.specs.Single.{wordCount, mostOnTheWay, wordsUsed, usesHeld, holds, storedUnusable}
+use Rattle.operator.specs.Single.{wordCount, wordsUsed, usesHeld, holds, storedUnusable}
 use Rattle.operator.specs.declared.SingleOperator.{SingleOperator}
 use Rattle.operator.specs.declared.single.Stored.{Stored}
 use Rattle.operator.specs.declared.single.Decided.{Decided}
 use Rattle.operator.specs.declared.single.Kept.{Kept}
+
+-- what an input is at the most within a path: what sixteen operators at the limit and an input can bring
+abbrev pub mostOnTheWay : ℕ
+mostOnTheWay = 17 * largestAmount
 
 -- Test: section 3's b, unless what is lent and stored cannot be used
 unfoldable pub storedOf : SingleOperator → List ℕ → Stored

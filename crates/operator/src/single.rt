@@ -19,8 +19,8 @@ ghost use Rattle.operator.specs.Held.{Held};
 ghost use Rattle.operator.specs.Delayer.{ofAge};
 ghost use Rattle.operator.specs.Operators.{leastOutput, greatestOutput, heldAfter, numberInRange};
 ghost use Rattle.words.specs.Stored.{wordAt, wordFits};
-ghost use Rattle.operator.specs.Single.{boundsOf, stepOf, wordsAfter, mostGiven, mostOnTheWay, wordCount, wordsUsed, usesHeld, usesBeside};
-ghost use Rattle.operator.specs.Within.{storedOf, undecidable, decidedOf, keptOf, wordsKept};
+ghost use Rattle.operator.specs.Single.{boundsOf, stepOf, wordsAfter, wordCount, wordsUsed, usesHeld, usesBeside};
+ghost use Rattle.operator.specs.Within.{mostOnTheWay, storedOf, undecidable, decidedOf, keptOf, wordsKept};
 
 // The words of an operator.
 const WORDS: usize = 64;
@@ -64,30 +64,56 @@ pub enum Stepped {
 
 // The least and greatest output of a single operator's next step.
 pub fn bounds_alone(state: SingleOperator, words: &[u32], input: Units) -> Bounds
-    ensures { λ r. ⌜ r ≡ boundsOf mostGiven state (now (words .entry)) (input .0) ⌝ }
+    ensures { λ r. ⌜ r ≡ boundsOf state (now (words .entry)) (input .0) ⌝ }
 {
-    bounds_at_most(Units::LARGEST, state, words, input)
+    if Units::LARGEST < input.0 {
+        return Bounds::Refused(Refusal::Unusable);
+    }
+    match stored_in(state, words) {
+        Stored::Unusable => Bounds::Refused(Refusal::Unusable),
+        Stored::Holds(held) => {
+            let operator = state.operator;
+            if !operator.number_in_range() {
+                return Bounds::Refused(Refusal::OutOfRange(0));
+            }
+            let low = least(
+                operator,
+                state.slot.0,
+                held.0,
+                state.beside.0,
+                input.0,
+                words,
+            );
+            let high = greatest(operator, low, held.0 + input.0);
+            Bounds::Outputs {
+                least: Units(low),
+                greatest: Units(high),
+            }
+        }
+    }
 }
 
-// The same for an operator within a path, whose input is what the one before it sent.
-pub fn bounds_within(state: SingleOperator, words: &[u32], input: Units) -> Bounds
-    ensures { λ r. ⌜ r ≡ boundsOf mostOnTheWay state (now (words .entry)) (input .0) ⌝ }
-{
-    bounds_at_most(ON_THE_WAY, state, words, input)
-}
-
-// A single operator's step.
+// A single operator's step. What keep tests of the units that stay is refusal 1, tested last.
 pub fn step_alone(state: SingleOperator, words: &mut [u32], input: Units, choice: Units) -> Stepped
-    ensures { λ r. ⌜ (r ≡ stepOf mostGiven state (now (words .entry)) (input .0) (choice .0)) × (now (words .exit) ≡ wordsAfter mostGiven state (now (words .entry)) (input .0) (choice .0)) ⌝ }
+    ensures { λ r. ⌜ (r ≡ stepOf state (now (words .entry)) (input .0) (choice .0)) × (now (words .exit) ≡ wordsAfter state (now (words .entry)) (input .0) (choice .0)) ⌝ }
 {
-    step_at_most(Units::LARGEST, state, words, input, choice)
-}
-
-// The same for an operator within a path.
-pub fn step_within(state: SingleOperator, words: &mut [u32], input: Units, choice: Units) -> Stepped
-    ensures { λ r. ⌜ (r ≡ stepOf mostOnTheWay state (now (words .entry)) (input .0) (choice .0)) × (now (words .exit) ≡ wordsAfter mostOnTheWay state (now (words .entry)) (input .0) (choice .0)) ⌝ }
-{
-    step_at_most(ON_THE_WAY, state, words, input, choice)
+    if Units::LARGEST < input.0 {
+        return Stepped::Refused(Refusal::Unusable);
+    }
+    match stored_in(state, &words[..]) {
+        Stored::Unusable => Stepped::Refused(Refusal::Unusable),
+        Stored::Holds(held) => match decide(state, &words[..], held, input, choice) {
+            Decided::Refused(why) => Stepped::Refused(why),
+            Decided::Sends {
+                output,
+                kept,
+                beside,
+            } => match keep(state, words, input, kept, beside) {
+                Kept::Refused(why) => Stepped::Refused(why),
+                Kept::Next(next) => Stepped::Sent { output, next },
+            },
+        },
+    }
 }
 
 // Test: section 3's b, unless what is lent and stored cannot be used.
@@ -179,67 +205,6 @@ pub fn keep(
         held: Units(held_apart(operator, kept.0)),
         beside,
     })
-}
-
-fn bounds_at_most(most: u64, state: SingleOperator, words: &[u32], input: Units) -> Bounds
-    requires { ⌜ most ≤ mostOnTheWay ⌝ }
-    ensures { λ r. ⌜ r ≡ boundsOf most state (now (words .entry)) (input .0) ⌝ }
-{
-    if most < input.0 {
-        return Bounds::Refused(Refusal::Unusable);
-    }
-    match stored_in(state, words) {
-        Stored::Unusable => Bounds::Refused(Refusal::Unusable),
-        Stored::Holds(held) => {
-            let operator = state.operator;
-            if !operator.number_in_range() {
-                return Bounds::Refused(Refusal::OutOfRange(0));
-            }
-            let low = least(
-                operator,
-                state.slot.0,
-                held.0,
-                state.beside.0,
-                input.0,
-                words,
-            );
-            let high = greatest(operator, low, held.0 + input.0);
-            Bounds::Outputs {
-                least: Units(low),
-                greatest: Units(high),
-            }
-        }
-    }
-}
-
-// What keep tests of the units that stay is refusal 1, tested last.
-fn step_at_most(
-    most: u64,
-    state: SingleOperator,
-    words: &mut [u32],
-    input: Units,
-    choice: Units,
-) -> Stepped
-    requires { ⌜ most ≤ mostOnTheWay ⌝ }
-    ensures { λ r. ⌜ (r ≡ stepOf most state (now (words .entry)) (input .0) (choice .0)) × (now (words .exit) ≡ wordsAfter most state (now (words .entry)) (input .0) (choice .0)) ⌝ }
-{
-    if most < input.0 {
-        return Stepped::Refused(Refusal::Unusable);
-    }
-    match stored_in(state, &words[..]) {
-        Stored::Unusable => Stepped::Refused(Refusal::Unusable),
-        Stored::Holds(held) => match decide(state, &words[..], held, input, choice) {
-            Decided::Refused(why) => Stepped::Refused(why),
-            Decided::Sends {
-                output,
-                kept,
-                beside,
-            } => match keep(state, words, input, kept, beside) {
-                Kept::Refused(why) => Stepped::Refused(why),
-                Kept::Next(next) => Stepped::Sent { output, next },
-            },
-        },
-    }
 }
 
 // Refusal 1 of a decision.

@@ -2,11 +2,11 @@
 use mathlib.Core.Path.{sym, _∙_}
 use Rattle.operator.proofs.StepAnswers.{step-above, step-unusable, step-refused, step-kept}
 use borrow.Author.Needs.{needs}
-use Rattle.operator.proofs.single.step_at_most.Statement.{statement}
-use Rattle.operator.proofs.single.step_at_most.Tie as tie
+use Rattle.operator.proofs.single.step_alone.Statement.{statement}
+use Rattle.operator.proofs.single.step_alone.Tie as tie
 
 returns : tie.Need-returns
-returns c = step-above _ _ _ _ _ (c .if1 .taken)
+returns c = step-above _ _ _ _ (c .if1 .taken)
 
 stored-in-requires : tie.Need-stored-in-requires
 stored-in-requires c κs = search needs
@@ -39,7 +39,7 @@ same-length : tie.Need-same-length
 same-length c = search needs
 
 returns-2 : tie.Need-returns-2
-returns-2 c = step-unusable _ _ _ _ _ (sym (c .enum-told .given .1) ∙ c .before .before .stored-in .ensures)
+returns-2 c = step-unusable _ _ _ _ (sym (c .enum-told .given .1) ∙ c .before .before .stored-in .ensures)
 
 same-length-2 : tie.Need-same-length-2
 same-length-2 c = search needs
@@ -47,7 +47,7 @@ same-length-2 c = search needs
 returns-3 : tie.Need-returns-3
 returns-3 c =
     let known = c .before .before .before .before .before .before in
-    step-refused _ _ _ _ _ (known .before .before .before .before .before .before .before .pre) (known .before .before .before .before .if1 .left) (sym (known .held .given .1) ∙ known .before .before .stored-in .ensures)
+    step-refused _ _ _ _ (known .before .before .before .before .if1 .left) (sym (known .held .given .1) ∙ known .before .before .stored-in .ensures)
     (sym (c .before .why .given .1) ∙ c .before .before .before .decide .ensures)
 
 same-length-3 : tie.Need-same-length-3
@@ -58,7 +58,7 @@ returns-4 c =
     let known = c .before .before .before .before .before .before .before .before .before .before .before .before .before in
     let sends = c .before .before .before .before .before .before .before .before in
     let kept = c .before .before .before .before .before .keep in
-    step-kept _ _ _ _ _ (known .before .before .before .before .before .before .before .pre) (known .before .before .before .before .if1 .left) (sym (known .held .given .1) ∙ known .before .before .stored-in .ensures)
+    step-kept _ _ _ _ (known .before .before .before .before .if1 .left) (sym (known .held .given .1) ∙ known .before .before .stored-in .ensures)
     (sym (sends .output .given .1) ∙ sends .before .before .decide .ensures) (sym (c .before .why2 .given .1) ∙ kept .ensures .0) (kept .ensures .1)
 
 same-length-4 : tie.Need-same-length-4
@@ -69,11 +69,11 @@ returns-5 c =
     let known = c .before .before .before .before .before .before .before .before .before .before .before .before .before in
     let sends = c .before .before .before .before .before .before .before .before in
     let kept = c .before .before .before .before .before .keep in
-    step-kept _ _ _ _ _ (known .before .before .before .before .before .before .before .pre) (known .before .before .before .before .if1 .left) (sym (known .held .given .1) ∙ known .before .before .stored-in .ensures)
+    step-kept _ _ _ _ (known .before .before .before .before .if1 .left) (sym (known .held .given .1) ∙ known .before .before .stored-in .ensures)
     (sym (sends .output .given .1) ∙ sends .before .before .decide .ensures) (sym (c .before .next .given .1) ∙ kept .ensures .0) (kept .ensures .1)
 
-pub step-at-most-spec : {M : Type 1} → statement M
-step-at-most-spec =
+pub step-alone-spec : {M : Type 1} → statement M
+step-alone-spec =
     tie.close
     (tie.spec
     returns
