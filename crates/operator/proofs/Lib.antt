@@ -8,6 +8,6 @@ mod FilterPart
 mod Misreadings
 pub mod SingleLaws
 pub mod Stands
-pub mod WithinLaws
+pub mod PartsLaws
 mod StepAnswers
 pub mod ReferenceUnits

@@ -7,17 +7,16 @@ use Rattle.quantity.specs.Limits.{largestAmount}
 use Rattle.quantity.specs.Ranges.{inRange}
 use Rattle.quantity.specs.Sums.{total, every}
 use Rattle.quantity.specs.Refusals.{refusalNumber, refusalPlace}
-use Rattle.quantity.specs.declared.refusal.Refusal.the-variants.{Unusable}
 use Rattle.operator.specs.Held.{keeps}
 use Rattle.operator.specs.Limiter.{limiterLeast, limiterGreatest, limiterAfter}
 use Rattle.operator.specs.Expander.{expanderLeast, expanderGreatest, expanderAfter}
 use Rattle.operator.specs.Operators.{leastOutput, greatestOutput, heldAfter, numberInRange, limiter, expander}
 use Rattle.words.specs.Stored.{storedFits, wordFits}
 use Rattle.operator.specs.Single
-use Rattle.operator.specs.Within
+use Rattle.operator.specs.Parts
 use Rattle.operator.specs.declared.Operator.{Operator}
 use Rattle.operator.specs.declared.SingleOperator.{SingleOperator}
-use Rattle.operator.specs.declared.single.Decided.{Decided}
+use Rattle.operator.specs.declared.parts.Decided.{Decided}
 use Rattle.operator.specs.declared.single.Stepped.{Stepped}
 
 -- a new operator that holds so much
@@ -36,15 +35,15 @@ stepOutcome (Stepped.Refused why) = refused (refusalNumber why) (refusalPlace wh
 -- an expander 1 at the limit, at the most on the way, and at one more
 pub decisions : List Decided
 decisions =
-    Within.decidedOf (holding (expander 1) largestAmount) (replicate 64 0) largestAmount 18_253_610_991 0
-    ∷ Within.decidedOf (holding (expander 1) largestAmount) (replicate 64 0) largestAmount 18_253_610_992 0
+    Parts.decidedOf (holding (expander 1) largestAmount) (replicate 64 0) largestAmount 18_253_610_991 0
+    ∷ Parts.decidedOf (holding (expander 1) largestAmount) (replicate 64 0) largestAmount 18_253_610_992 0
     ∷ []
 
 pub expectedDecisions : List Decided
-expectedDecisions = Decided.Sends (record { 0 = 19_327_352_814 }) (record { 0 = 0 }) (record { 0 = 0 }) ∷ Decided.Refused Unusable ∷ []
+expectedDecisions = Decided.Sends (record { 0 = 19_327_352_814 }) (record { 0 = 0 }) (record { 0 = 0 }) ∷ Decided.Undecidable ∷ []
 
 pub reference-decisions : decisions ≡ expectedDecisions
-unfolding decisions expectedDecisions inRange keeps expanderLeast expanderGreatest expanderAfter leastOutput greatestOutput heldAfter numberInRange Within.undecidable Within.sentWith Within.choiceAboveWith Within.decidedOf
+unfolding decisions expectedDecisions inRange keeps expanderLeast expanderGreatest expanderAfter leastOutput greatestOutput heldAfter numberInRange Parts.undecidable Parts.sentWith Parts.choiceAboveWith Parts.decidedOf
 reference-decisions = refl
 
 -- a limiter 2 of 63, 64 and 65 words

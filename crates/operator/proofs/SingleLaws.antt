@@ -22,14 +22,14 @@ use Rattle.operator.specs.Operators.{leastOutput, greatestOutput, number
 use Rattle.operator.specs.Whole.{Whole}
 use Rattle.words.specs.Stored.{wordAt, storedFits, wordFits}
 use Rattle.operator.specs.Single.{wordCount, wordsUsed, usesHeld, usesBeside, holds, storedUnusable, unusable, boundsOf}
-use Rattle.operator.specs.Within.{storedOf, holdsWith}
+use Rattle.operator.specs.Parts.{storedOf, holdsWith}
 use Rattle.words.proofs.StoredLaws
 use Rattle.words.proofs.StoredLaws.{stored-le}
 use Rattle.operator.specs.declared.Operator.{Operator}
 use Rattle.operator.specs.declared.Operator.the-variants.{Limiter, Compactor, Expander, Filter, Delayer}
 use Rattle.operator.specs.declared.SingleOperator.{SingleOperator}
 use Rattle.operator.specs.declared.single.Bounds.{Bounds}
-use Rattle.operator.specs.declared.single.Stored.{Stored}
+use Rattle.operator.specs.declared.parts.Stored.{Stored}
 
 -- what is lent and stored can be used
 pub record Usable (x : SingleOperator) (words : List ℕ) : Type 0 where

@@ -9,4 +9,4 @@ pub mod OnFlows
 pub mod FilterPart
 pub mod Whole
 pub mod Single
-pub mod Within
+pub mod Parts

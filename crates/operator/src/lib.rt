@@ -8,6 +8,7 @@ use quantity::Units;
 ghost use mathlib.Core.Path.{_≡_};
 ghost use Rattle.operator.specs.Operators.{numberInRange};
 
+pub mod parts;
 pub mod single;
 
 // An operator with its number (section 3).

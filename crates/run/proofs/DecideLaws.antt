@@ -19,16 +19,16 @@ use Rattle.quantity.specs.declared.Slots.{Slots}
 use Rattle.quantity.specs.declared.Units.{Units}
 use Rattle.quantity.specs.declared.refusal.Refusal.{Refusal}
 use Rattle.quantity.specs.declared.refusal.Refusal.the-variants.{Unusable, ChoiceAboveGreatest}
-use Rattle.quantity.proofs.Laws.{pick-true, either-false}
+use Rattle.quantity.proofs.Laws.{pick-true, picked-true, either-false}
 use Rattle.quantity.proofs.Sums.{every-at, every-next, getD-listOf}
 use Rattle.quantity.proofs.Refusals.{NoneStands, none-of-both, firstOf-none, FirstIs, first-answered, first-of-more}
 use Rattle.operator.specs.Operators.{numberInRange}
 use Rattle.operator.specs.Single.{wordCount, holds, leavesTooMuch}
-use Rattle.operator.specs.Within.{decidedOf}
+use Rattle.operator.specs.Parts.{decidedOf}
 use Rattle.operator.specs.declared.SingleOperator.{SingleOperator}
-use Rattle.operator.specs.declared.single.Decided.{Decided}
+use Rattle.operator.specs.declared.parts.Decided.{Decided}
 use Rattle.operator.proofs.SingleLaws.{Usable, b-le}
-use Rattle.operator.proofs.WithinLaws.{sent-fits, decided-next}
+use Rattle.operator.proofs.PartsLaws.{sent-fits, decided-next}
 use Rattle.sheet.specs.Bodies.{part}
 use Rattle.run.specs.declared.Stage.{Stage}
 use Rattle.run.specs.declared.Run.{Run}
@@ -140,7 +140,7 @@ deciding-start run words choices input move small =
 -- what is decided of operator k
 abbrev pub decidedAt : Run → List ℕ → Call → ℕ → Decided
 decidedAt run words call k =
-    pick (choiceAboveAt run words call k) (Decided.Refused (ChoiceAboveGreatest 0))
+    pick (choiceAboveAt run words call k) Decided.ChoiceAbove
     (Decided.Sends (record { 0 = inputInto run words call (suc k) }) (record { 0 = runHoldsNext run words call k .b }) (record { 0 = runHoldsNext run words call k .h }))
 
 -- operator k sends this, and has that then
@@ -150,22 +150,20 @@ pub record Sending (run : Run) (words : List ℕ) (call : Call) (k : ℕ) (outpu
   pub keeps : kept ≡ record { 0 = runHoldsNext run words call k .b }
   pub holds : beside ≡ record { 0 = runHoldsNext run words call k .h }
 
-refused-picked : (t : Bool) (first : Refusal) (output kept beside : Units) {why : Refusal} → Decided.Refused why ≡ pick t (Decided.Refused first) (Decided.Sends output kept beside) → t ≡ true
-refused-picked true first output kept beside e = refl
-refused-picked false first output kept beside e = cc
-
-sends-picked : (t : Bool) (first : Refusal) (s b h : Units) {output kept beside : Units} → Decided.Sends output kept beside ≡ pick t (Decided.Refused first) (Decided.Sends s b h)
+sends-picked : (t : Bool) (s b h : Units) {output kept beside : Units} → Decided.Sends output kept beside ≡ pick t Decided.ChoiceAbove (Decided.Sends s b h)
     → (t ≡ false) × ((output ≡ s) × ((kept ≡ b) × (beside ≡ h)))
-sends-picked true first s b h e = let z : _≡_ {A = Bool} true false = cc in (z, ((cc), ((cc), (cc))))
-sends-picked false first s b h e = (refl, ((cc), ((cc), (cc))))
+sends-picked true s b h e = let z : _≡_ {A = Bool} true false = cc in (z, ((cc), ((cc), (cc))))
+sends-picked false s b h e = (refl, ((cc), ((cc), (cc))))
 
 module _ (run : Run) (words : List ℕ) (call : Call) (k : ℕ) where
-  pub refused-above : {why : Refusal} → Decided.Refused why ≡ decidedAt run words call k → choiceAboveAt run words call k ≡ true
-  refused-above decided = refused-picked (choiceAboveAt run words call k) _ _ _ _ decided
+  -- what does not send has a choice above
+  pub choice-above : {decided : Decided} → decided ≡ decidedAt run words call k → ((output kept beside : Units) → decided ≡ Decided.Sends output kept beside → ⊥)
+      → choiceAboveAt run words call k ≡ true
+  choice-above decided never = picked-true (choiceAboveAt run words call k) _ _ decided (never _ _ _)
 
   pub sends-within : {output kept beside : Units} → Decided.Sends output kept beside ≡ decidedAt run words call k → Sending run words call k output kept beside
   sends-within decided =
-      let (below, (out, (keeps, holds))) = sends-picked (choiceAboveAt run words call k) _ _ _ _ decided in
+      let (below, (out, (keeps, holds))) = sends-picked (choiceAboveAt run words call k) _ _ _ decided in
       record { below = below; out = out; keeps = keeps; holds = holds }
 
 -- the first of two lists that stands, where none of the first list does

@@ -19,7 +19,7 @@ use Rattle.quantity.specs.declared.refusal.Refusal.the-variants.{Unusable}
 use Rattle.quantity.proofs.Laws.{pick-true, pick-false}
 use Rattle.quantity.proofs.Sums.{both-true, every-next, length-listOf, getD-listOf, listOf-ext, every-fails, every-same}
 use Rattle.operator.specs.Single.{usesHeld, holds, storedUnusable}
-use Rattle.operator.specs.Within.{storedOf}
+use Rattle.operator.specs.Parts.{storedOf}
 use Rattle.operator.specs.Operators.{numberInRange}
 use Rattle.flow.specs.Declarations.{declarationInRange}
 use Rattle.meter.specs.Meter.{meterUnusable}
@@ -27,7 +27,7 @@ use Rattle.meter.specs.MeterWithin.{countedOf}
 use Rattle.operator.specs.declared.Operator.{Operator}
 use Rattle.operator.specs.declared.Operator.the-variants.{Limiter, Compactor, Expander, Filter, Delayer}
 use Rattle.operator.specs.declared.SingleOperator.{SingleOperator}
-use Rattle.operator.specs.declared.single.Stored.{Stored}
+use Rattle.operator.specs.declared.parts.Stored.{Stored}
 use Rattle.meter.specs.declared.Counted.{Counted}
 use Rattle.operator.proofs.SingleLaws.{stored-usable, stored-holds, stored-is-unusable}
 use Rattle.meter.proofs.MeterWithinLaws.{counted-unusable, counted-next}

@@ -1,6 +1,6 @@
 -- Writing operator by operator: before stage k the words of the meter and of the stages before it are written, and every other is as it was. Behind the last stage that is what a slot writes.
 use mathlib.Core.Path.{_≡_, refl, ap, sym, _∙_}
-use mathlib.Core.Bool.{Bool, true, false}
+use mathlib.Core.Bool.{Bool, true, false, not}
 use mathlib.Core.List.{List, [], _∷_, _++_}
 use mathlib.Core.Logic.{_⊎_, inl, inr, ⊎-elim}
 use Prim.Native.Nat.{ℕ, _+_, _-_, _/_, _%_, _<_}
@@ -19,13 +19,14 @@ use Rattle.quantity.specs.declared.Slots.{Slots}
 use Rattle.quantity.proofs.Laws.{pick-true, pick-false}
 use Rattle.quantity.proofs.Sums.{length-listOf, listOf-ext}
 use Rattle.words.specs.Stored.{wordAt}
+use Rattle.operator.specs.Operators.{numberInRange}
 use Rattle.operator.specs.Single.{wordCount}
-use Rattle.operator.specs.Within.{keepCases, keptOf, wordKept, wordsKept}
+use Rattle.operator.specs.Parts.{keepUnfit, keptOf, wordKept, wordsKept}
 use Rattle.meter.specs.Meter.{meterWordCount, meterWordNext}
 use Rattle.meter.specs.MeterWithin.{noteCases, notedOf, wordsNoted}
 use Rattle.operator.specs.declared.SingleOperator.{SingleOperator}
 use Rattle.meter.specs.declared.SourceMeter.{SourceMeter}
-use Rattle.operator.specs.declared.single.Kept.{Kept}
+use Rattle.operator.specs.declared.parts.Kept.{Kept}
 use Rattle.meter.specs.declared.Metered.{Metered}
 use Rattle.sheet.specs.Bodies.{part}
 use Rattle.run.specs.declared.Stage.{Stage}
@@ -37,16 +38,16 @@ use Rattle.run.proofs.Parts.{length-part, part-at}
 use Rattle.run.proofs.Joined.{length-operatorWords, operator-word}
 use Rattle.run.proofs.WithPart.{put-back, meter-sized, meter-replaced, meter-beside, operator-sized, operator-replaced, meter-before, operator-before, operator-behind}
 
--- Whether refused or not, as many words are left as were lent.
+-- Whether written or not, as many words are left as were lent.
+
+length-either : (n : ℕ) (t : Bool) (words next : List ℕ) → length words ≡ n → length next ≡ n → length (pick t words next) ≡ n
+length-either n true words next was will = was
+length-either n false words next was will = will
 
 module _ (n : ℕ) (words next : List ℕ) (was : length words ≡ n) (will : length next ≡ n) where
-  length-either : (t : Bool) (other : List ℕ) → length other ≡ n → length (pick t words other) ≡ n
-  length-either true other size = was
-  length-either false other size = size
-
   length-firstOf : (cs : List Case) → length (firstOf cs (λ why. words) next) ≡ n
   length-firstOf [] = will
-  length-firstOf (c ∷ cs) = length-either (c .stands) (firstOf cs (λ why. words) next) (length-firstOf cs)
+  length-firstOf (c ∷ cs) = length-either n (c .stands) words (firstOf cs (λ why. words) next) was (length-firstOf cs)
 
 length-noted : (x : SourceMeter) (words : List ℕ) (counted input : ℕ) → length words ≡ meterWordCount → length (wordsNoted x words counted input) ≡ meterWordCount
 unfolding wordsNoted
@@ -57,8 +58,9 @@ length-noted x words counted input size =
 length-stage : (stage : Stage) (slot : Slots) (words : List ℕ) (moved : Move) → length words ≡ wordCount → length (stageWords stage slot words moved) ≡ wordCount
 unfolding stageWords wordsKept
 length-stage stage slot words moved size =
-    let kept = wordKept (singleOf stage slot) words (moved .input .0) (moved .kept .0) in
-    length-firstOf wordCount words (listOf kept wordCount) size (length-listOf kept wordCount) (keepCases (singleOf stage slot) words (moved .kept .0) (moved .beside .0))
+    let x = singleOf stage slot in
+    length-either wordCount (keepUnfit x words (moved .kept .0) (moved .beside .0)) words _ size
+    (length-either wordCount (not (numberInRange (x .operator))) words _ size (length-listOf (wordKept x words (moved .input .0) (moved .kept .0)) wordCount))
 
 length-meterWords : (words : List ℕ) → length words ≡ runWordCount → length (meterWords words) ≡ meterWordCount
 unfolding meterWords
@@ -97,7 +99,13 @@ module _ (run : Run) (words : List ℕ) (counted input : ℕ) where
 
 abbrev pub stageThen : Stage → Kept → Stage
 stageThen stage (Kept.Next next) = record { operator = next .operator; held = next .held; beside = next .beside }
-stageThen stage (Kept.Refused why) = stage
+stageThen stage Kept.Unfit = stage
+stageThen stage Kept.OutOfRange = stage
+
+pub stage-stays : (stage : Stage) (answer : Kept) → ((next : SingleOperator) → answer ≡ Kept.Next next → ⊥) → stage ≡ stageThen stage answer
+stage-stays stage (Kept.Next next) never = absurd (never next refl)
+stage-stays stage Kept.Unfit never = refl
+stage-stays stage Kept.OutOfRange never = refl
 
 module _ (stage : Stage) (slot : Slots) (words : List ℕ) (k : ℕ) (moved : Move) where
   abbrev kept : List ℕ
@@ -107,7 +115,8 @@ module _ (stage : Stage) (slot : Slots) (words : List ℕ) (k : ℕ) (moved : Mo
       → stageThen stage answer ≡ stageWritten stage slot (operatorWords words k) moved
   unfolding stageWritten
   stage-taken (Kept.Next next) e = rw (← e)
-  stage-taken (Kept.Refused why) e = rw (← e)
+  stage-taken Kept.Unfit e = rw (← e)
+  stage-taken Kept.OutOfRange e = rw (← e)
 
   abbrev lent : ℕ
   lent = operatorAtWord k + wordCount - operatorAtWord k

@@ -15,14 +15,14 @@ use Rattle.quantity.proofs.Sums.{every-at, getD-listOf}
 use Rattle.quantity.proofs.Refusals.{NoneStands, none-of-each}
 use Rattle.words.specs.Stored.{wordAt}
 use Rattle.operator.specs.Single.{wordCount, holds, holdsNext, leavesTooMuch, stateNext, wordsNext}
-use Rattle.operator.specs.Within.{keptOf, wordsKept}
+use Rattle.operator.specs.Parts.{keptOf, wordsKept}
 use Rattle.meter.specs.Meter.{meterWordCount, meterNext, meterWordNext}
 use Rattle.meter.specs.MeterWithin.{notedOf, wordsNoted}
 use Rattle.operator.specs.declared.SingleOperator.{SingleOperator}
-use Rattle.operator.specs.declared.single.Kept.{Kept}
+use Rattle.operator.specs.declared.parts.Kept.{Kept}
 use Rattle.meter.specs.declared.Metered.{Metered}
 use Rattle.operator.proofs.Laws.{greatest-le-there}
-use Rattle.operator.proofs.WithinLaws.{kept-next}
+use Rattle.operator.proofs.PartsLaws.{kept-next}
 use Rattle.meter.proofs.MeterWithinLaws.{noted-next}
 use Rattle.run.specs.declared.Stage.{Stage}
 use Rattle.run.specs.declared.Run.{Run}

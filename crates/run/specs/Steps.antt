@@ -13,12 +13,12 @@ use Rattle.quantity.specs.declared.Slots.{Slots}
 use Rattle.quantity.specs.declared.refusal.Refusal.the-variants.{Unusable}
 use Rattle.operator.specs.Held.{Held}
 use Rattle.operator.specs.Single.{wordCount, holdsNext}
-use Rattle.operator.specs.Within.{keptOf, wordsKept}
+use Rattle.operator.specs.Parts.{keptOf, wordsKept}
 use Rattle.meter.specs.Meter.{meterWordCount, countedBefore}
 use Rattle.meter.specs.MeterWithin.{notedOf, wordsNoted}
 use Rattle.words.specs.Stored.{wordAt}
 use Rattle.meter.specs.declared.SourceMeter.{SourceMeter}
-use Rattle.operator.specs.declared.single.Kept.{Kept}
+use Rattle.operator.specs.declared.parts.Kept.{Kept}
 use Rattle.meter.specs.declared.Metered.{Metered}
 use Rattle.run.specs.Calls.{Call}
 use Rattle.run.specs.Runs.{meterWords, operatorWords, stageAt, meterIn, singleOf, singleIn, runUnusable}
@@ -83,7 +83,8 @@ meterWritten run words counted input = meterTaken (meterIn run) (notedOf (meterI
 
 stageNamed : Stage → Kept → Stage
 stageNamed stage (Kept.Next next) = record { operator = next .operator; held = next .held; beside = next .beside }
-stageNamed stage (Kept.Refused why) = stage
+stageNamed stage Kept.Unfit = stage
+stageNamed stage Kept.OutOfRange = stage
 
 -- a stage once its move is kept, and its words
 unfoldable pub stageWritten : Stage → Slots → List ℕ → Move → Stage

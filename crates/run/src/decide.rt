@@ -4,8 +4,8 @@ use crate::Run;
 use crate::Stage;
 use crate::single_of;
 use crate::slot::Outcome;
-use operator::single::Decided;
-use operator::single::decide;
+use operator::parts::Decided;
+use operator::parts::decide;
 use quantity::Slots;
 use quantity::Units;
 use quantity::refusal::Refusal;
@@ -15,7 +15,7 @@ ghost use Prim.Native.Nat.{ℕ, _<_};
 ghost use lib.ListN.{length, getD};
 ghost use Rattle.quantity.specs.Limits.{mostOperators};
 ghost use Rattle.quantity.specs.Sums.{listOf};
-ghost use Rattle.operator.specs.Within.{decidedOf};
+ghost use Rattle.operator.specs.Parts.{decidedOf};
 ghost use Rattle.run.specs.Calls.{choicesMiscounted, amountTooLarge, callOf};
 ghost use Rattle.run.specs.Runs.{runWordCount, operatorWords, singleOf, runUnusable};
 ghost use Rattle.run.specs.Watching.{unitsHeld};
@@ -58,27 +58,25 @@ pub(crate) fn decide_all(
     while k < count {
         let stage = stages[k];
         let units = held[k];
-        match decide_stage(stage, slot, words, k, units, arriving, Units(choices[k])) {
-            Decided::Refused(_) => {
-                return Plan {
-                    outcome: Outcome::Refused(Refusal::ChoiceAboveGreatest(k)),
-                    moves,
-                };
-            }
-            Decided::Sends {
-                output,
-                kept,
-                beside,
-            } => {
-                fits = fits && within(kept, beside);
-                moves[k] = Move {
-                    input: arriving,
-                    kept,
-                    beside,
-                };
-                arriving = output;
-            }
-        }
+        let Decided::Sends {
+            output,
+            kept,
+            beside,
+        } = decide_stage(stage, slot, words, k, units, arriving, Units(choices[k]))
+        else {
+            // all but the choice is tested before
+            return Plan {
+                outcome: Outcome::Refused(Refusal::ChoiceAboveGreatest(k)),
+                moves,
+            };
+        };
+        fits = fits && within(kept, beside);
+        moves[k] = Move {
+            input: arriving,
+            kept,
+            beside,
+        };
+        arriving = output;
         k += 1;
     }
     if fits {

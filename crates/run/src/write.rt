@@ -8,8 +8,8 @@ use crate::single_of;
 use meter::Metered;
 use meter::SourceMeter;
 use meter::note;
-use operator::single::Kept;
-use operator::single::keep;
+use operator::parts::Kept;
+use operator::parts::keep;
 use quantity::Slots;
 use quantity::Units;
 ghost use mathlib.Core.Path.{_≡_};
@@ -79,23 +79,21 @@ fn write_stage(stage: Stage, slot: Slots, words: &mut [u32], k: usize, moved: Mo
     let input = moved.input;
     let kept = moved.kept;
     let beside = moved.beside;
-    match keep(
+    let Kept::Next(next) = keep(
         single_of(stage, slot),
         &mut words[start..end],
         input,
         kept,
         beside,
-    ) {
-        Kept::Next(next) => {
-            let operator = next.operator;
-            let held = next.held;
-            let beside = next.beside;
-            Stage {
-                operator,
-                held,
-                beside,
-            }
-        }
-        Kept::Refused(_) => stage,
+    ) else {
+        return stage;
+    };
+    let operator = next.operator;
+    let held = next.held;
+    let beside = next.beside;
+    Stage {
+        operator,
+        held,
+        beside,
     }
 }

@@ -2,14 +2,16 @@
 -- It has the run's parts alone, so the invariant speaks of every run that has them. Behind the last operator only 1 is left.
 use Prim.Native.Nat.{_≤_, _-_}
 use mathlib.Core.Path.{_≡_, sym, _∙_}
+use mathlib.Core.List.{[], _∷_}
 use mathlib.Core.Logic.{⊎-elim}
+use types.Run.{OneOf}
 use native.Mathlib.Omega.{arith}
 use borrow.Author.Needs.{needs}
 use Rattle.quantity.specs.Choice.{both}
 use Rattle.run.specs.declared.Run.{Run}
 use Rattle.run.specs.Calls.{callOf}
 use Rattle.run.specs.Steps.{storable}
-use Rattle.run.proofs.DecideLaws.{both-first, both-none, Given, given, Deciding, deciding-start, decidedAt, decided-here, refused-above, sends-within, refused-plan, deciding-next, sent-plan, unusable-plan}
+use Rattle.run.proofs.DecideLaws.{both-first, both-none, Given, given, Deciding, deciding-start, decidedAt, decided-here, choice-above, sends-within, refused-plan, deciding-next, sent-plan, unusable-plan}
 use Rattle.run.proofs.decide.decide_all.Statement.{statement}
 use Rattle.run.proofs.decide.decide_all.Tie as tie
 
@@ -48,6 +50,10 @@ decided-all c =
     let ends : c .before .loop .k ≡ s .args .run .count = omega arith in
     rw ends at (c .before .loop .inv .1 (s .args .run) (known s))
 
+-- a decision that sends is none of the other three
+never : OneOf (1 ∷ 2 ∷ 3 ∷ []) 0 → ⊥
+never = ⊎-elim (λ e. omega arith) (⊎-elim (λ e. omega arith) (λ e. omega arith))
+
 no-move-requires : tie.Need-no-move-requires Inv-loop μ-loop
 no-move-requires c κs = search needs
 
@@ -75,21 +81,19 @@ shared-slice-read-t30 c = omega (arith, known (c .before .before .before .before
 decide-stage-requires : tie.Need-decide-stage-requires Inv-loop μ-loop
 decide-stage-requires c κs = (known (c .before .before .before .before .before .before .before .before .before .before) .usable .sized, omega (arith, few (c .before .before .before .before .before .before .before .before .before .before)))
 
-enum-told : tie.Need-enum-told Inv-loop μ-loop
-enum-told c = search needs
+enum-known-output : tie.Need-enum-known-output Inv-loop μ-loop
+enum-known-output c = search needs
 
 returns : tie.Need-returns Inv-loop μ-loop
 returns c =
-    let s = c .before .before .before .before .before .before .before .before .before .before .before .before .before in
-    let deciding = c .before .before .before .before .before .before .before .loop .inv .1 (s .args .run) (known s) in (
+    let told = c .before in
+    let s = told .before .before .before .before .before .before .before .before .before .before .before in
+    let deciding = told .before .before .before .before .before .loop .inv .1 (s .args .run) (known s) in (
       refused-plan (s .args .run) _ _ _ (deciding .passed)
-          (refused-above (s .args .run) _ _ _ (sym (c .enum-told .given .1) ∙ decided-at (c .before .before) (s .args .run) (known s)))
-          (c .before .before .before .before .before .before .loop-test .taken),
+          (choice-above (s .args .run) _ _ _ (decided-at told (s .args .run) (known s)) (λ output kept beside sends. never (rw sends at (c .match .keys2))))
+          (told .before .before .before .before .loop-test .taken),
       λ took. absurd took,
     )
-
-enum-known-output : tie.Need-enum-known-output Inv-loop μ-loop
-enum-known-output c = search needs
 
 within-requires : tie.Need-within-requires Inv-loop μ-loop
 within-requires c κs = search needs
@@ -139,9 +143,8 @@ decide-all-spec =
     mul-t21
     shared-slice-read-t30
     decide-stage-requires
-    enum-told
-    returns
     enum-known-output
+    returns
     within-requires
     mul-moves
     array-set-from-moves

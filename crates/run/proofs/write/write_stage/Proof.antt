@@ -1,6 +1,8 @@
 -- Stage k's words are lent, and are back as many.
 use mathlib.Core.Path.{sym, _∙_}
-use Rattle.run.proofs.WriteLaws.{stage-written}
+use mathlib.Core.Logic.{⊎-elim}
+use native.Mathlib.Omega.{arith}
+use Rattle.run.proofs.WriteLaws.{stage-stays, stage-written}
 use borrow.Author.Needs.{needs}
 use Rattle.run.proofs.write.write_stage.Statement.{statement}
 use Rattle.run.proofs.write.write_stage.Tie as tie
@@ -35,26 +37,24 @@ keep-requires c κs = search needs
 enum-known-next : tie.Need-enum-known-next
 enum-known-next c = search needs
 
-enum-told : tie.Need-enum-told
-enum-told c = search needs
-
 same-length : tie.Need-same-length
 same-length c = search needs
 
 returns : tie.Need-returns
 returns c =
-    let s = c .before .before .before .before .before .before .before .before .before .before .before .before .before .before in
-    let called = c .before .before .before .before .before .before .before in
-    stage-written _ _ _ _ _ (s .pre .0) (s .pre .1) (called .before .before .single-of .ensures) (sym (c .before .before .before .next .given .1) ∙ called .keep .ensures .0) (called .keep .ensures .1)
+    let called = c .before .before .before in
+    let s = called .before .before .before .before .before .before .before in
+    let (made, left) = stage-written _ _ _ _ _ (s .pre .0) (s .pre .1) (called .before .before .single-of .ensures) (called .keep .ensures .0) (called .keep .ensures .1) in
+    (stage-stays _ (called .keep .result) (λ next kept. ⊎-elim (λ e. omega arith) (λ e. omega arith) (rw kept at (c .match .keys2))) ∙ made, left)
 
 same-length-2 : tie.Need-same-length-2
 same-length-2 c = search needs
 
 returns-2 : tie.Need-returns-2
 returns-2 c =
-    let s = c .before .before .before .before .before .before .before .before .before .before .before in
-    let called = c .before .before .before .before in
-    stage-written _ _ _ _ _ (s .pre .0) (s .pre .1) (called .before .before .single-of .ensures) (sym (c .enum-told .given .1) ∙ called .keep .ensures .0) (called .keep .ensures .1)
+    let s = c .before .before .before .before .before .before .before .before .before .before .before .before .before .before in
+    let called = c .before .before .before .before .before .before .before in
+    stage-written _ _ _ _ _ (s .pre .0) (s .pre .1) (called .before .before .single-of .ensures) (sym (c .before .before .before .next .given .1) ∙ called .keep .ensures .0) (called .keep .ensures .1)
 
 pub write-stage-spec : {M : Type 1} → statement M
 write-stage-spec =
@@ -70,7 +70,6 @@ write-stage-spec =
     part-keep-end
     keep-requires
     enum-known-next
-    enum-told
     same-length
     returns
     same-length-2

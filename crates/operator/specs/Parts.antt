@@ -1,4 +1,4 @@
--- A step in three, for whoever runs several operators: test what is lent and stored, decide on numbers, keep what stays. Each is defined on all inputs.
+-- The parts of a slot: test what is lent and stored, decide on numbers, keep what stays. Each is defined on all inputs, and answers the first of its tests that stands.
 use Prim.Native.Nat.{ℕ, _+_, _-_, _*_, min}
 use mathlib.Core.Bool.{Bool, not}
 use mathlib.Core.List.{List, [], _∷_}
@@ -7,17 +7,15 @@ use lib.Dec.{ltb, eqb}
 use Rattle.quantity.specs.Choice.{pick, anyOf}
 use Rattle.quantity.specs.Sums.{total, listOf}
 use Rattle.quantity.specs.Limits.{largestAmount, lastSlot}
-use Rattle.quantity.specs.Refusals.{Case, _⇒_, firstOf}
-use Rattle.quantity.specs.declared.refusal.Refusal.the-variants.{Unusable, OutOfRange, ChoiceAboveGreatest}
 use Rattle.operator.specs.Held.{Held}
 use Rattle.operator.specs.Delayer.{ofAge}
 use Rattle.words.specs.Stored.{wordAt}
 use Rattle.operator.specs.Operators.{leastOutput, greatestOutput, heldAfter, numberInRange}
 use Rattle.operator.specs.Single.{wordCount, wordsUsed, usesHeld, holds, storedUnusable}
 use Rattle.operator.specs.declared.SingleOperator.{SingleOperator}
-use Rattle.operator.specs.declared.single.Stored.{Stored}
-use Rattle.operator.specs.declared.single.Decided.{Decided}
-use Rattle.operator.specs.declared.single.Kept.{Kept}
+use Rattle.operator.specs.declared.parts.Stored.{Stored}
+use Rattle.operator.specs.declared.parts.Decided.{Decided}
+use Rattle.operator.specs.declared.parts.Kept.{Kept}
 
 -- what an input is at the most within a path: what sixteen operators at the limit and an input can bring
 abbrev pub mostOnTheWay : ℕ
@@ -31,7 +29,7 @@ storedOf x words = pick (storedUnusable x words) Stored.Unusable (Stored.Holds (
 abbrev pub holdsWith : SingleOperator → List ℕ → ℕ → Held
 holdsWith x words b = record { b = b; h = x .beside .0; past = wordAt words }
 
--- 1 of a decision: the words have a wrong length, no slot number is left, an amount is above its limit
+-- the words have a wrong length, no slot number is left, an amount is above its limit
 unfoldable pub undecidable : SingleOperator → List ℕ → ℕ → ℕ → ℕ → Bool
 undecidable x words b input choice =
     anyOf
@@ -47,7 +45,7 @@ undecidable x words b input choice =
 unfoldable pub sentWith : SingleOperator → List ℕ → ℕ → ℕ → ℕ → ℕ
 sentWith x words b input choice = leastOutput (x .operator) (x .slot .0) (holdsWith x words b) input + choice
 
--- 14: the choice is above greatest minus least
+-- the choice is above greatest minus least
 unfoldable pub choiceAboveWith : SingleOperator → List ℕ → ℕ → ℕ → ℕ → Bool
 choiceAboveWith x words b input choice =
     ltb (greatestOutput (x .operator) (x .slot .0) (holdsWith x words b) input - leastOutput (x .operator) (x .slot .0) (holdsWith x words b) input) choice
@@ -56,30 +54,25 @@ choiceAboveWith x words b input choice =
 abbrev pub holdsOnce : SingleOperator → List ℕ → ℕ → ℕ → ℕ → Held
 holdsOnce x words b input s = heldAfter (x .operator) (holdsWith x words b) input s
 
--- Decide: what is sent, what stays and a filter's h then, whatever they are; or 1, 5 or 14
+-- Decide: what is sent, what stays and a filter's h then, whatever they are
 unfoldable pub decidedOf : SingleOperator → List ℕ → ℕ → ℕ → ℕ → Decided
 decidedOf x words b input choice =
-    firstOf
-    ((undecidable x words b input choice ⇒ Unusable)
-    ∷ (not (numberInRange (x .operator)) ⇒ OutOfRange 0)
-    ∷ (choiceAboveWith x words b input choice ⇒ ChoiceAboveGreatest 0)
-    ∷ [])
-    Decided.Refused
+    pick (undecidable x words b input choice) Decided.Undecidable
+    (pick (not (numberInRange (x .operator))) Decided.OutOfRange
+    (pick (choiceAboveWith x words b input choice) Decided.ChoiceAbove
     (Decided.Sends
     (record { 0 = sentWith x words b input choice })
     (record { 0 = holdsOnce x words b input (sentWith x words b input choice) .b })
-    (record { 0 = holdsOnce x words b input (sentWith x words b input choice) .h }))
+    (record { 0 = holdsOnce x words b input (sentWith x words b input choice) .h }))))
 
 -- of the units of age a, the input being of age 0, what stays where the newest stay, `kept` of them in all: the younger ones take their room first
 unfoldable pub newestOf : SingleOperator → List ℕ → ℕ → ℕ → ℕ → ℕ
 newestOf x words input kept a = min (ofAge (holds x words) input a) (kept - total (ofAge (holds x words) input) a)
 
--- 1 and 5 of keeping
-abbrev pub keepCases : SingleOperator → List ℕ → ℕ → ℕ → List Case
-keepCases x words kept beside =
-    (anyOf (not (eqb (length words) wordCount) ∷ ltb lastSlot (x .slot .0) ∷ ltb largestAmount kept ∷ ltb largestAmount beside ∷ []) ⇒ Unusable)
-    ∷ (not (numberInRange (x .operator)) ⇒ OutOfRange 0)
-    ∷ []
+-- the words have a wrong length, no slot number is left, or an amount is above the limit
+abbrev pub keepUnfit : SingleOperator → List ℕ → ℕ → ℕ → Bool
+keepUnfit x words kept beside =
+    anyOf (not (eqb (length words) wordCount) ∷ ltb lastSlot (x .slot .0) ∷ ltb largestAmount kept ∷ ltb largestAmount beside ∷ [])
 
 -- the state of the slot after, with so many units kept and so many beside
 unfoldable pub stateKept : SingleOperator → ℕ → ℕ → SingleOperator
@@ -97,8 +90,9 @@ wordKept x words input kept a = pick (ltb a (wordsUsed (x .operator))) (newestOf
 
 -- Keep: the state of the slot after
 unfoldable pub keptOf : SingleOperator → List ℕ → ℕ → ℕ → Kept
-keptOf x words kept beside = firstOf (keepCases x words kept beside) Kept.Refused (Kept.Next (stateKept x kept beside))
+keptOf x words kept beside = pick (keepUnfit x words kept beside) Kept.Unfit (pick (not (numberInRange (x .operator))) Kept.OutOfRange (Kept.Next (stateKept x kept beside)))
 
--- and what the words hold then: every unit is a slot older, the input is new; a refused call writes nothing
+-- and what the words hold then: every unit is a slot older, the input is new; where a test stands, nothing is written
 unfoldable pub wordsKept : SingleOperator → List ℕ → ℕ → ℕ → ℕ → List ℕ
-wordsKept x words input kept beside = firstOf (keepCases x words kept beside) (λ why. words) (listOf (wordKept x words input kept) wordCount)
+wordsKept x words input kept beside =
+    pick (keepUnfit x words kept beside) words (pick (not (numberInRange (x .operator))) words (listOf (wordKept x words input kept) wordCount))

@@ -9,8 +9,8 @@ use Rattle.words.specs.Stored.{wordAt, wordFits}
 use Rattle.words.specs.Scanning.{mostScanned}
 use Rattle.words.specs.declared.Scanned.{Scanned}
 use Rattle.words.proofs.ScanLaws.{scan-fits, scan-units}
-use Rattle.operator.proofs.single.scan.Statement.{statement}
-use Rattle.operator.proofs.single.scan.Tie as tie
+use Rattle.operator.proofs.parts.scan.Statement.{statement}
+use Rattle.operator.proofs.parts.scan.Tie as tie
 
 words-used-requires : tie.Need-words-used-requires
 words-used-requires c κs = search needs

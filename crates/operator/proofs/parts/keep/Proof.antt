@@ -9,10 +9,10 @@ use Rattle.operator.specs.Operators.{numberInRange}
 use Rattle.operator.specs.Single.{wordCount, holds}
 use Rattle.words.proofs.StoredLaws.{Fit, fit, unfitTests}
 use Rattle.operator.proofs.SingleLaws.{used-within}
-use Rattle.operator.proofs.WithinLaws.{kept-unusable, kept-outside, kept-newest}
+use Rattle.operator.proofs.PartsLaws.{kept-unfit, kept-outside, kept-newest}
 use borrow.Author.Needs.{needs}
-use Rattle.operator.proofs.single.keep.Statement.{statement}
-use Rattle.operator.proofs.single.keep.Tie as tie
+use Rattle.operator.proofs.parts.keep.Statement.{statement}
+use Rattle.operator.proofs.parts.keep.Tie as tie
 
 passed : (c : tie.Else1) →
     let start = c .before .before .before .args in
@@ -31,7 +31,7 @@ unfit-requires : tie.Need-unfit-requires
 unfit-requires c κs = search needs
 
 returns : tie.Need-returns
-returns c = kept-unusable _ _ _ _ _ (sym (c .before .unfit .ensures) ∙ c .if1 .taken)
+returns c = kept-unfit _ _ _ _ _ (sym (c .before .unfit .ensures) ∙ c .if1 .taken)
 
 number-in-range-requires : tie.Need-number-in-range-requires
 number-in-range-requires c κs = search needs
@@ -47,8 +47,8 @@ keep-newest-requires c κs =
     let known = tested (c .before .before .before .before) in
     (omega (arith, c .words-used .ensures, used-within _ (inside (c .before .before)), known .sized), known .first-le)
 
-add-t16 : tie.Need-add-t16
-add-t16 c = omega (arith, tested (c .before .before .before .before .before .before .before .before) .slot-left)
+add-t14 : tie.Need-add-t14
+add-t14 c = omega (arith, tested (c .before .before .before .before .before .before .before .before) .slot-left)
 
 held-apart-requires : tie.Need-held-apart-requires
 held-apart-requires c κs = search needs
@@ -74,7 +74,7 @@ keep-spec =
     returns-2
     words-used-requires
     keep-newest-requires
-    add-t16
+    add-t14
     held-apart-requires
     same-length
     returns-3)

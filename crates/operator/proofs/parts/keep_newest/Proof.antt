@@ -14,8 +14,8 @@ use Rattle.operator.specs.Held.{Held}
 use Rattle.operator.specs.Delayer.{ofAge}
 use Rattle.words.specs.Stored.{wordAt}
 use Rattle.operator.proofs.SingleLaws.{of-age-same}
-use Rattle.operator.proofs.single.keep_newest.Statement.{statement}
-use Rattle.operator.proofs.single.keep_newest.Tie as tie
+use Rattle.operator.proofs.parts.keep_newest.Statement.{statement}
+use Rattle.operator.proofs.parts.keep_newest.Tie as tie
 
 -- the units of each age, from the words and the input
 abbrev aged : List ℕ → ℕ → ℕ → ℕ

@@ -2,8 +2,8 @@
 use mathlib.Core.Path.{ap, sym}
 use Rattle.operator.specs.Single.{usesHeld}
 use borrow.Author.Needs.{needs}
-use Rattle.operator.proofs.single.uses_held.Statement.{statement}
-use Rattle.operator.proofs.single.uses_held.Tie as tie
+use Rattle.operator.proofs.parts.uses_held.Statement.{statement}
+use Rattle.operator.proofs.parts.uses_held.Tie as tie
 
 enum-told : tie.Need-enum-told
 enum-told c = search needs

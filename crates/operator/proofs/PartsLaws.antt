@@ -10,7 +10,6 @@ use borrow.Author.Tests.{ltb-true, ltb-false, lt-ltb, le-ltb}
 use Rattle.quantity.specs.Choice.{pick, either, anyOf}
 use Rattle.quantity.specs.Limits.{largestAmount}
 use Rattle.quantity.specs.Sums.{total, listOf}
-use Rattle.quantity.specs.declared.refusal.Refusal.the-variants.{Unusable, OutOfRange, ChoiceAboveGreatest}
 use Rattle.quantity.proofs.Laws.{pick-true, pick-false, either-false, either-first, either-second}
 use Rattle.quantity.proofs.Sums.{total-suc, total-le, total-first, length-listOf, getD-listOf, listOf-ext}
 use Rattle.operator.specs.Held.{Held, keeps}
@@ -23,12 +22,12 @@ use Rattle.operator.specs.Operators.{leastOutput, greatestOutput, heldAf
 use Rattle.operator.specs.Whole.{Whole}
 use Rattle.words.specs.Stored.{wordAt}
 use Rattle.operator.specs.Single.{wordCount, wordsUsed, usesHeld, holds, choiceAbove, leavesTooMuch, sent, holdsNext, stateNext, wordsNext}
-use Rattle.operator.specs.Within.{mostOnTheWay, holdsWith, undecidable, sentWith, choiceAboveWith, holdsOnce, decidedOf, newestOf, stateKept, wordKept, keptOf, wordsKept}
+use Rattle.operator.specs.Parts.{mostOnTheWay, holdsWith, undecidable, sentWith, choiceAboveWith, holdsOnce, decidedOf, newestOf, stateKept, wordKept, keptOf, wordsKept}
 use Rattle.operator.specs.declared.Operator.{Operator}
 use Rattle.operator.specs.declared.Operator.the-variants.{Limiter, Compactor, Expander, Filter, Delayer}
 use Rattle.operator.specs.declared.SingleOperator.{SingleOperator}
-use Rattle.operator.specs.declared.single.Decided.{Decided}
-use Rattle.operator.specs.declared.single.Kept.{Kept}
+use Rattle.operator.specs.declared.parts.Decided.{Decided}
+use Rattle.operator.specs.declared.parts.Kept.{Kept}
 use Rattle.operator.proofs.Conservation.{greatest-le-there, least-le-greatest}
 use Rattle.operator.proofs.Steps.{after-b}
 use Rattle.words.proofs.StoredLaws.{Fit, unfitTests, fit, amounts-tested, none-unfit, anyOf-append, either-last}
@@ -36,7 +35,7 @@ use Rattle.operator.proofs.SingleLaws.{Usable, b-le, beside-le, word-no
 
 -- What a decision answers.
 
--- 1 of a decision, in plain facts
+-- what can be decided, in plain facts
 pub record Decidable (x : SingleOperator) (words : List ℕ) (b input choice : ℕ) : Type 0 where
   pub fits : Fit (length words) wordCount (x .slot .0) b (x .beside .0)
   pub input-le : input ≤ mostOnTheWay
@@ -76,12 +75,12 @@ module _ (x : SingleOperator) (words : List ℕ) (b input choice : ℕ) where
         choice-le = ltb-false largestAmount choice choice-test;
       }
 
-  pub decided-unusable : undecidable x words b input choice ≡ true → Decided.Refused Unusable ≡ decidedOf x words b input choice
+  pub decided-undecidable : undecidable x words b input choice ≡ true → Decided.Undecidable ≡ decidedOf x words b input choice
   unfolding decidedOf
-  decided-unusable test = rw test
+  decided-undecidable test = rw test
 
   module _ (passed : undecidable x words b input choice ≡ false) where
-    pub decided-outside : numberInRange (x .operator) ≡ false → Decided.Refused (OutOfRange 0) ≡ decidedOf x words b input choice
+    pub decided-outside : numberInRange (x .operator) ≡ false → Decided.OutOfRange ≡ decidedOf x words b input choice
     unfolding decidedOf
     decided-outside outside = rw (passed, outside)
 
@@ -95,7 +94,7 @@ module _ (x : SingleOperator) (words : List ℕ) (b input choice : ℕ) where
       unfolding sentWith
       sent-same = ap (λ (l : ℕ). l + choice) low-same
 
-      pub decided-above : g - l < choice → Decided.Refused (ChoiceAboveGreatest 0) ≡ decidedOf x words b input choice
+      pub decided-above : g - l < choice → Decided.ChoiceAbove ≡ decidedOf x words b input choice
       unfolding decidedOf
       decided-above above = rw (passed, inside, choice-tested ∙ lt-ltb (g - l) choice above)
 
@@ -114,12 +113,12 @@ module _ (x : SingleOperator) (words : List ℕ) (input kept beside : ℕ) where
   abbrev Keeping : Kept → List ℕ → Type 0
   Keeping answer after = (answer ≡ keptOf x words kept beside) × (after ≡ wordsKept x words input kept beside)
 
-  pub kept-unusable : anyOf (unfitTests (length words) wordCount (x .slot .0) kept beside) ≡ true → Keeping (Kept.Refused Unusable) words
+  pub kept-unfit : anyOf (unfitTests (length words) wordCount (x .slot .0) kept beside) ≡ true → Keeping Kept.Unfit words
   unfolding keptOf wordsKept
-  kept-unusable test = (sym (pick-true _ _ _ test), sym (pick-true _ _ _ test))
+  kept-unfit test = (sym (pick-true _ _ _ test), sym (pick-true _ _ _ test))
 
   module _ (passed : anyOf (unfitTests (length words) wordCount (x .slot .0) kept beside) ≡ false) where
-    pub kept-outside : numberInRange (x .operator) ≡ false → Keeping (Kept.Refused (OutOfRange 0)) words
+    pub kept-outside : numberInRange (x .operator) ≡ false → Keeping Kept.OutOfRange words
     unfolding keptOf wordsKept
     kept-outside outside = (
       sym (pick-false _ _ _ passed ∙ pick-true _ _ _ (ap not outside)),
@@ -194,7 +193,7 @@ module _ (x : SingleOperator) (words : List ℕ) (stored : Usable x words) where
         greatest-le-there op t held input,
       )
 
-  -- 1 of a decision is then the choice's test alone
+  -- what cannot be decided is then a choice above the limit alone
   pub choice-alone : (input choice : ℕ) → input ≤ mostOnTheWay → undecidable x words (holds x words .b) input choice ≡ ltb largestAmount choice
   choice-alone input choice within =
       let fits : Fit (length words) wordCount (x .slot .0) (holds x words .b) (x .beside .0) = record {
@@ -208,7 +207,7 @@ module _ (x : SingleOperator) (words : List ℕ) (stored : Usable x words) where
   module _ (inside : numberInRange (x .operator) ≡ true) where
     pub decided-next : (input choice : ℕ) → input ≤ mostOnTheWay → choice ≤ largestAmount
         → decidedOf x words (holds x words .b) input choice
-        ≡ pick (choiceAbove x words input choice) (Decided.Refused (ChoiceAboveGreatest 0))
+        ≡ pick (choiceAbove x words input choice) Decided.ChoiceAbove
         (Decided.Sends (record { 0 = sent x words input choice }) (record { 0 = holdsNext x words input (sent x words input choice) .b }) (record { 0 = holdsNext x words input (sent x words input choice) .h }))
     unfolding decidedOf choiceAboveWith sentWith choiceAbove sent holdsNext holds
     decided-next input choice within fits =
@@ -261,12 +260,12 @@ module _ (x : SingleOperator) (words : List ℕ) (stored : Usable x words) where
           (sym answer ∙ ap Kept.Next state-next, sym after ∙ words-next)
 
       -- 1, tested last, is the test of what is kept
-      pub kept-or-refused : (more : Bool) → leavesTooMuch x words input s ≡ more
-          → (keptOf x words (holdsNext x words input s .b) (holdsNext x words input s .h) ≡ pick more (Kept.Refused Unusable) (Kept.Next (stateNext x words input s)))
+      pub kept-or-unfit : (more : Bool) → leavesTooMuch x words input s ≡ more
+          → (keptOf x words (holdsNext x words input s .b) (holdsNext x words input s .h) ≡ pick more Kept.Unfit (Kept.Next (stateNext x words input s)))
           × (wordsKept x words input (holdsNext x words input s .b) (holdsNext x words input s .h) ≡ pick more words (wordsNext x words input s))
-      kept-or-refused true leaves =
-          let (answer, after) = kept-unusable x words input b-next h-next (left-tested ∙ leaves) in
+      kept-or-unfit true leaves =
+          let (answer, after) = kept-unfit x words input b-next h-next (left-tested ∙ leaves) in
           (sym answer, sym after)
-      kept-or-refused false leaves =
+      kept-or-unfit false leaves =
           let fits = fit (length words) wordCount (x .slot .0) b-next h-next (left-tested ∙ leaves) in
           kept-next (fits .first-le) (fits .second-le)

@@ -12,8 +12,8 @@ use Rattle.operator.specs.Delayer.{delayerLeast}
 use Rattle.operator.specs.Operators.{leastOutput, numberInRange}
 use Rattle.operator.proofs.SingleLaws.{of-age-past}
 use borrow.Author.Needs.{needs}
-use Rattle.operator.proofs.single.least.Statement.{statement}
-use Rattle.operator.proofs.single.least.Tie as tie
+use Rattle.operator.proofs.parts.least.Statement.{statement}
+use Rattle.operator.proofs.parts.least.Tie as tie
 
 add-there : tie.Need-add-there
 add-there c = search needs

@@ -7,8 +7,8 @@ use Rattle.operator.specs.Filter.{besideAfter, filterAfter}
 use Rattle.operator.specs.Delayer.{delayerAfter}
 use Rattle.operator.specs.Operators.{heldAfter}
 use borrow.Author.Needs.{needs}
-use Rattle.operator.proofs.single.beside_after.Statement.{statement}
-use Rattle.operator.proofs.single.beside_after.Tie as tie
+use Rattle.operator.proofs.parts.beside_after.Statement.{statement}
+use Rattle.operator.proofs.parts.beside_after.Tie as tie
 
 enum-known-operator : tie.Need-enum-known-operator
 enum-known-operator c = search needs

@@ -1,9 +1,9 @@
 -- The tests in turn: the first that stands decides.
 use mathlib.Core.Path.{sym, _∙_}
-use Rattle.operator.proofs.WithinLaws.{undecidable-unfit, undecidable-input, undecidable-choice}
+use Rattle.operator.proofs.PartsLaws.{undecidable-unfit, undecidable-input, undecidable-choice}
 use borrow.Author.Needs.{needs}
-use Rattle.operator.proofs.single.undecidable.Statement.{statement}
-use Rattle.operator.proofs.single.undecidable.Tie as tie
+use Rattle.operator.proofs.parts.undecidable.Statement.{statement}
+use Rattle.operator.proofs.parts.undecidable.Tie as tie
 
 unfit-requires : tie.Need-unfit-requires
 unfit-requires c κs = search needs

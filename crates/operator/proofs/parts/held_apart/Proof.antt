@@ -2,8 +2,8 @@
 use mathlib.Core.Path.{sym, _∙_}
 use Rattle.quantity.proofs.Laws.{pick-true, pick-false}
 use borrow.Author.Needs.{needs}
-use Rattle.operator.proofs.single.held_apart.Statement.{statement}
-use Rattle.operator.proofs.single.held_apart.Tie as tie
+use Rattle.operator.proofs.parts.held_apart.Statement.{statement}
+use Rattle.operator.proofs.parts.held_apart.Tie as tie
 
 uses-held-requires : tie.Need-uses-held-requires
 uses-held-requires c κs = search needs

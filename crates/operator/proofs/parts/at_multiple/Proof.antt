@@ -4,8 +4,8 @@ use native.Mathlib.Omega.{arith}
 use borrow.Author.Tests.{eq-eqb, ne-eqb}
 use Rattle.quantity.proofs.Laws.{pick-true, pick-false}
 use borrow.Author.Needs.{needs}
-use Rattle.operator.proofs.single.at_multiple.Statement.{statement}
-use Rattle.operator.proofs.single.at_multiple.Tie as tie
+use Rattle.operator.proofs.parts.at_multiple.Statement.{statement}
+use Rattle.operator.proofs.parts.at_multiple.Tie as tie
 
 rem-if1 : tie.Need-rem-if1
 rem-if1 c = search needs

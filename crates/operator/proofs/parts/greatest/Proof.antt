@@ -6,8 +6,8 @@ use Rattle.operator.specs.Filter.{filterGreatest}
 use Rattle.operator.specs.Delayer.{delayerGreatest}
 use Rattle.operator.specs.Operators.{leastOutput, greatestOutput}
 use borrow.Author.Needs.{needs}
-use Rattle.operator.proofs.single.greatest.Statement.{statement}
-use Rattle.operator.proofs.single.greatest.Tie as tie
+use Rattle.operator.proofs.parts.greatest.Statement.{statement}
+use Rattle.operator.proofs.parts.greatest.Tie as tie
 
 enum-told : tie.Need-enum-told
 enum-told c = search needs

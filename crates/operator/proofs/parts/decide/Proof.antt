@@ -4,11 +4,11 @@ use mathlib.Core.Bool.{true, false}
 use native.Mathlib.Omega.{arith}
 use borrow.Author.Tests.{not-true, not-false}
 use Rattle.operator.specs.Operators.{numberInRange}
-use Rattle.operator.specs.Within.{undecidable}
-use Rattle.operator.proofs.WithinLaws.{Decidable, decidable, decided-unusable, decided-outside, decided-above, decided-sends}
+use Rattle.operator.specs.Parts.{undecidable}
+use Rattle.operator.proofs.PartsLaws.{Decidable, decidable, decided-undecidable, decided-outside, decided-above, decided-sends}
 use borrow.Author.Needs.{needs}
-use Rattle.operator.proofs.single.decide.Statement.{statement}
-use Rattle.operator.proofs.single.decide.Tie as tie
+use Rattle.operator.proofs.parts.decide.Statement.{statement}
+use Rattle.operator.proofs.parts.decide.Tie as tie
 
 passed : (c : tie.Else1) →
     let start = c .before .before .before .args in
@@ -27,7 +27,7 @@ undecidable-requires : tie.Need-undecidable-requires
 undecidable-requires c κs = search needs
 
 returns : tie.Need-returns
-returns c = decided-unusable _ _ _ _ _ (sym (c .before .undecidable .ensures) ∙ c .if1 .taken)
+returns c = decided-undecidable _ _ _ _ _ (sym (c .before .undecidable .ensures) ∙ c .if1 .taken)
 
 number-in-range-requires : tie.Need-number-in-range-requires
 number-in-range-requires c κs = search needs

@@ -7,8 +7,8 @@ use borrow.Author.Tests.{not-true, not-false}
 use Rattle.words.specs.Stored.{storedFits}
 use Rattle.operator.proofs.SingleLaws.{Usable, stored-refused, stored-found, held-le, b-sum}
 use borrow.Author.Needs.{needs}
-use Rattle.operator.proofs.single.stored_in.Statement.{statement}
-use Rattle.operator.proofs.single.stored_in.Tie as tie
+use Rattle.operator.proofs.parts.stored_in.Statement.{statement}
+use Rattle.operator.proofs.parts.stored_in.Tie as tie
 
 contradiction : {t : Bool} → t ≡ true → t ≡ false → ⊥
 contradiction e f = let z : _≡_ {A = ℕ} 0 1 = cc in omega arith

@@ -2,8 +2,8 @@
 use mathlib.Core.Path.{ap, sym}
 use Rattle.operator.specs.Single.{wordsUsed}
 use borrow.Author.Needs.{needs}
-use Rattle.operator.proofs.single.words_used.Statement.{statement}
-use Rattle.operator.proofs.single.words_used.Tie as tie
+use Rattle.operator.proofs.parts.words_used.Statement.{statement}
+use Rattle.operator.proofs.parts.words_used.Tie as tie
 
 enum-known-operator : tie.Need-enum-known-operator
 enum-known-operator c = search needs

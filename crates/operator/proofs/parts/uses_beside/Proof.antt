@@ -2,8 +2,8 @@
 use mathlib.Core.Path.{ap, sym}
 use Rattle.operator.specs.Single.{usesBeside}
 use borrow.Author.Needs.{needs}
-use Rattle.operator.proofs.single.uses_beside.Statement.{statement}
-use Rattle.operator.proofs.single.uses_beside.Tie as tie
+use Rattle.operator.proofs.parts.uses_beside.Statement.{statement}
+use Rattle.operator.proofs.parts.uses_beside.Tie as tie
 
 enum-told : tie.Need-enum-told
 enum-told c = search needs
