@@ -1,6 +1,6 @@
 pub mod MeterLaws
 pub mod Metering
 mod UsableMeter
-pub mod MeterWithinLaws
+pub mod PartsLaws
 mod MeterAnswers
 pub mod ReferenceMeters

@@ -1,4 +1,4 @@
 pub mod Meter
-pub mod MeterWithin
+pub mod Parts
 pub mod Metering
 pub mod Words

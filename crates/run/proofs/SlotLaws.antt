@@ -17,8 +17,8 @@ use Rattle.quantity.specs.declared.refusal.Refusal.{Refusal}
 use Rattle.quantity.specs.declared.refusal.Refusal.the-variants.{Unusable, InputBreaksDeclaration}
 use Rattle.quantity.proofs.Sums.{every-next}
 use Rattle.quantity.proofs.Refusals.{NoneStands, none-where-result, firstOf-none, FirstIs, none-or-first, first-answered}
-use Rattle.meter.specs.MeterWithin.{withinQuota}
-use Rattle.meter.proofs.MeterWithinLaws.{within-breaks}
+use Rattle.meter.specs.Parts.{withinQuota}
+use Rattle.meter.proofs.PartsLaws.{within-breaks}
 use Rattle.run.specs.declared.Run.{Run}
 use Rattle.run.specs.declared.decide.Move.{Move}
 use Rattle.run.specs.declared.slot.Outcome.{Outcome}

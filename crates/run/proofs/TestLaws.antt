@@ -14,7 +14,6 @@ use Rattle.quantity.specs.Choice.{pick, both}
 use Rattle.quantity.specs.Sums.{every, listOf}
 use Rattle.quantity.specs.declared.Slots.{Slots}
 use Rattle.quantity.specs.declared.Units.{Units}
-use Rattle.quantity.specs.declared.refusal.Refusal.{Refusal}
 use Rattle.quantity.specs.declared.refusal.Refusal.the-variants.{Unusable}
 use Rattle.quantity.proofs.Laws.{pick-true, pick-false}
 use Rattle.quantity.proofs.Sums.{both-true, every-next, length-listOf, getD-listOf, listOf-ext, every-fails, every-same}
@@ -23,14 +22,14 @@ use Rattle.operator.specs.Parts.{storedOf}
 use Rattle.operator.specs.Operators.{numberInRange}
 use Rattle.flow.specs.Declarations.{declarationInRange}
 use Rattle.meter.specs.Meter.{meterUnusable}
-use Rattle.meter.specs.MeterWithin.{countedOf}
+use Rattle.meter.specs.Parts.{countedOf}
 use Rattle.operator.specs.declared.Operator.{Operator}
 use Rattle.operator.specs.declared.Operator.the-variants.{Limiter, Compactor, Expander, Filter, Delayer}
 use Rattle.operator.specs.declared.SingleOperator.{SingleOperator}
 use Rattle.operator.specs.declared.parts.Stored.{Stored}
-use Rattle.meter.specs.declared.Counted.{Counted}
+use Rattle.meter.specs.declared.parts.Counted.{Counted}
 use Rattle.operator.proofs.SingleLaws.{stored-usable, stored-holds, stored-is-unusable}
-use Rattle.meter.proofs.MeterWithinLaws.{counted-unusable, counted-next}
+use Rattle.meter.proofs.PartsLaws.{counted-unusable, counted-next}
 use Rattle.sheet.specs.declared.read.Verdict.{Verdict}
 use Rattle.run.specs.declared.Stage.{Stage}
 use Rattle.run.specs.declared.Run.{Run}
@@ -181,12 +180,14 @@ module _ (run : Run) (words : List ℕ) (declared : declarationInRange (run .dec
   unfolding countedIn
   counted-usable usable = counted-next (meterIn run) (meterWords words) usable ranged
 
-  pub meter-refused : {why : Refusal} → Counted.Refused why ≡ countedOf (meterIn run) (meterWords words) → meterUnusable (meterIn run) (meterWords words) ≡ true
-  meter-refused {why} answered = by-test (meterUnusable (meterIn run) (meterWords words)) refl
+  -- what is not counted is unusable
+  pub meter-uncounted : {answer : Counted} → answer ≡ countedOf (meterIn run) (meterWords words) → ((counted : Units) → answer ≡ Counted.Before counted → ⊥)
+      → meterUnusable (meterIn run) (meterWords words) ≡ true
+  meter-uncounted answered never = by-test (meterUnusable (meterIn run) (meterWords words)) refl
     where
       by-test : (t : Bool) → meterUnusable (meterIn run) (meterWords words) ≡ t → t ≡ true
       by-test true e = refl
-      by-test false e = let clash = answered ∙ counted-usable e in (cc)
+      by-test false e = absurd (never _ (answered ∙ counted-usable e))
 
   pub meter-counted : {counted : Units} → Counted.Before counted ≡ countedOf (meterIn run) (meterWords words)
       → (meterUnusable (meterIn run) (meterWords words) ≡ false) × (counted ≡ record { 0 = countedIn run words })

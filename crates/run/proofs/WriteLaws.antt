@@ -1,7 +1,7 @@
 -- Writing operator by operator: before stage k the words of the meter and of the stages before it are written, and every other is as it was. Behind the last stage that is what a slot writes.
 use mathlib.Core.Path.{_≡_, refl, ap, sym, _∙_}
 use mathlib.Core.Bool.{Bool, true, false, not}
-use mathlib.Core.List.{List, [], _∷_, _++_}
+use mathlib.Core.List.{List, _++_}
 use mathlib.Core.Logic.{_⊎_, inl, inr, ⊎-elim}
 use Prim.Native.Nat.{ℕ, _+_, _-_, _/_, _%_, _<_}
 use native.Mathlib.Nat.{eq-or-lt-of-le, lt-of-not-le, zero-add, div-add-mod', mod-lt}
@@ -14,7 +14,6 @@ use borrow.Author.Tests.{ltb-true, ltb-false, lt-ltb, le-ltb}
 use Rattle.quantity.specs.Limits.{mostOperators}
 use Rattle.quantity.specs.Choice.{pick}
 use Rattle.quantity.specs.Sums.{listOf}
-use Rattle.quantity.specs.Refusals.{Case, firstOf}
 use Rattle.quantity.specs.declared.Slots.{Slots}
 use Rattle.quantity.proofs.Laws.{pick-true, pick-false}
 use Rattle.quantity.proofs.Sums.{length-listOf, listOf-ext}
@@ -22,12 +21,13 @@ use Rattle.words.specs.Stored.{wordAt}
 use Rattle.operator.specs.Operators.{numberInRange}
 use Rattle.operator.specs.Single.{wordCount}
 use Rattle.operator.specs.Parts.{keepUnfit, keptOf, wordKept, wordsKept}
+use Rattle.flow.specs.Declarations.{declarationInRange}
 use Rattle.meter.specs.Meter.{meterWordCount, meterWordNext}
-use Rattle.meter.specs.MeterWithin.{noteCases, notedOf, wordsNoted}
+use Rattle.meter.specs.Parts.{withinQuota, noteUnfit, notedOf, wordsNoted}
 use Rattle.operator.specs.declared.SingleOperator.{SingleOperator}
 use Rattle.meter.specs.declared.SourceMeter.{SourceMeter}
 use Rattle.operator.specs.declared.parts.Kept.{Kept}
-use Rattle.meter.specs.declared.Metered.{Metered}
+use Rattle.meter.specs.declared.parts.Noted.{Noted}
 use Rattle.sheet.specs.Bodies.{part}
 use Rattle.run.specs.declared.Stage.{Stage}
 use Rattle.run.specs.declared.Run.{Run}
@@ -44,16 +44,12 @@ length-either : (n : ℕ) (t : Bool) (words next : List ℕ) → length words �
 length-either n true words next was will = was
 length-either n false words next was will = will
 
-module _ (n : ℕ) (words next : List ℕ) (was : length words ≡ n) (will : length next ≡ n) where
-  length-firstOf : (cs : List Case) → length (firstOf cs (λ why. words) next) ≡ n
-  length-firstOf [] = will
-  length-firstOf (c ∷ cs) = length-either n (c .stands) words (firstOf cs (λ why. words) next) was (length-firstOf cs)
-
 length-noted : (x : SourceMeter) (words : List ℕ) (counted input : ℕ) → length words ≡ meterWordCount → length (wordsNoted x words counted input) ≡ meterWordCount
 unfolding wordsNoted
 length-noted x words counted input size =
-    length-firstOf meterWordCount words (listOf (meterWordNext x words input) meterWordCount) size (length-listOf (meterWordNext x words input) meterWordCount)
-    (noteCases x words counted input)
+    length-either meterWordCount (noteUnfit x words counted input) words _ size
+    (length-either meterWordCount (not (declarationInRange (x .declaration))) words _ size
+    (length-either meterWordCount (not (withinQuota (x .declaration) counted input)) words _ size (length-listOf (meterWordNext x words input) meterWordCount)))
 
 length-stage : (stage : Stage) (slot : Slots) (words : List ℕ) (moved : Move) → length words ≡ wordCount → length (stageWords stage slot words moved) ≡ wordCount
 unfolding stageWords wordsKept
@@ -72,20 +68,30 @@ meter-word words sized j less = part-at 0 meterWordCount words (omega arith) j l
 
 -- The meter.
 
-abbrev pub meterThen : SourceMeter → Metered → SourceMeter
-meterThen meter (Metered.Taken next) = next
-meterThen meter (Metered.Refused why) = meter
+abbrev pub meterThen : SourceMeter → Noted → SourceMeter
+meterThen meter (Noted.Next next) = next
+meterThen meter Noted.Unfit = meter
+meterThen meter Noted.OutOfRange = meter
+meterThen meter Noted.AboveQuota = meter
+
+pub meter-stays : (meter : SourceMeter) (answer : Noted) → ((next : SourceMeter) → answer ≡ Noted.Next next → ⊥) → meter ≡ meterThen meter answer
+meter-stays meter (Noted.Next next) never = absurd (never next refl)
+meter-stays meter Noted.Unfit never = refl
+meter-stays meter Noted.OutOfRange never = refl
+meter-stays meter Noted.AboveQuota never = refl
 
 module _ (run : Run) (words : List ℕ) (counted input : ℕ) where
   abbrev noted : List ℕ
   noted = wordsNoted (meterIn run) (meterWords words) counted input
 
-  meter-taken : (answer : Metered) → answer ≡ notedOf (meterIn run) (meterWords words) counted input → meterThen (meterIn run) answer ≡ meterWritten run words counted input
+  meter-taken : (answer : Noted) → answer ≡ notedOf (meterIn run) (meterWords words) counted input → meterThen (meterIn run) answer ≡ meterWritten run words counted input
   unfolding meterWritten
-  meter-taken (Metered.Taken next) e = rw (← e)
-  meter-taken (Metered.Refused why) e = rw (← e)
+  meter-taken (Noted.Next next) e = rw (← e)
+  meter-taken Noted.Unfit e = rw (← e)
+  meter-taken Noted.OutOfRange e = rw (← e)
+  meter-taken Noted.AboveQuota e = rw (← e)
 
-  pub meter-written : length words ≡ runWordCount → {meter : SourceMeter} → meter ≡ meterIn run → {answer : Metered} → answer ≡ notedOf meter (meterWords words) counted input
+  pub meter-written : length words ≡ runWordCount → {meter : SourceMeter} → meter ≡ meterIn run → {answer : Noted} → answer ≡ notedOf meter (meterWords words) counted input
       → {new : List ℕ} → new ≡ wordsNoted meter (meterWords words) counted input
       → (meterThen meter answer ≡ meterWritten run words counted input) × (take 0 words ++ (new ++ drop meterWordCount (drop 0 words)) ≡ withPart 0 noted words)
   meter-written sized same {answer} answered left =

@@ -17,13 +17,13 @@ use Rattle.words.specs.Stored.{wordAt}
 use Rattle.operator.specs.Single.{wordCount, holds, holdsNext, leavesTooMuch, stateNext, wordsNext}
 use Rattle.operator.specs.Parts.{keptOf, wordsKept}
 use Rattle.meter.specs.Meter.{meterWordCount, meterNext, meterWordNext}
-use Rattle.meter.specs.MeterWithin.{notedOf, wordsNoted}
+use Rattle.meter.specs.Parts.{notedOf, wordsNoted}
 use Rattle.operator.specs.declared.SingleOperator.{SingleOperator}
 use Rattle.operator.specs.declared.parts.Kept.{Kept}
-use Rattle.meter.specs.declared.Metered.{Metered}
+use Rattle.meter.specs.declared.parts.Noted.{Noted}
 use Rattle.operator.proofs.Laws.{greatest-le-there}
 use Rattle.operator.proofs.PartsLaws.{kept-next}
-use Rattle.meter.proofs.MeterWithinLaws.{noted-next}
+use Rattle.meter.proofs.PartsLaws.{noted-next}
 use Rattle.run.specs.declared.Stage.{Stage}
 use Rattle.run.specs.declared.Run.{Run}
 use Rattle.run.specs.declared.decide.Move.{Move}
@@ -47,7 +47,7 @@ module _ (run : Run) (words : List ℕ) (call : Call) (none : NoneStands (slotCa
   unfolding amountTooLarge
   input-small = ltb-false largestAmount (call .input) (either-false (ltb largestAmount (call .input)) _ (none .1 .0) .0)
 
-  meter-noted : (notedOf (meterIn run) (meterWords words) (countedIn run words) (call .input) ≡ Metered.Taken (meterNext (meterIn run) (meterWords words) (call .input)))
+  meter-noted : (notedOf (meterIn run) (meterWords words) (countedIn run words) (call .input) ≡ Noted.Next (meterNext (meterIn run) (meterWords words) (call .input)))
       × (wordsNoted (meterIn run) (meterWords words) (countedIn run words) (call .input) ≡ listOf (meterWordNext (meterIn run) (meterWords words) (call .input)) meterWordCount)
   unfolding countedIn meterIn slotBreaks
   meter-noted = noted-next (meterIn run) (meterWords words) (call .input) (passed .meter) (passed .declared) input-small (none .1 .1 .1 .0)

@@ -15,11 +15,11 @@ use Rattle.operator.specs.Held.{Held}
 use Rattle.operator.specs.Single.{wordCount, holdsNext}
 use Rattle.operator.specs.Parts.{keptOf, wordsKept}
 use Rattle.meter.specs.Meter.{meterWordCount, countedBefore}
-use Rattle.meter.specs.MeterWithin.{notedOf, wordsNoted}
+use Rattle.meter.specs.Parts.{notedOf, wordsNoted}
 use Rattle.words.specs.Stored.{wordAt}
 use Rattle.meter.specs.declared.SourceMeter.{SourceMeter}
 use Rattle.operator.specs.declared.parts.Kept.{Kept}
-use Rattle.meter.specs.declared.Metered.{Metered}
+use Rattle.meter.specs.declared.parts.Noted.{Noted}
 use Rattle.run.specs.Calls.{Call}
 use Rattle.run.specs.Runs.{meterWords, operatorWords, stageAt, meterIn, singleOf, singleIn, runUnusable}
 use Rattle.run.specs.Slots.{inputInto, choiceCases, slotLeavesTooMuch, slotOutput}
@@ -72,14 +72,16 @@ planOf run words call =
 unfoldable pub withPart : ℕ → List ℕ → List ℕ → List ℕ
 withPart at new words = take at words ++ (new ++ drop (at + length new) words)
 
-meterTaken : SourceMeter → Metered → SourceMeter
-meterTaken meter (Metered.Taken next) = next
-meterTaken meter (Metered.Refused why) = meter
+meterNamed : SourceMeter → Noted → SourceMeter
+meterNamed meter (Noted.Next next) = next
+meterNamed meter Noted.Unfit = meter
+meterNamed meter Noted.OutOfRange = meter
+meterNamed meter Noted.AboveQuota = meter
 
 -- the meter once the input is noted
 unfoldable pub meterWritten : Run → List ℕ → ℕ → ℕ → SourceMeter
-unfolding meterTaken
-meterWritten run words counted input = meterTaken (meterIn run) (notedOf (meterIn run) (meterWords words) counted input)
+unfolding meterNamed
+meterWritten run words counted input = meterNamed (meterIn run) (notedOf (meterIn run) (meterWords words) counted input)
 
 stageNamed : Stage → Kept → Stage
 stageNamed stage (Kept.Next next) = record { operator = next .operator; held = next .held; beside = next .beside }

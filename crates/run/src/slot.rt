@@ -4,7 +4,7 @@ use crate::Run;
 use crate::decide::decide_all;
 use crate::test::test;
 use crate::write::write;
-use meter::within_quota;
+use meter::parts::within_quota;
 use quantity::Units;
 use quantity::refusal::Refusal;
 ghost use mathlib.Core.Path.{_≡_};

@@ -4,8 +4,8 @@ use crate::Run;
 use crate::Stage;
 use crate::meter_of;
 use crate::single_of;
-use meter::Counted;
-use meter::counted_before;
+use meter::parts::Counted;
+use meter::parts::counted_before;
 use operator::Operator;
 use operator::parts::Stored;
 use operator::parts::stored_in;
@@ -46,20 +46,19 @@ pub(crate) fn test(run: Run, words: &[u32]) -> Tested
     if !declaration.in_range() {
         return not_tested();
     }
-    match counted_before(meter_of(run), &words[0..crate::METER_WORDS]) {
-        Counted::Refused(_) => not_tested(),
-        Counted::Before(counted) => {
-            let stages = test_stages(run, words);
-            if !stages.fit {
-                return not_tested();
-            }
-            let held = stages.held;
-            Tested {
-                usable: true,
-                counted,
-                held,
-            }
-        }
+    let Counted::Before(counted) = counted_before(meter_of(run), &words[0..crate::METER_WORDS])
+    else {
+        return not_tested();
+    };
+    let stages = test_stages(run, words);
+    if !stages.fit {
+        return not_tested();
+    }
+    let held = stages.held;
+    Tested {
+        usable: true,
+        counted,
+        held,
     }
 }
 

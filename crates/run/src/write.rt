@@ -5,9 +5,9 @@ use crate::Stage;
 use crate::decide::Move;
 use crate::meter_of;
 use crate::single_of;
-use meter::Metered;
 use meter::SourceMeter;
-use meter::note;
+use meter::parts::Noted;
+use meter::parts::note;
 use operator::parts::Kept;
 use operator::parts::keep;
 use quantity::Slots;
@@ -17,7 +17,7 @@ ghost use Prim.Native.Nat.{_≤_, _<_};
 ghost use lib.ListN.{length};
 ghost use Rattle.quantity.specs.Limits.{mostOperators};
 ghost use Rattle.quantity.specs.Sums.{listOf};
-ghost use Rattle.meter.specs.MeterWithin.{wordsNoted};
+ghost use Rattle.meter.specs.Parts.{wordsNoted};
 ghost use Rattle.run.specs.Runs.{runWordCount, operatorAtWord, meterWords, operatorWords, meterIn};
 ghost use Rattle.run.specs.Steps.{withPart, meterWritten, stageWritten, stageWords, runWritten, wordWritten};
 
@@ -62,10 +62,10 @@ fn write_meter(run: Run, words: &mut [u32], counted: Units, input: Units) -> Sou
     ensures { λ r. ⌜ now (words .exit) ≡ withPart 0 (wordsNoted (meterIn run) (meterWords (now (words .entry))) (counted .0) (input .0)) (now (words .entry)) ⌝ }
 {
     let meter = meter_of(run);
-    match note(meter, &mut words[0..crate::METER_WORDS], counted, input) {
-        Metered::Taken(next) => next,
-        Metered::Refused(_) => meter,
-    }
+    let Noted::Next(next) = note(meter, &mut words[0..crate::METER_WORDS], counted, input) else {
+        return meter;
+    };
+    next
 }
 
 // Stage k and its words.

@@ -5,7 +5,7 @@ use borrow.Author.Needs.{needs}
 use borrow.Author.Tests.{not-true, not-false}
 use Rattle.quantity.specs.Limits.{mostOperators}
 use Rattle.quantity.specs.Sums.{listOf}
-use Rattle.meter.specs.MeterWithin.{withinQuota}
+use Rattle.meter.specs.Parts.{withinQuota}
 use Rattle.run.specs.Calls.{Call, choicesMiscounted, amountTooLarge, callOf}
 use Rattle.run.specs.Runs.{runUnusable}
 use Rattle.run.specs.Steps.{countedIn}

@@ -1,15 +1,16 @@
 -- Any test that fails refuses; past all of them the run can be used.
 use mathlib.Core.Path.{_≡_, sym, _∙_}
 use mathlib.Core.Bool.{Bool, true, false}
+use mathlib.Core.Logic.{⊎-elim}
 use Prim.Native.Nat.{ℕ}
 use native.Mathlib.Omega.{arith}
 use borrow.Author.Tests.{not-true, not-false}
 use Rattle.flow.specs.Declarations.{declarationInRange}
-use Rattle.meter.specs.MeterWithin.{countedOf}
+use Rattle.meter.specs.Parts.{countedOf}
 use Rattle.sheet.specs.Bodies.{part}
 use Rattle.run.specs.Runs.{meterIn, meterWords}
 use Rattle.run.proofs.UsableRun.{UsableRun}
-use Rattle.run.proofs.TestLaws.{meter-refused, meter-counted, tested-not, tested-usable}
+use Rattle.run.proofs.TestLaws.{meter-uncounted, meter-counted, tested-not, tested-usable}
 use borrow.Author.Needs.{needs}
 use Rattle.run.proofs.test.test.Statement.{statement}
 use Rattle.run.proofs.test.test.Tie as tie
@@ -80,14 +81,22 @@ part-counted-before-end c = search needs
 counted-before-requires : tie.Need-counted-before-requires
 counted-before-requires c κs = search needs
 
-enum-told : tie.Need-enum-told
-enum-told c = search needs
+enum-known-counted : tie.Need-enum-known-counted
+enum-known-counted c = search needs
 
 not-tested-requires-5 : tie.Need-not-tested-requires-5
 not-tested-requires-5 c κs = search needs
 
-enum-known-counted : tie.Need-enum-known-counted
-enum-known-counted c = search needs
+returns-5 : tie.Need-returns-5
+returns-5 c =
+    let counted = c .before .before in
+    let start = counted .before .before .before .before .before .before .before .before .before .before in
+    c .not-tested5 .ensures
+    ∙ tested-not (start .args .run) (start .args .words .now)
+    (λ usable.
+    contradiction
+    (meter-uncounted (start .args .run) (start .args .words .now) (in-range (counted .before .before .before)) (answered counted)
+    (λ units before. ⊎-elim (λ e. omega arith) (λ e. omega arith) (rw before at (c .before .match .keys2)))) (usable .meter))
 
 test-stages-requires : tie.Need-test-stages-requires
 test-stages-requires c κs = search needs
@@ -95,22 +104,13 @@ test-stages-requires c κs = search needs
 not-tested-requires-6 : tie.Need-not-tested-requires-6
 not-tested-requires-6 c κs = search needs
 
-returns-5 : tie.Need-returns-5
-returns-5 c =
+returns-6 : tie.Need-returns-6
+returns-6 c =
     let stages = c .before .before .before in
     let start = stages .before .before .before .before .before .before .before .before .before .before .before .before .before .before in
     c .not-tested6 .ensures
     ∙ tested-not (start .args .run) (start .args .words .now)
     (λ usable. contradiction (usable .stages) (sym (stages .test-stages .ensures .0) ∙ not-true _ (c .before .if5 .taken)))
-
-returns-6 : tie.Need-returns-6
-returns-6 c =
-    let counted = c .before .before .before in
-    let start = counted .before .before .before .before .before .before .before .before .before .before in
-    c .not-tested5 .ensures
-    ∙ tested-not (start .args .run) (start .args .words .now)
-    (λ usable.
-    contradiction (meter-refused (start .args .run) (start .args .words .now) (in-range (counted .before .before .before)) (sym (c .before .enum-told .given .1) ∙ answered counted)) (usable .meter))
 
 returns-7 : tie.Need-returns-7
 returns-7 c =
@@ -151,11 +151,10 @@ test-spec =
     part-counted-before-start
     part-counted-before-end
     counted-before-requires
-    enum-told
-    not-tested-requires-5
     enum-known-counted
+    not-tested-requires-5
+    returns-5
     test-stages-requires
     not-tested-requires-6
-    returns-5
     returns-6
     returns-7)

@@ -1,8 +1,10 @@
 -- The meter's words are lent, and are back as many.
 use mathlib.Core.Path.{sym, _∙_}
+use mathlib.Core.Logic.{⊎-elim}
+use native.Mathlib.Omega.{arith}
 use Rattle.sheet.specs.Bodies.{part}
 use Rattle.run.specs.Runs.{meterWords}
-use Rattle.run.proofs.WriteLaws.{meter-written}
+use Rattle.run.proofs.WriteLaws.{meter-stays, meter-written}
 use borrow.Author.Needs.{needs}
 use Rattle.run.proofs.write.write_meter.Statement.{statement}
 use Rattle.run.proofs.write.write_meter.Tie as tie
@@ -25,22 +27,24 @@ note-requires c κs = search needs
 enum-known-next : tie.Need-enum-known-next
 enum-known-next c = search needs
 
-enum-told : tie.Need-enum-told
-enum-told c = search needs
-
 same-length : tie.Need-same-length
 same-length c = search needs
 
 returns : tie.Need-returns
 unfolding meterWords part
-returns c = meter-written _ _ _ _ (c .before .before .before .before .before .before .before .before .before .pre) (c .before .before .before .before .before .before .before .meter-of .ensures) (sym (c .before .next .given .1) ∙ c .before .before .before .before .before .note .ensures .0) (c .before .before .before .before .before .note .ensures .1)
+returns c =
+    let called = c .before .before .before in
+    let (made, left) = meter-written _ _ _ _ (called .before .before .before .before .pre) (called .before .before .meter-of .ensures) (called .note .ensures .0) (called .note .ensures .1) in
+    (meter-stays _ (called .note .result) (λ next noted. ⊎-elim (λ e. omega arith) (⊎-elim (λ e. omega arith) (λ e. omega arith)) (rw noted at (c .match .keys2))) ∙ made, left)
 
 same-length-2 : tie.Need-same-length-2
 same-length-2 c = search needs
 
 returns-2 : tie.Need-returns-2
 unfolding meterWords part
-returns-2 c = meter-written _ _ _ _ (c .before .before .before .before .before .before .before .before .pre) (c .before .before .before .before .before .before .meter-of .ensures) (sym (c .enum-told .given .1) ∙ c .before .before .before .before .note .ensures .0) (c .before .before .before .before .note .ensures .1)
+returns-2 c =
+    let called = c .before .before .before .before .before in
+    meter-written _ _ _ _ (called .before .before .before .before .pre) (called .before .before .meter-of .ensures) (sym (c .before .next .given .1) ∙ called .note .ensures .0) (called .note .ensures .1)
 
 pub write-meter-spec : {M : Type 1} → statement M
 write-meter-spec =
@@ -52,7 +56,6 @@ write-meter-spec =
     part-note-end
     note-requires
     enum-known-next
-    enum-told
     same-length
     returns
     same-length-2

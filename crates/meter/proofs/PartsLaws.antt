@@ -11,29 +11,28 @@ use borrow.Author.Tests.{eqb-true, eqb-false, leb-true, leb-false, lt-ltb, le-lt
 use Rattle.quantity.specs.Choice.{pick, anyOf}
 use Rattle.quantity.specs.Limits.{largestAmount}
 use Rattle.quantity.specs.Sums.{listOf}
-use Rattle.quantity.specs.declared.refusal.Refusal.the-variants.{Unusable, OutOfRange, InputBreaksDeclaration}
 use Rattle.quantity.proofs.Laws.{pick-true, pick-false}
 use Rattle.quantity.proofs.Sums.{listOf-ext}
 use Rattle.flow.specs.Declarations.{declarationInRange}
 use Rattle.words.specs.Stored.{wordAt}
 use Rattle.meter.specs.Meter.{meterWordCount, usesBlock, meterUnusable, countedBefore, inputBreaks, meterNext, meterWordNext}
-use Rattle.meter.specs.MeterWithin.{countedOf, withinQuota, meterNoted, notedOf, wordsNoted}
+use Rattle.meter.specs.Parts.{countedOf, withinQuota, meterNoted, notedOf, wordsNoted}
 use Rattle.flow.specs.declared.Declaration.{Declaration}
 use Rattle.meter.specs.declared.SourceMeter.{SourceMeter}
-use Rattle.meter.specs.declared.Counted.{Counted}
-use Rattle.meter.specs.declared.Metered.{Metered}
+use Rattle.meter.specs.declared.parts.Counted.{Counted}
+use Rattle.meter.specs.declared.parts.Noted.{Noted}
 use Rattle.words.proofs.StoredLaws.{unfitTests, fit, none-unfit}
 use Rattle.meter.proofs.UsableMeter.{usable-meter, declaration-ranged, slot-within}
 
 -- What the count answers.
 
 module _ (x : SourceMeter) (words : List ℕ) where
-  pub counted-unusable : meterUnusable x words ≡ true → Counted.Refused Unusable ≡ countedOf x words
+  pub counted-unusable : meterUnusable x words ≡ true → Counted.Unusable ≡ countedOf x words
   unfolding countedOf
   counted-unusable unusable = rw unusable
 
   module _ (usable : meterUnusable x words ≡ false) where
-    pub counted-outside : declarationInRange (x .declaration) ≡ false → Counted.Refused (OutOfRange 0) ≡ countedOf x words
+    pub counted-outside : declarationInRange (x .declaration) ≡ false → Counted.OutOfRange ≡ countedOf x words
     unfolding countedOf
     counted-outside outside = rw (usable, outside)
 
@@ -79,15 +78,15 @@ stateAfter x block = record { declaration = x .declaration; slot = record { 0 = 
 
 module _ (x : SourceMeter) (words : List ℕ) (counted input : ℕ) where
   -- what is answered, and what the words are then
-  abbrev Noting : Metered → List ℕ → Type 0
+  abbrev Noting : Noted → List ℕ → Type 0
   Noting answer after = (answer ≡ notedOf x words counted input) × (after ≡ wordsNoted x words counted input)
 
-  pub noted-unusable : anyOf (unfitTests (length words) meterWordCount (x .slot .0) counted input) ≡ true → Noting (Metered.Refused Unusable) words
+  pub noted-unfit : anyOf (unfitTests (length words) meterWordCount (x .slot .0) counted input) ≡ true → Noting Noted.Unfit words
   unfolding notedOf wordsNoted
-  noted-unusable test = (sym (pick-true _ _ _ test), sym (pick-true _ _ _ test))
+  noted-unfit test = (sym (pick-true _ _ _ test), sym (pick-true _ _ _ test))
 
   module _ (passed : anyOf (unfitTests (length words) meterWordCount (x .slot .0) counted input) ≡ false) where
-    pub noted-outside : declarationInRange (x .declaration) ≡ false → Noting (Metered.Refused (OutOfRange 0)) words
+    pub noted-outside : declarationInRange (x .declaration) ≡ false → Noting Noted.OutOfRange words
     unfolding notedOf wordsNoted
     noted-outside outside = (
       sym (pick-false _ _ _ passed ∙ pick-true _ _ _ (ap not outside)),
@@ -95,15 +94,15 @@ module _ (x : SourceMeter) (words : List ℕ) (counted input : ℕ) where
     )
 
     module _ (ranged : declarationInRange (x .declaration) ≡ true) where
-      pub noted-breaks : withinQuota (x .declaration) counted input ≡ false → Noting (Metered.Refused InputBreaksDeclaration) words
+      pub noted-above : withinQuota (x .declaration) counted input ≡ false → Noting Noted.AboveQuota words
       unfolding notedOf wordsNoted
-      noted-breaks above = (
+      noted-above above = (
         sym (pick-false _ _ _ passed ∙ pick-false _ _ _ (ap not ranged) ∙ pick-true _ _ _ (ap not above)),
         sym (pick-false _ _ _ passed ∙ pick-false _ _ _ (ap not ranged) ∙ pick-true _ _ _ (ap not above)),
       )
 
       module _ (within : withinQuota (x .declaration) counted input ≡ true) where
-        noting : Noting (Metered.Taken (meterNoted x counted input)) (listOf (meterWordNext x words input) meterWordCount)
+        noting : Noting (Noted.Next (meterNoted x counted input)) (listOf (meterWordNext x words input) meterWordCount)
         unfolding notedOf wordsNoted
         noting = (
           sym (pick-false _ _ _ passed ∙ pick-false _ _ _ (ap not ranged) ∙ pick-false _ _ _ (ap not within)),
@@ -114,19 +113,19 @@ module _ (x : SourceMeter) (words : List ℕ) (counted input : ℕ) where
         sized = fit (length words) meterWordCount (x .slot .0) counted input passed .sized
 
         -- with a block, the words stay
-        pub noted-block : usesBlock (x .declaration .kind) ≡ true → {next : SourceMeter} → next ≡ stateAfter x (counted + input) → Noting (Metered.Taken next) words
+        pub noted-block : usesBlock (x .declaration .kind) ≡ true → {next : SourceMeter} → next ≡ stateAfter x (counted + input) → Noting (Noted.Next next) words
         unfolding meterNoted meterWordNext
         noted-block smooth {next} state = (
-          ap Metered.Taken (state ∙ rw smooth) ∙ noting .0,
+          ap Noted.Next (state ∙ rw smooth) ∙ noting .0,
           listOf-ext 0 (meterWordNext x words input) meterWordCount words sized (λ j less. rw smooth) ∙ noting .1,
         )
 
         -- without one, the input replaces the word of its slot
         pub noted-word : usesBlock (x .declaration .kind) ≡ false → {next : SourceMeter} → next ≡ stateAfter x 0
-            → Noting (Metered.Taken next) (set words (x .slot .0 % x .declaration .interval .0) input)
+            → Noting (Noted.Next next) (set words (x .slot .0 % x .declaration .interval .0) input)
         unfolding meterNoted meterWordNext
         noted-word uniform {next} state = (
-          ap Metered.Taken (state ∙ rw uniform) ∙ noting .0,
+          ap Noted.Next (state ∙ rw uniform) ∙ noting .0,
           listOf-ext 0 (meterWordNext x words input) meterWordCount (set words (x .slot .0 % x .declaration .interval .0) input)
               (length-set words (x .slot .0 % x .declaration .interval .0) input ∙ sized)
               (λ j less. rw uniform (word-set j (eqb j (x .slot .0 % x .declaration .interval .0)) refl))
@@ -141,7 +140,7 @@ module _ (x : SourceMeter) (words : List ℕ) (counted input : ℕ) where
 -- where the meter can be used and the input keeps the declaration
 pub noted-next : (x : SourceMeter) (words : List ℕ) (input : ℕ) → meterUnusable x words ≡ false → declarationInRange (x .declaration) ≡ true → input ≤ largestAmount
     → inputBreaks x words input ≡ false
-    → (notedOf x words (countedBefore x words) input ≡ Metered.Taken (meterNext x words input))
+    → (notedOf x words (countedBefore x words) input ≡ Noted.Next (meterNext x words input))
     × (wordsNoted x words (countedBefore x words) input ≡ listOf (meterWordNext x words input) meterWordCount)
 unfolding meterNoted meterNext
 noted-next x words input usable ranged small keeps =

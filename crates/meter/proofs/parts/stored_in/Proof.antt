@@ -9,12 +9,12 @@ use Rattle.quantity.proofs.Laws.{pick-true, pick-false}
 use Rattle.words.specs.Stored.{wordAt, storedFits, wordFits}
 use Rattle.meter.specs.Meter.{meterWordCount, usesBlock, meterWordsUsed}
 use Rattle.words.specs.declared.Scanned.{Scanned}
-use Rattle.meter.specs.declared.Stored.{Stored}
+use Rattle.meter.specs.declared.parts.Stored.{Stored}
 use Rattle.words.proofs.ScanLaws.{scan-fits, scan-units}
 use Rattle.meter.proofs.UsableMeter.{meter-usable, wrong-length, no-slot-left, block-misfit, word-misfit}
 use borrow.Author.Needs.{needs}
-use Rattle.meter.proofs.stored_in.Statement.{statement}
-use Rattle.meter.proofs.stored_in.Tie as tie
+use Rattle.meter.proofs.parts.stored_in.Statement.{statement}
+use Rattle.meter.proofs.parts.stored_in.Tie as tie
 
 -- what the callees answer, of the state and the words that came in
 block-tested : (c : tie.After-stored-fits) →

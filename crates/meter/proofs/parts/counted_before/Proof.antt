@@ -9,11 +9,11 @@ use Rattle.quantity.proofs.Laws.{picked-true, picked-false, pick-false}
 use Rattle.words.specs.Stored.{wordAt}
 use Rattle.flow.specs.Declarations.{declarationInRange}
 use Rattle.meter.specs.Meter.{meterWordCount, meterUnusable}
-use Rattle.meter.specs.declared.Counted.{Counted}
-use Rattle.meter.proofs.MeterWithinLaws.{counted-unusable, counted-outside, counted-next}
+use Rattle.meter.specs.declared.parts.Counted.{Counted}
+use Rattle.meter.proofs.PartsLaws.{counted-unusable, counted-outside, counted-next}
 use borrow.Author.Needs.{needs}
-use Rattle.meter.proofs.counted_before.Statement.{statement}
-use Rattle.meter.proofs.counted_before.Tie as tie
+use Rattle.meter.proofs.parts.counted_before.Statement.{statement}
+use Rattle.meter.proofs.parts.counted_before.Tie as tie
 
 -- where words were found, the meter can be used, and their sum was found
 usable : (c : tie.After-units) → meterUnusable (c .before .before .before .before .args .state) (c .before .before .before .before .args .words .now) ≡ false

@@ -5,8 +5,8 @@ use native.Mathlib.Omega.{arith}
 use Rattle.words.specs.Stored.{wordAt}
 use Rattle.meter.proofs.UsableMeter.{declaration-ranged, usable-meter, slot-within, slot-le-total, counted-first, counted-later, counted-uniform}
 use borrow.Author.Needs.{needs}
-use Rattle.meter.proofs.counts_with.Statement.{statement}
-use Rattle.meter.proofs.counts_with.Tie as tie
+use Rattle.meter.proofs.parts.counts_with.Statement.{statement}
+use Rattle.meter.proofs.parts.counts_with.Tie as tie
 
 rem-at : tie.Need-rem-at
 rem-at c =

@@ -2,8 +2,8 @@
 use mathlib.Core.Path.{sym, ap}
 use Rattle.meter.specs.Meter.{usesBlock}
 use borrow.Author.Needs.{needs}
-use Rattle.meter.proofs.uses_block.Statement.{statement}
-use Rattle.meter.proofs.uses_block.Tie as tie
+use Rattle.meter.proofs.parts.uses_block.Statement.{statement}
+use Rattle.meter.proofs.parts.uses_block.Tie as tie
 
 enum-told : tie.Need-enum-told
 enum-told c = search needs

@@ -8,13 +8,13 @@ use borrow.Author.Tests.{not-true, not-false}
 use Rattle.flow.specs.Declarations.{declarationInRange}
 use Rattle.quantity.specs.Choice.{anyOf}
 use Rattle.meter.specs.Meter.{meterWordCount}
-use Rattle.meter.specs.MeterWithin.{withinQuota}
+use Rattle.meter.specs.Parts.{withinQuota}
 use Rattle.words.proofs.StoredLaws.{Fit, fit, unfitTests}
 use Rattle.meter.proofs.UsableMeter.{Ranged, declaration-ranged, slot-within}
-use Rattle.meter.proofs.MeterWithinLaws.{noted-unusable, noted-outside, noted-breaks, noted-block, noted-word}
+use Rattle.meter.proofs.PartsLaws.{noted-unfit, noted-outside, noted-above, noted-block, noted-word}
 use borrow.Author.Needs.{needs}
-use Rattle.meter.proofs.note.Statement.{statement}
-use Rattle.meter.proofs.note.Tie as tie
+use Rattle.meter.proofs.parts.note.Statement.{statement}
+use Rattle.meter.proofs.parts.note.Tie as tie
 
 passed : (c : tie.Else1) →
     let start = c .before .before .before .args in
@@ -49,7 +49,7 @@ unfit-requires : tie.Need-unfit-requires
 unfit-requires c κs = search needs
 
 returns : tie.Need-returns
-returns c = noted-unusable _ _ _ _ (sym (c .before .unfit .ensures) ∙ c .if1 .taken)
+returns c = noted-unfit _ _ _ _ (sym (c .before .unfit .ensures) ∙ c .if1 .taken)
 
 in-range-requires : tie.Need-in-range-requires
 in-range-requires c κs = search needs
@@ -62,7 +62,7 @@ within-quota-requires c κs = search needs
 
 returns-3 : tie.Need-returns-3
 returns-3 c =
-    noted-breaks _ _ _ _ (passed (c .before .before .before .before .before)) (in-range (c .before .before)) (sym (c .before .within-quota .ensures) ∙ not-true _ (c .if3 .taken))
+    noted-above _ _ _ _ (passed (c .before .before .before .before .before)) (in-range (c .before .before)) (sym (c .before .within-quota .ensures) ∙ not-true _ (c .if3 .taken))
 
 uses-block-requires : tie.Need-uses-block-requires
 uses-block-requires c κs = search needs

@@ -1,8 +1,8 @@
 -- More than the quota counts already, or the input is compared with the rest.
-use Rattle.meter.proofs.MeterWithinLaws.{within-none, within-rest}
+use Rattle.meter.proofs.PartsLaws.{within-none, within-rest}
 use borrow.Author.Needs.{needs}
-use Rattle.meter.proofs.within_quota.Statement.{statement}
-use Rattle.meter.proofs.within_quota.Tie as tie
+use Rattle.meter.proofs.parts.within_quota.Statement.{statement}
+use Rattle.meter.proofs.parts.within_quota.Tie as tie
 
 cast-quota : tie.Need-cast-quota
 cast-quota c = search needs

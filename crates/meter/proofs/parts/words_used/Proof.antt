@@ -2,8 +2,8 @@
 use mathlib.Core.Path.{sym, ap}
 use Rattle.meter.specs.Meter.{meterWordsUsed}
 use borrow.Author.Needs.{needs}
-use Rattle.meter.proofs.words_used.Statement.{statement}
-use Rattle.meter.proofs.words_used.Tie as tie
+use Rattle.meter.proofs.parts.words_used.Statement.{statement}
+use Rattle.meter.proofs.parts.words_used.Tie as tie
 
 enum-told : tie.Need-enum-told
 enum-told c = search needs
