@@ -84,7 +84,7 @@ enum ReadWanted {
     OutOfRange,
 }
 
-enum ReadOperator {
+enum ReadLinked {
     Fits(LinkedOperator),
     OutOfRange,
 }
@@ -205,21 +205,21 @@ fn operator_of(kind: u8, number: u32) -> Operator
     }
 }
 
-fn read_operator(body: &[u8]) -> ReadOperator
+fn read_linked(body: &[u8]) -> ReadLinked
     requires { ⌜ length (now body) ≡ 6 ⌝ }
-    ensures { λ r. ⌜ r ≡ pick (operatorFits (now (body .entry))) (ReadOperator.Fits (operatorIn (now (body .entry)))) ReadOperator.OutOfRange ⌝ }
+    ensures { λ r. ⌜ r ≡ pick (operatorFits (now (body .entry))) (ReadLinked.Fits (operatorIn (now (body .entry)))) ReadLinked.OutOfRange ⌝ }
 {
     let kind = body[0];
     if 4 < kind {
-        return ReadOperator::OutOfRange;
+        return ReadLinked::OutOfRange;
     }
     let operator = operator_of(kind, number_at(body, 2, 4));
     let link = Link(wide(body[1]));
     let linked = LinkedOperator { operator, link };
     if crate::operator_in_range(linked) {
-        ReadOperator::Fits(linked)
+        ReadLinked::Fits(linked)
     } else {
-        ReadOperator::OutOfRange
+        ReadLinked::OutOfRange
     }
 }
 
@@ -310,7 +310,7 @@ fn read_fields(sheet: &[u8]) -> ReadSheet
         }
         let start = at + HEADER;
         let end = start + OPERATOR_WIDTH;
-        let ReadOperator::Fits(linked) = read_operator(&sheet[start..end]) else {
+        let ReadLinked::Fits(linked) = read_linked(&sheet[start..end]) else {
             return refused(Refusal::OutOfRange(at), operators, count);
         };
         operators[count] = linked;

@@ -13,7 +13,7 @@ use Rattle.quantity.proofs.Laws.{pick-true}
 use Rattle.sheet.specs.Bodies.{operatorIn, operatorFits}
 use Rattle.sheet.specs.Fields.{bodyAt}
 use Rattle.sheet.specs.Sheets.{operatorsAt, readFields}
-use Rattle.sheet.specs.declared.read.ReadOperator.{ReadOperator}
+use Rattle.sheet.specs.declared.read.ReadLinked.{ReadLinked}
 use Rattle.sheet.proofs.AnswerLaws.{tells}
 use Rattle.sheet.proofs.ReadLaws.{field-inside, handed-body, handed-length}
 use Rattle.sheet.proofs.HeadRead.{head-answer}
@@ -27,9 +27,9 @@ Inv-loop sheet places₀ count₀ head at₀ operators count at = Reading sheet 
 abbrev μ-loop : tie.MeasureT-loop
 μ-loop sheet places₀ count₀ head at₀ operators count at = 16 - count
 
-abbrev found : ReadOperator → Bool
-found (ReadOperator.Fits linked) = true
-found ReadOperator.OutOfRange = false
+abbrev found : ReadLinked → Bool
+found (ReadLinked.Fits linked) = true
+found ReadLinked.OutOfRange = false
 
 no-linked-operator-requires : tie.Need-no-linked-operator-requires Inv-loop μ-loop
 no-linked-operator-requires c κs = search needs
@@ -85,22 +85,22 @@ add-start c = omega (arith, c .before .before .before .loop .inv .few, c .before
 add-end : tie.Need-add-end Inv-loop μ-loop
 add-end c = omega (arith, c .before .before .before .loop .inv .few, c .before .before .before .loop .inv .begins)
 
-sub-read-operator : tie.Need-sub-read-operator Inv-loop μ-loop
-sub-read-operator c = omega arith
+sub-read-linked : tie.Need-sub-read-linked Inv-loop μ-loop
+sub-read-linked c = omega arith
 
-part-read-operator-start : tie.Need-part-read-operator-start Inv-loop μ-loop
-part-read-operator-start c = omega arith
+part-read-linked-start : tie.Need-part-read-linked-start Inv-loop μ-loop
+part-read-linked-start c = omega arith
 
-part-read-operator-end : tie.Need-part-read-operator-end Inv-loop μ-loop
-part-read-operator-end c = omega (arith, inside c)
+part-read-linked-end : tie.Need-part-read-linked-end Inv-loop μ-loop
+part-read-linked-end c = omega (arith, inside c)
 
-read-operator-requires : tie.Need-read-operator-requires Inv-loop μ-loop
-read-operator-requires c κs = handed-length _ _ 6 (inside (c .before))
+read-linked-requires : tie.Need-read-linked-requires Inv-loop μ-loop
+read-linked-requires c κs = handed-length _ _ 6 (inside (c .before))
 
 -- what the reader answers of the body
-answered : (c : tie.After-read-operator Inv-loop μ-loop)
-    → let body = bodyAt (now (c .before .before .before .before .before .before .before .before .before .before .before .before .args .sheet)) (c .before .before .before .before .before .loop .at) 6 in c .read-operator .result ≡ pick (operatorFits body) (ReadOperator.Fits (operatorIn body)) ReadOperator.OutOfRange
-answered c = rw (handed-body (now (c .before .before .before .before .before .before .before .before .before .before .before .before .args .sheet)) (c .before .before .before .before .before .loop .at) 6) at (c .read-operator .ensures)
+answered : (c : tie.After-read-linked Inv-loop μ-loop)
+    → let body = bodyAt (now (c .before .before .before .before .before .before .before .before .before .before .before .before .args .sheet)) (c .before .before .before .before .before .loop .at) 6 in c .read-linked .result ≡ pick (operatorFits body) (ReadLinked.Fits (operatorIn body)) ReadLinked.OutOfRange
+answered c = rw (handed-body (now (c .before .before .before .before .before .before .before .before .before .before .before .before .args .sheet)) (c .before .before .before .before .before .loop .at) 6) at (c .read-linked .ensures)
 
 enum-known-linked : tie.Need-enum-known-linked Inv-loop μ-loop
 enum-known-linked c = search needs
@@ -116,7 +116,7 @@ returns-3 c =
     let at-loop = c .before .before .before .before .before .before .before .before in
     let sheet = now (at-loop .before .before .before .before .before .before .before .args .sheet) in
     let body = bodyAt sheet (at-loop .loop .at) 6 in
-    let outside : operatorFits body ≡ false = tells found _ (ReadOperator.Fits (operatorIn body)) ReadOperator.OutOfRange refl refl (answered (c .before .before .before)) (c .before .enum-told2 .given .1) in
+    let outside : operatorFits body ≡ false = tells found _ (ReadLinked.Fits (operatorIn body)) ReadLinked.OutOfRange refl refl (answered (c .before .before .before)) (c .before .enum-told2 .given .1) in
     c .refused3 .ensures
     ∙ sym (decided at-loop ∙ body-refuses sheet _ _ _ _ _ (at-loop .loop .inv) (c .before .before .before .before .before .before .before .field-at .ensures) (c .before .before .before .before .before .enum-told .given .1) outside)
 
@@ -124,12 +124,12 @@ returns-3 c =
 fits : (c : tie.After-known-told4 Inv-loop μ-loop) → operatorFits (bodyAt (now (c .before .before .before .before .before .before .before .before .before .before .before .before .before .before .before .args .sheet)) (c .before .before .before .before .before .before .before .before .loop .at) 6) ≡ true
 fits c =
     let body = bodyAt (now (c .before .before .before .before .before .before .before .before .before .before .before .before .before .before .before .args .sheet)) (c .before .before .before .before .before .before .before .before .loop .at) 6 in
-    tells found _ (ReadOperator.Fits (operatorIn body)) ReadOperator.OutOfRange refl refl (answered (c .before .before .before)) (c .before .linked .given .1)
+    tells found _ (ReadLinked.Fits (operatorIn body)) ReadLinked.OutOfRange refl refl (answered (c .before .before .before)) (c .before .linked .given .1)
 
 same : (c : tie.After-known-told4 Inv-loop μ-loop) → c .before .linked .given .0 .0 ≡ operatorIn (bodyAt (now (c .before .before .before .before .before .before .before .before .before .before .before .before .before .before .before .args .sheet)) (c .before .before .before .before .before .before .before .before .loop .at) 6)
 same c =
     let body = bodyAt (now (c .before .before .before .before .before .before .before .before .before .before .before .before .before .before .before .args .sheet)) (c .before .before .before .before .before .before .before .before .loop .at) 6 in
-    let made : ReadOperator.Fits (c .before .linked .given .0 .0) ≡ ReadOperator.Fits (operatorIn body) = sym (c .before .linked .given .1) ∙ answered (c .before .before .before) ∙ pick-true _ _ _ (fits c) in
+    let made : ReadLinked.Fits (c .before .linked .given .0 .0) ≡ ReadLinked.Fits (operatorIn body) = sym (c .before .linked .given .1) ∙ answered (c .before .before .before) ∙ pick-true _ _ _ (fits c) in
     cc made
 
 -- and stored
@@ -198,10 +198,10 @@ read-fields-spec =
     enum-told
     add-start
     add-end
-    sub-read-operator
-    part-read-operator-start
-    part-read-operator-end
-    read-operator-requires
+    sub-read-linked
+    part-read-linked-start
+    part-read-linked-end
+    read-linked-requires
     enum-known-linked
     enum-told-2
     refused-requires-3

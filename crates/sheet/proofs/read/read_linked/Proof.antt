@@ -7,10 +7,10 @@ use denote.Ref.{now}
 use lib.ListN.{getD}
 use Rattle.sheet.specs.Bodies.{operatorIn, operatorInRange, operatorFits}
 use Rattle.sheet.specs.declared.LinkedOperator.{LinkedOperator}
-use Rattle.sheet.specs.declared.read.ReadOperator.{ReadOperator}
+use Rattle.sheet.specs.declared.read.ReadLinked.{ReadLinked}
 use Rattle.sheet.proofs.ReadLaws.{fits-value, no-value}
-use Rattle.sheet.proofs.read.read_operator.Statement.{statement}
-use Rattle.sheet.proofs.read.read_operator.Tie as tie
+use Rattle.sheet.proofs.read.read_linked.Statement.{statement}
+use Rattle.sheet.proofs.read.read_linked.Tie as tie
 
 shared-slice-read-kind : tie.Need-shared-slice-read-kind
 shared-slice-read-kind c = search needs
@@ -40,7 +40,7 @@ returns-2 c =
     let body = now (c .before .before .before .before .before .before .before .before .before .args .body) in
     let read : LinkedOperator = record { operator = c .before .before .before .before .operator-of .result; link = record { 0 = c .before .before .wide .result } } in
     let same : read ≡ operatorIn body = rw (c .before .before .before .before .operator-of .ensures, c .before .before .before .before .before .number-at .ensures, c .before .before .wide .ensures) in
-    rw (le-leb (getD body 0 0) 4 (omega arith)) (fits-value operatorInRange ReadOperator.Fits ReadOperator.OutOfRange (operatorIn body) read same (c .before .operator-in-range .ensures) (c .if2 .taken))
+    rw (le-leb (getD body 0 0) 4 (omega arith)) (fits-value operatorInRange ReadLinked.Fits ReadLinked.OutOfRange (operatorIn body) read same (c .before .operator-in-range .ensures) (c .if2 .taken))
 
 returns-3 : tie.Need-returns-3
 unfolding operatorIn operatorFits
@@ -48,10 +48,10 @@ returns-3 c =
     let body = now (c .before .before .before .before .before .before .before .before .before .args .body) in
     let read : LinkedOperator = record { operator = c .before .before .before .before .operator-of .result; link = record { 0 = c .before .before .wide .result } } in
     let same : read ≡ operatorIn body = rw (c .before .before .before .before .operator-of .ensures, c .before .before .before .before .before .number-at .ensures, c .before .before .wide .ensures) in
-    rw (le-leb (getD body 0 0) 4 (omega arith)) (no-value operatorInRange ReadOperator.Fits ReadOperator.OutOfRange (operatorIn body) read same (c .before .operator-in-range .ensures) (c .if2 .left))
+    rw (le-leb (getD body 0 0) 4 (omega arith)) (no-value operatorInRange ReadLinked.Fits ReadLinked.OutOfRange (operatorIn body) read same (c .before .operator-in-range .ensures) (c .if2 .left))
 
-pub read-operator-spec : {M : Type 1} → statement M
-read-operator-spec =
+pub read-linked-spec : {M : Type 1} → statement M
+read-linked-spec =
     tie.close
     (tie.spec
     shared-slice-read-kind
