@@ -1,6 +1,6 @@
 -- How a test that was taken picks: the one law behind every checking constructor and every list of refusals.
 use mathlib.Core.Path.{_≡_, refl, ap, sym, _∙_}
-use mathlib.Core.Bool.{Bool, true, false}
+use mathlib.Core.Bool.{Bool, true, false, false≢true}
 use Prim.Native.Nat.{ℕ, _≤_}
 use lib.Dec.{leb}
 use borrow.Author.Tests.{leb-true}
@@ -37,6 +37,17 @@ picked-true false a b e other = absurd (other e)
 pub picked-false : {A : Type 0} (t : Bool) (a b : A) {r : A} → r ≡ pick t a b → (r ≡ a → ⊥) → t ≡ false
 picked-false true a b e other = absurd (other e)
 picked-false false a b e other = refl
+
+-- what an answer tells of the test that picked it: one that holds a value, that the test holds and which value it is; the other, that it fails
+pub record Told {K A : Type 0} (t : Bool) (value : K) (found : K → A) (none : A) (answer : A) : Type 0 where
+  pub within : {k : K} → answer ≡ found k → (t ≡ true) × (k ≡ value)
+  pub outside : answer ≡ none → t ≡ false
+
+-- so it is of every pair of answers that differ, the first by the value that it holds
+pub told : {K A : Type 0} (t : Bool) (value : K) (found : K → A) (none : A) → ((k : K) → found k ≡ none → _≡_ {A = Bool} false true) → ((j k : K) → found j ≡ found k → j ≡ k) → {answer : A}
+    → answer ≡ pick t (found value) none → Told t value found none answer
+told true value found none differ holds picked = record { within = λ e. (refl, holds _ _ (sym e ∙ picked)); outside = λ e. sym (differ _ (sym picked ∙ e)) }
+told false value found none differ holds picked = record { within = λ e. absurd (false≢true (differ _ (sym e ∙ picked))); outside = λ e. refl }
 
 -- a value in range lies from the least to the largest
 module _ (range : Range) (value : ℕ) (inside : inRange range value ≡ true) where

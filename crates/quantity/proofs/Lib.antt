@@ -1,4 +1,5 @@
 pub mod Laws
+pub mod Checked
 pub mod Sums
 pub mod Rounding
 pub mod Divisors
