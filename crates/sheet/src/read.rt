@@ -24,6 +24,12 @@ use crate::profile::read_house;
 use flow::Declaration;
 use flow::Kind;
 use operator::Operator;
+use quantity::CheckedDelay;
+use quantity::CheckedInterval;
+use quantity::CheckedLink;
+use quantity::CheckedQuota;
+use quantity::CheckedRate;
+use quantity::CheckedWantedDelay;
 use quantity::Delay;
 use quantity::Interval;
 use quantity::Link;
@@ -36,12 +42,14 @@ ghost use mathlib.Core.Bool.{true, not};
 ghost use mathlib.Core.List.{_++_};
 ghost use Prim.Native.Nat.{_+_, _-_, _≤_, _<_};
 ghost use lib.ListN.{length, drop, replicate};
-ghost use lib.Dec.{eqb};
-ghost use Rattle.quantity.specs.Choice.{pick};
+ghost use lib.Dec.{leb, eqb};
+ghost use Rattle.quantity.specs.Choice.{pick, both};
+ghost use Rattle.quantity.specs.Ranges.{checkedWantedDelay};
 ghost use Rattle.quantity.specs.Refusals.{firstOf};
+ghost use Rattle.operator.specs.Operators.{numberInRange};
 ghost use Rattle.sheet.specs.Numbers.{valueOfBytes};
 ghost use Rattle.sheet.specs.Paths.{noLinkedOperator};
-ghost use Rattle.sheet.specs.Bodies.{part, declarationIn, declarationFits, wantedIn, wantedFits, operatorOf, operatorIn, operatorFits};
+ghost use Rattle.sheet.specs.Bodies.{part, declarationIn, declarationFits, wantedIn, operatorOf, operatorIn, operatorFits};
 ghost use Rattle.sheet.specs.Fields.{fieldUnexpected, fieldCases, declarationFormat, wantedFormat};
 ghost use Rattle.sheet.specs.Sheets.{declarationAt, wantedAt, inHouseForm, furtherCases, fieldsPath, refusedRead, readFields, readHouse, readSheet};
 
@@ -79,9 +87,10 @@ enum ReadDeclaration {
     OutOfRange,
 }
 
-enum ReadWanted {
-    Fits(WantedDelay),
+// `OutOfRange` stands first: the tests of the five kinds' numbers then become one, against a table.
+enum ReadOperator {
     OutOfRange,
+    Fits(Operator),
 }
 
 enum ReadLinked {
@@ -169,39 +178,59 @@ fn read_declaration(body: &[u8]) -> ReadDeclaration
     if 1 < kind {
         return ReadDeclaration::OutOfRange;
     }
-    let declaration = Declaration {
-        kind: kind_of(kind),
-        interval: Interval(number_at(body, 1, 2)),
-        quota: Quota(number_at(body, 3, 4)),
+    let CheckedInterval::InRange(interval) = Interval::checked(number_at(body, 1, 2)) else {
+        return ReadDeclaration::OutOfRange;
     };
-    if declaration.in_range() {
-        ReadDeclaration::Fits(declaration)
-    } else {
-        ReadDeclaration::OutOfRange
-    }
+    let CheckedQuota::InRange(quota) = Quota::checked(number_at(body, 3, 4)) else {
+        return ReadDeclaration::OutOfRange;
+    };
+    ReadDeclaration::Fits(Declaration {
+        kind: kind_of(kind),
+        interval,
+        quota,
+    })
 }
 
-fn read_wanted(body: &[u8]) -> ReadWanted
+fn read_wanted(body: &[u8]) -> CheckedWantedDelay
     requires { ⌜ length (now body) ≡ 4 ⌝ }
-    ensures { λ r. ⌜ r ≡ pick (wantedFits (now (body .entry))) (ReadWanted.Fits (record { 0 = wantedIn (now (body .entry)) })) ReadWanted.OutOfRange ⌝ }
+    ensures { λ r. ⌜ r ≡ checkedWantedDelay (wantedIn (now (body .entry))) ⌝ }
 {
-    let wanted = WantedDelay(number_at(body, 0, 4));
-    if wanted.in_range() {
-        ReadWanted::Fits(wanted)
-    } else {
-        ReadWanted::OutOfRange
-    }
+    WantedDelay::checked(number_at(body, 0, 4))
 }
 
-fn operator_of(kind: u8, number: u32) -> Operator
-    ensures { λ r. ⌜ r ≡ operatorOf kind number ⌝ }
+// The operator of a kind, whose number is a rate, an interval or a delay. A kind that there is not goes first, so that the match becomes a table.
+fn read_operator(kind: u8, number: u32) -> ReadOperator
+    ensures { λ r. ⌜ r ≡ pick (both (leb kind 4) (numberInRange (operatorOf kind number))) (ReadOperator.Fits (operatorOf kind number)) ReadOperator.OutOfRange ⌝ }
 {
+    if 4 < kind {
+        return ReadOperator::OutOfRange;
+    }
     match kind {
-        0 => Operator::Limiter(Rate(number)),
-        1 => Operator::Compactor(Interval(number)),
-        2 => Operator::Expander(Interval(number)),
-        3 => Operator::Filter(Rate(number)),
-        _ => Operator::Delayer(Delay(number)),
+        0 => match Rate::checked(number) {
+            CheckedRate::InRange(rate) => ReadOperator::Fits(Operator::Limiter(rate)),
+            CheckedRate::OutOfRange => ReadOperator::OutOfRange,
+        },
+        1 => match Interval::checked(number) {
+            CheckedInterval::InRange(interval) => {
+                ReadOperator::Fits(Operator::Compactor(interval))
+            }
+            CheckedInterval::OutOfRange => ReadOperator::OutOfRange,
+        },
+        2 => match Interval::checked(number) {
+            CheckedInterval::InRange(interval) => {
+                ReadOperator::Fits(Operator::Expander(interval))
+            }
+            CheckedInterval::OutOfRange => ReadOperator::OutOfRange,
+        },
+        3 => match Rate::checked(number) {
+            CheckedRate::InRange(rate) => ReadOperator::Fits(Operator::Filter(rate)),
+            CheckedRate::OutOfRange => ReadOperator::OutOfRange,
+        },
+        4 => match Delay::checked(number) {
+            CheckedDelay::InRange(delay) => ReadOperator::Fits(Operator::Delayer(delay)),
+            CheckedDelay::OutOfRange => ReadOperator::OutOfRange,
+        },
+        _ => ReadOperator::OutOfRange,
     }
 }
 
@@ -209,18 +238,13 @@ fn read_linked(body: &[u8]) -> ReadLinked
     requires { ⌜ length (now body) ≡ 6 ⌝ }
     ensures { λ r. ⌜ r ≡ pick (operatorFits (now (body .entry))) (ReadLinked.Fits (operatorIn (now (body .entry)))) ReadLinked.OutOfRange ⌝ }
 {
-    let kind = body[0];
-    if 4 < kind {
+    let ReadOperator::Fits(operator) = read_operator(body[0], number_at(body, 2, 4)) else {
         return ReadLinked::OutOfRange;
-    }
-    let operator = operator_of(kind, number_at(body, 2, 4));
-    let link = Link(wide(body[1]));
-    let linked = LinkedOperator { operator, link };
-    if crate::operator_in_range(linked) {
-        ReadLinked::Fits(linked)
-    } else {
-        ReadLinked::OutOfRange
-    }
+    };
+    let CheckedLink::InRange(link) = Link::checked(wide(body[1])) else {
+        return ReadLinked::OutOfRange;
+    };
+    ReadLinked::Fits(LinkedOperator { operator, link })
 }
 
 // The first two fields.
@@ -240,7 +264,7 @@ fn read_head(sheet: &[u8]) -> ReadHead
     }
     let start = WANTED_AT + HEADER;
     let end = start + WANTED_WIDTH;
-    let ReadWanted::Fits(wanted) = read_wanted(&sheet[start..end]) else {
+    let CheckedWantedDelay::InRange(wanted) = read_wanted(&sheet[start..end]) else {
         return ReadHead::Refused(Refusal::OutOfRange(WANTED_AT));
     };
     ReadHead::Fits(Head {

@@ -6,12 +6,12 @@ use mathlib.Core.List.{[]}
 use denote.Ref.{now}
 use Rattle.quantity.specs.Refusals.{firstOf}
 use Rattle.quantity.proofs.Laws.{pick-true}
+use Rattle.quantity.proofs.Checked.{wanted-told}
 use Rattle.sheet.specs.Bodies.{part, declarationIn, declarationFits, wantedIn, wantedFits}
 use Rattle.sheet.specs.Fields.{declarationFormat, wantedFormat, bodyAt, fieldCases}
 use Rattle.sheet.specs.Sheets.{declarationAt, wantedAt, fieldsPath}
 use Rattle.sheet.specs.declared.read.ReadHead.{ReadHead}
 use Rattle.sheet.specs.declared.read.ReadDeclaration.{ReadDeclaration}
-use Rattle.sheet.specs.declared.read.ReadWanted.{ReadWanted}
 use Rattle.sheet.proofs.AnswerLaws.{tells}
 use Rattle.sheet.proofs.ReadLaws.{field-refused, field-outside, field-passed, field-inside}
 use Rattle.sheet.proofs.HeadRead.{headCases, headIn}
@@ -21,10 +21,6 @@ use Rattle.sheet.proofs.read.read_head.Tie as tie
 abbrev declarationFound : ReadDeclaration → Bool
 declarationFound (ReadDeclaration.Fits declaration) = true
 declarationFound ReadDeclaration.OutOfRange = false
-
-abbrev wantedFound : ReadWanted → Bool
-wantedFound (ReadWanted.Fits wanted) = true
-wantedFound ReadWanted.OutOfRange = false
 
 field-at-requires : tie.Need-field-at-requires
 field-at-requires c κs = search needs
@@ -131,23 +127,19 @@ enum-told-4 : tie.Need-enum-told-4
 enum-told-4 c = search needs
 
 returns-4 : tie.Need-returns-4
-unfolding bodyAt part
+unfolding bodyAt part wantedFits
 returns-4 c =
     let sheet = now (c .before .before .before .before .before .before .before .before .before .before .before .before .before .before .before .before .args .sheet) in
     let body = bodyAt sheet wantedAt 4 in
-    let outside : wantedFits body ≡ false = tells wantedFound _ (ReadWanted.Fits (record { 0 = wantedIn body })) ReadWanted.OutOfRange refl refl (c .before .before .read-wanted .ensures) (c .enum-told4 .given .1) in
+    let outside : wantedFits body ≡ false = wanted-told refl (c .before .before .read-wanted .ensures) .outside (c .enum-told4 .given .1) in
     sym (declared (c .before .before .before .before .before .before .before) ∙ field-outside ReadHead.Refused (headIn sheet) sheet wantedAt wantedFormat [] (c .before .before .before .before .before .before .field-at2 .ensures) (c .before .before .before .before .enum-told3 .given .1) outside)
 
 returns-5 : tie.Need-returns-5
-unfolding bodyAt part fieldsPath
+unfolding bodyAt part wantedFits fieldsPath
 returns-5 c =
     let sheet = now (c .before .before .before .before .before .before .before .before .before .before .before .before .before .before .before .before .before .args .sheet) in
     let body = bodyAt sheet wantedAt 4 in
-    let wanted = c .before .wanted .given in
-    let read-wanted = c .before .before .before .read-wanted .ensures in
-    let wanted-fits : wantedFits body ≡ true = tells wantedFound _ (ReadWanted.Fits (record { 0 = wantedIn body })) ReadWanted.OutOfRange refl refl read-wanted (wanted .1) in
-    let made : ReadWanted.Fits (wanted .0 .0) ≡ ReadWanted.Fits (record { 0 = wantedIn body }) = sym (wanted .1) ∙ read-wanted ∙ pick-true _ _ _ wanted-fits in
-    let wanted-is : wanted .0 .0 ≡ record { 0 = wantedIn body } = cc made in
+    let (wanted-fits, wanted-is) = wanted-told refl (c .before .before .before .read-wanted .ensures) .within (c .before .wanted .given .1) in
     rw (declaration-is (c .before .before .before .before .before .before .before .before), wanted-is)
     (sym (declared (c .before .before .before .before .before .before .before .before) ∙ field-passed ReadHead.Refused (headIn sheet) sheet wantedAt wantedFormat [] (c .before .before .before .before .before .before .before .field-at2 .ensures) (c .before .before .before .before .before .enum-told3 .given .1) wanted-fits))
 
