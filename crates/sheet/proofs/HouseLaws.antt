@@ -78,7 +78,7 @@ packets-within h inside =
       slots = between delayRange (delayerSlots h) slots-in;
     }
 
-packets-unused : (h : House) → packetsUnused h ≡ true → PacketsUnused h
+pub packets-unused : (h : House) → packetsUnused h ≡ true → PacketsUnused h
 unfolding packetsUnused
 packets-unused h unused =
     let own = eqb (h .«own_packet» .0) 0 in

@@ -73,14 +73,6 @@ module _ (sheet : List ℕ) (at : ℕ) where
     unfolding bodyCutOff
     body-whole h = le-ltb _ _ h
 
--- what the reader of a body answers once it has tested the value that it read: for every field
-module _ {Value A : Type 0} (test : Value → Bool) (fits : Value → A) (outside : A) (value read : Value) (same : read ≡ value) {answer : Bool} (tested : answer ≡ test read) where
-  pub fits-value : answer ≡ true → fits read ≡ pick (test value) (fits value) outside
-  fits-value taken = rw (← same) (sym (pick-true (test read) (fits read) outside (sym tested ∙ taken)))
-
-  pub no-value : answer ≡ false → outside ≡ pick (test value) (fits value) outside
-  no-value left = rw (← same) (sym (pick-false (test read) (fits read) outside (sym tested ∙ left)))
-
 -- a field's conditions but for those of its body
 abbrev pub any : ℕ → ℕ → Format
 any tag width = record { tag = tag; width = width; fits = λ body. true }

@@ -3,7 +3,6 @@ use borrow.Author.Needs.{needs}
 use Prim.Native.Nat.{_≤_}
 use native.Mathlib.Omega.{arith}
 use Rattle.quantity.specs.Rounding.{roundUp}
-use Rattle.sheet.specs.House.{delayerSlots}
 use Rattle.sheet.proofs.ProfileLaws.{product-le, product-some, slots-le}
 use Rattle.sheet.proofs.profile.delayer_slots.Statement.{statement}
 use Rattle.sheet.proofs.profile.delayer_slots.Tie as tie
@@ -41,13 +40,13 @@ div-result c = some c
 cast-result : tie.Need-cast-result
 unfolding roundUp
 cast-result c =
-    let house = c .before .before .before .args .house in
+    let args = c .before .before .before .args in
     let pre = c .before .before .before .pre in
     rw (c .before .before .product .ensures, c .before .product2 .ensures, c .product3 .ensures)
-    (omega (arith, slots-le (house .«own_packet» .0) (house .«longest_packet» .0) (house .rate .0) (house .«link_rate» .0) (pre .2) (pre .4)))
+    (omega (arith, slots-le (args .own-packet .0) (args .longest-packet .0) (args .rate .0) (args .link-rate .0) (pre .2) (pre .4)))
 
 returns : tie.Need-returns
-unfolding delayerSlots roundUp
+unfolding roundUp
 returns c = rw (c .before .before .product .ensures, c .before .product2 .ensures, c .product3 .ensures)
 
 pub delayer-slots-spec : {M : Type 1} → statement M

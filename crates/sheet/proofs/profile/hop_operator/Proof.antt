@@ -1,7 +1,7 @@
 -- By the arms that the profile and the index took.
 use borrow.Author.Tests.{ne-eqb}
 use native.Mathlib.Omega.{arith}
-use Rattle.sheet.specs.House.{hopOperator}
+use Rattle.sheet.specs.House.{delayerSlots, hopOperator}
 use Rattle.sheet.proofs.HouseLaws.{house-within}
 use Rattle.sheet.proofs.profile.hop_operator.Statement.{statement}
 use Rattle.sheet.proofs.profile.hop_operator.Tie as tie
@@ -42,7 +42,7 @@ returns-6 c =
     rw (ne-eqb _ 0 (others .0 .1), ne-eqb _ 1 (others .1), c .match4 .keys1)
 
 returns-7 : tie.Need-returns-7
-unfolding hopOperator
+unfolding hopOperator delayerSlots
 returns-7 c =
     let others = c .before .before .match .rest in
     rw (ne-eqb _ 0 (others .0 .1), ne-eqb _ 1 (others .1), ne-eqb _ 0 (c .before .match4 .rest .1), c .delayer-slots .ensures)

@@ -4,7 +4,7 @@ use mathlib.Core.Path.{_≡_}
 use mathlib.Core.Bool.{true}
 use Rattle.quantity.specs.Ranges.{inRange, packetRange, rateRange}
 use Rattle.quantity.proofs.Laws.{least-le, le-largest}
-use Rattle.sheet.specs.House.{packetsInRange}
+use Rattle.sheet.specs.House.{delayerSlots, packetsInRange}
 use Rattle.sheet.proofs.ProfileLaws.{passed, failed}
 use Rattle.sheet.proofs.profile.packets_in_range.Statement.{statement}
 use Rattle.sheet.proofs.profile.packets_in_range.Tie as tie
@@ -53,7 +53,7 @@ in-range-requires-4 : tie.Need-in-range-requires-4
 in-range-requires-4 c κs = search needs
 
 returns-4 : tie.Need-returns-4
-unfolding packetsInRange
+unfolding packetsInRange delayerSlots
 returns-4 c =
     let tested = c .before .before in
     rw (own (tested .before .before .before .before), longest (tested .before .before), carrying tested, ← c .before .delayer-slots .ensures) (c .in-range4 .ensures)

@@ -1,20 +1,16 @@
 -- The three tests, in turn.
 use borrow.Author.Tests.{eq-eqb, ne-eqb}
-use Rattle.sheet.specs.House.{packetsUnused}
 use Rattle.sheet.proofs.profile.packets_unused.Statement.{statement}
 use Rattle.sheet.proofs.profile.packets_unused.Tie as tie
 
 returns : tie.Need-returns
-unfolding packetsUnused
 returns c = rw (ne-eqb _ _ (c .if1 .taken))
 
 returns-2 : tie.Need-returns-2
-unfolding packetsUnused
-returns-2 c = rw (eq-eqb _ _ (c .before .before .if1 .left), ne-eqb _ _ (c .if2 .taken))
+returns-2 c = rw (eq-eqb _ _ (c .before .if1 .left), ne-eqb _ _ (c .if2 .taken))
 
 returns-3 : tie.Need-returns-3
-unfolding packetsUnused
-returns-3 c = rw (eq-eqb _ _ (c .before .before .before .if1 .left), eq-eqb _ _ (c .before .if2 .left))
+returns-3 c = rw (eq-eqb _ _ (c .before .if1 .left), eq-eqb _ _ (c .if2 .left))
 
 pub packets-unused-spec : {M : Type 1} → statement M
 packets-unused-spec = tie.close (tie.spec returns returns-2 returns-3)

@@ -34,14 +34,14 @@ enum-told : tie.Need-enum-told
 enum-told c = search needs
 
 -- what the reader of an operator answered tells of the body's
-abbrev operatorFits : List ℕ → Bool
-operatorFits body = both (leb (getD body 0 0) 4) (numberInRange (operatorIn body .operator))
+abbrev numberFits : List ℕ → Bool
+numberFits body = both (leb (getD body 0 0) 4) (numberInRange (operatorIn body .operator))
 
 operator-told : {t : Bool} {operator : Operator} {answer : ReadOperator} → answer ≡ pick t (ReadOperator.Fits operator) ReadOperator.OutOfRange → Told t operator ReadOperator.Fits ReadOperator.OutOfRange answer
 operator-told = told _ _ _ _ (λ k e. cc) (λ j k e. cc)
 
 operator-read : (c : tie.After-read-operator)
-    → let body = now (c .before .before .before .before .args .body) in Told (operatorFits body) (operatorIn body .operator) ReadOperator.Fits ReadOperator.OutOfRange (c .read-operator .result)
+    → let body = now (c .before .before .before .before .args .body) in Told (numberFits body) (operatorIn body .operator) ReadOperator.Fits ReadOperator.OutOfRange (c .read-operator .result)
 unfolding operatorIn
 operator-read c = operator-told (rw (← c .before .number-at .ensures) (c .read-operator .ensures))
 
