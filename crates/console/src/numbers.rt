@@ -1,6 +1,6 @@
 // The numbers of a command.
 
-use crate::print::error;
+use crate::words::error_of;
 use text::decimal::Decimals;
 use text::decimal::decimals_from;
 ghost use mathlib.Core.Path.{_≡_};
@@ -16,10 +16,11 @@ pub struct Numbers {
 // The numbers of a command from an index on, as many as are wanted; else the line is an error.
 pub fn numbers_of(lines: u64, command: &[u8], from: usize, wanted: usize) -> Numbers {
     let mut numbers = [0u64; 2];
+    let mut fault = 0;
     match decimals_from(command, from, &mut numbers) {
-        Decimals::NotANumber => error(lines, b"not a number"),
-        Decimals::TooLarge => error(lines, b"number too large"),
-        Decimals::TooMany => error(lines, b"too many numbers"),
+        Decimals::NotANumber => {}
+        Decimals::TooLarge => fault = 1,
+        Decimals::TooMany => fault = 2,
         Decimals::Count(n) => {
             if n == wanted {
                 return Numbers {
@@ -28,13 +29,14 @@ pub fn numbers_of(lines: u64, command: &[u8], from: usize, wanted: usize) -> Num
                     second: numbers[1],
                 };
             }
-            if n < wanted {
-                error(lines, b"too few numbers");
-            } else {
-                error(lines, b"too many numbers");
-            }
+            fault = if n < wanted { 3 } else { 2 };
         }
     }
+    error_of(
+        lines,
+        b"not a number|number too large|too many numbers|too few numbers",
+        fault,
+    );
     Numbers {
         given: false,
         first: 0,

@@ -1,6 +1,8 @@
 // Tables of words: the words stand one behind the other, with a bar between two.
 
+use crate::print::end_line;
 use crate::print::error;
+use crate::print::labelled;
 use text::line::starts_with;
 ghost use Prim.Native.Nat.{_+_, _≤_};
 ghost use lib.ListN.{length};
@@ -57,6 +59,19 @@ pub fn error_of(line: u64, table: &[u8], index: usize) {
     let from = span.from;
     let end = span.end;
     error(line, &table[from..end]);
+}
+
+// A line of numbers, each behind its label, the word of its index.
+pub fn row(labels: &[u8], numbers: &[u64]) {
+    let mut k = 0;
+    while k < numbers.len() {
+        let span = span_of(labels, k);
+        let from = span.from;
+        let end = span.end;
+        labelled(&labels[from..end], numbers[k]);
+        k += 1;
+    }
+    end_line();
 }
 
 pub fn find(table: &[u8], line: &[u8]) -> Found
