@@ -20,7 +20,9 @@ use console::print::number;
 use console::print::refused;
 use console::print::text;
 use console::words::Found;
+use console::words::error_of;
 use console::words::find;
+use console::words::row;
 use ledger::Ledger;
 use ledger::Record;
 use ledger::admission::Admission;
@@ -180,9 +182,8 @@ fn open_with(book: Book, link: u32, capacity: u64) -> Book
         refused(why);
         return book;
     }
-    labelled(b"capacity ", link as u64);
-    labelled(b" ", capacity);
-    end_line();
+    let numbers = [link as u64, capacity];
+    row(b"capacity | ", &numbers);
     let records = fresh.records;
     let ledger = opened.ledger;
     Book {
@@ -210,8 +211,8 @@ fn say_released(path: u64, verdict: Verdict) {
     match verdict {
         Verdict::Refused(why) => refused(why),
         Verdict::Accepted => {
-            labelled(b"released ", path);
-            end_line();
+            let numbers = [path];
+            row(b"released ", &numbers);
         }
     }
 }
@@ -235,18 +236,18 @@ fn ask_spare(book: Book, link: u64) {
     match verdict {
         Verdict::Refused(why) => refused(why),
         Verdict::Accepted => {
-            labelled(b"spare ", link);
-            labelled(b" ", asked.rate.0 as u64);
-            end_line();
+            let numbers = [link, asked.rate.0 as u64];
+            row(b"spare | ", &numbers);
         }
     }
 }
 
 // `admit NUMBER SHEET`
 fn admit_sheet(book: Book, lines: u64, from: usize, line: &[u8]) -> Book {
+    let mut fault = 0;
     match decimal_at(line, from) {
-        Decimal::NoDigit => error(lines, b"not a number"),
-        Decimal::TooLarge => error(lines, b"number too large"),
+        Decimal::NoDigit => {}
+        Decimal::TooLarge => fault = 1,
         Decimal::Number { value, next } => {
             if next < line.len() {
                 if line[next] == SPACE {
@@ -257,20 +258,22 @@ fn admit_sheet(book: Book, lines: u64, from: usize, line: &[u8]) -> Book {
                     return answer_sheet(book, lines, found, value, line);
                 }
             }
-            error(lines, b"not a number");
         }
     }
+    error_of(lines, b"not a number|number too large", fault);
     book
 }
 
 // The sheet of a command is in hexadecimal.
 fn answer_sheet(book: Book, lines: u64, found: Found, path: u64, line: &[u8]) -> Book {
     let mut bytes = [0u8; 512];
+    let mut fault = 0;
     match hexadecimal_from(line, found.behind, &mut bytes) {
-        Hexadecimal::NotHexadecimal => error(lines, b"not hexadecimal"),
-        Hexadecimal::TooLong => error(lines, b"sheet too long"),
+        Hexadecimal::NotHexadecimal => {}
+        Hexadecimal::TooLong => fault = 1,
         Hexadecimal::Length(n) => return answer_bytes(book, found.index, path, &bytes, n),
     }
+    error_of(lines, b"not hexadecimal|sheet too long", fault);
     book
 }
 
@@ -304,10 +307,8 @@ fn say_admitted(path: u64, admission: Admission) {
     match verdict {
         Verdict::Refused(why) => refused(why),
         Verdict::Accepted => {
-            labelled(b"admitted ", path);
-            labelled(b" rate ", admission.rate.0 as u64);
-            labelled(b" delay ", admission.delay.0 as u64);
-            end_line();
+            let numbers = [path, admission.rate.0 as u64, admission.delay.0 as u64];
+            row(b"admitted | rate | delay ", &numbers);
         }
     }
 }

@@ -8,6 +8,7 @@ use console::print::error;
 use console::print::labelled;
 use console::print::refused;
 use console::print::text;
+use console::words::error_of;
 use quantity::Units;
 use run::Run;
 use run::opening::no_run;
@@ -89,11 +90,13 @@ fn open_sheet(
     words: &mut [u32; 2048],
 ) -> Replay {
     let mut bytes = [0u8; 512];
+    let mut fault = 0;
     match hexadecimal_from(text, from, &mut bytes) {
-        Hexadecimal::NotHexadecimal => error(lines, b"not hexadecimal"),
-        Hexadecimal::TooLong => error(lines, b"sheet too long"),
+        Hexadecimal::NotHexadecimal => {}
+        Hexadecimal::TooLong => fault = 1,
         Hexadecimal::Length(n) => return open_bytes(replay, lines, &bytes, n, words),
     }
+    error_of(lines, b"not hexadecimal|sheet too long", fault);
     replay
 }
 
@@ -118,12 +121,18 @@ fn open_bytes(replay: Replay, lines: u64, bytes: &[u8], n: usize, words: &mut [u
 // The input and a choice for each operator.
 fn run_slot(replay: Replay, lines: u64, text: &[u8], words: &mut [u32; 2048]) -> Replay {
     let mut numbers = [0u64; 512];
+    let mut fault = 0;
     match decimals_from(text, 0, &mut numbers) {
-        Decimals::NotANumber => error(lines, b"not a number"),
-        Decimals::TooLarge => error(lines, b"number too large"),
-        Decimals::TooMany => error(lines, b"too many numbers"),
+        Decimals::NotANumber => {}
+        Decimals::TooLarge => fault = 1,
+        Decimals::TooMany => fault = 2,
         Decimals::Count(n) => return run_numbers(replay, &numbers, n, words),
     }
+    error_of(
+        lines,
+        b"not a number|number too large|too many numbers",
+        fault,
+    );
     replay
 }
 

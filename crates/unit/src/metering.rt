@@ -15,6 +15,7 @@ use console::numbers::narrow;
 use console::print::end_line;
 use console::print::labelled;
 use console::print::refused;
+use console::words::row;
 use meter::Metered;
 use meter::Room;
 use meter::SourceMeter;
@@ -100,7 +101,6 @@ fn set_block(state: SourceMeter, block: Units) -> SourceMeter {
 
 // `state`
 fn show(state: SourceMeter) {
-    labelled(b"slot ", state.slot.0 as u64);
-    labelled(b" block ", state.block.0);
-    end_line();
+    let numbers = [state.slot.0 as u64, state.block.0];
+    row(b"slot | block ", &numbers);
 }

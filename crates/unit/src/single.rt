@@ -16,6 +16,7 @@ use console::numbers::narrow;
 use console::print::end_line;
 use console::print::labelled;
 use console::print::refused;
+use console::words::row;
 use operator::SingleOperator;
 use operator::parts::Stored;
 use operator::parts::stored_in;
@@ -140,8 +141,6 @@ fn set_beside(state: SingleOperator, beside: Units) -> SingleOperator {
 
 // `state`
 fn show(state: SingleOperator) {
-    labelled(b"slot ", state.slot.0 as u64);
-    labelled(b" held ", state.held.0);
-    labelled(b" beside ", state.beside.0);
-    end_line();
+    let numbers = [state.slot.0 as u64, state.held.0, state.beside.0];
+    row(b"slot | held | beside ", &numbers);
 }

@@ -6,6 +6,7 @@ use console::print::end_line;
 use console::print::error;
 use console::print::labelled;
 use console::print::text;
+use console::words::row;
 ghost use Prim.Native.Nat.{_≤_};
 
 pub(crate) fn clear(words: &mut [u32; 1024]) {
@@ -27,9 +28,8 @@ pub(crate) fn set_word(lines: u64, command: Command, words: &mut [u32; 1024], co
     }
     let word = narrow(command.second);
     words[j as usize] = word;
-    labelled(b"set word ", j);
-    labelled(b" ", word as u64);
-    end_line();
+    let set = [j, word as u64];
+    row(b"set word | ", &set);
 }
 
 // `words N`, of so many words.

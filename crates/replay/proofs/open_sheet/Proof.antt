@@ -15,20 +15,8 @@ hexadecimal-from-requires c κs = search needs
 enum-told : tie.Need-enum-told
 enum-told c = search needs
 
-slice-aggregate-error : tie.Need-slice-aggregate-error
-slice-aggregate-error c = search needs
-
-error-requires : tie.Need-error-requires
-error-requires c κs = search needs
-
 enum-told-2 : tie.Need-enum-told-2
 enum-told-2 c = search needs
-
-slice-aggregate-error-2 : tie.Need-slice-aggregate-error-2
-slice-aggregate-error-2 c = search needs
-
-error-requires-2 : tie.Need-error-requires-2
-error-requires-2 c κs = search needs
 
 enum-known-n : tie.Need-enum-known-n
 enum-known-n c = search needs
@@ -42,11 +30,14 @@ open-bytes-requires c κs = omega (arith, hexadecimal-within _ _ _ _ (sym (c .be
 returns : tie.Need-returns
 returns c = search needs
 
+slice-aggregate-error-of : tie.Need-slice-aggregate-error-of
+slice-aggregate-error-of c = search needs
+
+error-of-requires : tie.Need-error-of-requires
+error-of-requires c κs = search needs
+
 returns-2 : tie.Need-returns-2
 returns-2 c = search needs
-
-returns-3 : tie.Need-returns-3
-returns-3 c = search needs
 
 pub open-sheet-spec : {M : Type 1} → statement M
 open-sheet-spec =
@@ -55,14 +46,11 @@ open-sheet-spec =
     slice-aggregate-hexadecimal-from
     hexadecimal-from-requires
     enum-told
-    slice-aggregate-error
-    error-requires
     enum-told-2
-    slice-aggregate-error-2
-    error-requires-2
     enum-known-n
     slice-aggregate-open-bytes
     open-bytes-requires
     returns
-    returns-2
-    returns-3)
+    slice-aggregate-error-of
+    error-of-requires
+    returns-2)

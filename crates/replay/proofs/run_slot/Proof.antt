@@ -15,29 +15,11 @@ decimals-from-requires c κs = search needs
 enum-told : tie.Need-enum-told
 enum-told c = search needs
 
-slice-aggregate-error : tie.Need-slice-aggregate-error
-slice-aggregate-error c = search needs
-
-error-requires : tie.Need-error-requires
-error-requires c κs = search needs
-
 enum-told-2 : tie.Need-enum-told-2
 enum-told-2 c = search needs
 
-slice-aggregate-error-2 : tie.Need-slice-aggregate-error-2
-slice-aggregate-error-2 c = search needs
-
-error-requires-2 : tie.Need-error-requires-2
-error-requires-2 c κs = search needs
-
 enum-told-3 : tie.Need-enum-told-3
 enum-told-3 c = search needs
-
-slice-aggregate-error-3 : tie.Need-slice-aggregate-error-3
-slice-aggregate-error-3 c = search needs
-
-error-requires-3 : tie.Need-error-requires-3
-error-requires-3 c κs = search needs
 
 enum-known-n : tie.Need-enum-known-n
 enum-known-n c = search needs
@@ -53,14 +35,14 @@ run-numbers-requires c κs =
 returns : tie.Need-returns
 returns c = search needs
 
+slice-aggregate-error-of : tie.Need-slice-aggregate-error-of
+slice-aggregate-error-of c = search needs
+
+error-of-requires : tie.Need-error-of-requires
+error-of-requires c κs = search needs
+
 returns-2 : tie.Need-returns-2
 returns-2 c = search needs
-
-returns-3 : tie.Need-returns-3
-returns-3 c = search needs
-
-returns-4 : tie.Need-returns-4
-returns-4 c = search needs
 
 pub run-slot-spec : {M : Type 1} → statement M
 run-slot-spec =
@@ -69,18 +51,12 @@ run-slot-spec =
     slice-aggregate-decimals-from
     decimals-from-requires
     enum-told
-    slice-aggregate-error
-    error-requires
     enum-told-2
-    slice-aggregate-error-2
-    error-requires-2
     enum-told-3
-    slice-aggregate-error-3
-    error-requires-3
     enum-known-n
     slice-aggregate-run-numbers
     run-numbers-requires
     returns
-    returns-2
-    returns-3
-    returns-4)
+    slice-aggregate-error-of
+    error-of-requires
+    returns-2)
