@@ -179,7 +179,7 @@ module _ (p : Progress) (g f c : Flow) (known : Known p g f) where
         large = known .large;
         carries = carries;
         served = served;
-        entered = λ n. le-trans (Laws.behind op f c fits n) (known .entered n);
+        entered = λ n. le-trans (Laws.output-behind op f c fits n) (known .entered n);
         plain = λ h. absurd (true≢false h);
       }
 

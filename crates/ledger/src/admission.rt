@@ -153,8 +153,8 @@ fn links_named(path: PathValue) -> [bool; 16]
     let mut named = [false; 16];
     let mut k = 0;
     while k < path.count {
-        let place = operators[k];
-        let link = place.link;
+        let linked = operators[k];
+        let link = linked.link;
         named[link.0 as usize] = true;
         k += 1;
     }

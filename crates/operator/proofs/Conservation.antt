@@ -128,5 +128,5 @@ conserved op r c fits (suc n) =
       greatest-le-there op n (heldOn op r c n) (r n),
     )
 
-pub behind : (op : Operator) (r c : Flow) → Fitting op r c → Behind r (outputOn op r c)
-behind op r c fits n = omega (arith, conserved op r c fits n)
+pub output-behind : (op : Operator) (r c : Flow) → Fitting op r c → Behind r (outputOn op r c)
+output-behind op r c fits n = omega (arith, conserved op r c fits n)

@@ -14,7 +14,7 @@ use Rattle.operator.specs.Expander.{expanderLeast}
 use Rattle.operator.specs.Operators.{leastOutput, compactor, expander}
 use Rattle.flow.specs.Flows.{Flow, Smooth, InTime}
 use Rattle.operator.specs.OnFlows.{heldOn, outputOn, Fitting, none}
-use Rattle.operator.proofs.Conservation.{conserved, behind, none-fits}
+use Rattle.operator.proofs.Conservation.{conserved, output-behind, none-fits}
 use Rattle.operator.proofs.Compactor.{compactor-totals, compactor-in-time}
 
 -- what it sends is at least its least
@@ -27,7 +27,7 @@ module _ (n : ℕ) (r c : Flow) (large : 1 ≤ n) (fits : Fitting (expander n) r
   all-sent-at-end zero ends = omega (arith, total-zero r, total-zero (outputOn (expander n) r c))
   all-sent-at-end (suc k) ends =
       let sends : heldOn (expander n) r c k .b + r k ≤ outputOn (expander n) r c k = rw (eq-eqb (suc k % n) 0 ends) at (expander-sends n r c k) in
-      omega (arith, behind (expander n) r c fits (suc k), conserved (expander n) r c fits k, total-suc r k, total-suc (outputOn (expander n) r c) k)
+      omega (arith, output-behind (expander n) r c fits (suc k), conserved (expander n) r c fits k, total-suc r k, total-suc (outputOn (expander n) r c) k)
 
   pub expander-totals : (j : ℕ) → total (outputOn (expander n) r c) (j * n) ≡ total r (j * n)
   expander-totals j = all-sent-at-end (j * n) (mul-mod-left j n)
@@ -47,7 +47,7 @@ module _ (n Q : ℕ) (r c : Flow) (large : 1 ≤ n) (fits : Fitting (expander n)
       (arith, conserved (expander n) r c fits k, expander-totals n r c large fits (k / n), total-le (outputOn (expander n) r c) (div-mul-le-self k n))
 
   pub expander-smooth : Smooth n Q (outputOn (expander n) r c)
-  expander-smooth j k h = omega (arith, behind (expander n) r c fits (j * n + k), keeps j k h, expander-totals n r c large fits j)
+  expander-smooth j k h = omega (arith, output-behind (expander n) r c fits (j * n + k), keeps j k h, expander-totals n r c large fits j)
 
 module _ (n : ℕ) (r c e : Flow) (large : 1 ≤ n) (first : Fitting (expander n) r c) (second : Fitting (compactor n) (outputOn (expander n) r c) e) where
   pub pair-totals : (k : ℕ) → total (outputOn (compactor n) (outputOn (expander n) r c) e) k ≡ total (outputOn (compactor n) r none) k

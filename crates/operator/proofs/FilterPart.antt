@@ -21,7 +21,7 @@ use Rattle.operator.specs.OnFlows.{heldOn, outputOn, Fitting, none}
 use Rattle.operator.specs.FilterPart.{Slowest, unfiltered, filtered, slower, limited, Served}
 use Rattle.operator.specs.declared.Operator.{Operator}
 use Rattle.operator.proofs.Steps.{held-suc}
-use Rattle.operator.proofs.Conservation.{whole-on, none-fits, conserved, behind}
+use Rattle.operator.proofs.Conservation.{whole-on, none-fits, conserved, output-behind}
 use Rattle.operator.proofs.Limiter.{limiter-last-empty, limiter-held, limiter-in-time, limiter-uniform, total-rises}
 
 pub served-start : (r : Flow) → Served unfiltered 0 r r
@@ -79,11 +79,11 @@ limiter-le-faster : (P Q : ℕ) (r : Flow) → P ≤ Q → (n : ℕ) → total (
 limiter-le-faster P Q r slow n =
     let (a, k, slots, sent) = limiter-last-empty Q r none (none-fits (limiter Q) r) n in
     let rises : total (outputOn (limiter P) r none) n ≤ total (outputOn (limiter P) r none) a + k * P = rw slots at (limiter-rises P r a k) in
-    omega (arith, behind (limiter P) r none (none-fits (limiter P) r) a, mul-le-mul-left k slow)
+    omega (arith, output-behind (limiter P) r none (none-fits (limiter P) r) a, mul-le-mul-left k slow)
 
 limited-slower-le : (P : Slowest) (R : ℕ) (r : Flow) (n : ℕ) → limited (slower P R) r n ≤ limited P r n
 unfolding limited slower
-limited-slower-le unfiltered R r n = behind (limiter R) r none (none-fits (limiter R) r) n
+limited-slower-le unfiltered R r n = output-behind (limiter R) r none (none-fits (limiter R) r) n
 limited-slower-le (filtered P) R r n = limiter-le-faster (min P R) P r (min-le-left P R) n
 
 limited-slower-rises : (P : Slowest) (R : ℕ) (r : Flow) (a k : ℕ) → limited (slower P R) r (a + k) ≤ limited (slower P R) r a + k * R

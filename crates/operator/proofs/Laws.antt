@@ -52,8 +52,8 @@ conserved = Conservation.conserved
 pub beside-none : (op : Operator) → ((R : Rate) → op ≡ Filter R → ⊥) → (r c : Flow) (n : ℕ) → heldOn op r c n .h ≡ 0
 beside-none = Steps.beside-none
 
-pub behind : (op : Operator) (r c : Flow) → Fitting op r c → Behind r (outputOn op r c)
-behind = Conservation.behind
+pub output-behind : (op : Operator) (r c : Flow) → Fitting op r c → Behind r (outputOn op r c)
+output-behind = Conservation.output-behind
 
 -- Limiter R (Theorem 3).
 

@@ -16,7 +16,7 @@ use Rattle.text.specs.declared.hexadecimal.Hexadecimal.{Hexadecimal}
 use Rattle.text.specs.Lines.{gatheredOf}
 use Rattle.text.specs.Decimals.{isDigit, leadingDigits, valueOf, decimalOf, decimalAt}
 use Rattle.text.specs.Rows.{Row, numbers, fault, ahead}
-use Rattle.text.specs.DecimalRows.{due, behind, rowFrom, decimalsFrom}
+use Rattle.text.specs.DecimalRows.{due, behindNumber, rowFrom, decimalsFrom}
 use Rattle.text.specs.Hexadecimals.{bytesIn, fitted, hexadecimalFrom}
 use Rattle.text.proofs.RowLaws.{counted-numbers}
 use Rattle.text.proofs.DecimalRowLaws.{row-at-most}
@@ -89,8 +89,8 @@ row-some zero text at ns e = of (decimalAt text at) e
     of Decimal.TooLarge e = let z : _≡_ {A = ℕ} 0 1 = cc in absurd (omega arith)
 row-some (suc places) text at ns e = of (decimalAt text at) e
   where
-    of : (d : Decimal) → due d (λ value next. ahead value (behind text next (rowFrom places text (next + 1)))) ≡ numbers ns → 1 ≤ length ns
-    of (Decimal.Number value next) e = ahead-some value (behind text next (rowFrom places text (next + 1))) ns e
+    of : (d : Decimal) → due d (λ value next. ahead value (behindNumber text next (rowFrom places text (next + 1)))) ≡ numbers ns → 1 ≤ length ns
+    of (Decimal.Number value next) e = ahead-some value (behindNumber text next (rowFrom places text (next + 1))) ns e
     of Decimal.NoDigit e = let z : _≡_ {A = ℕ} 0 1 = cc in absurd (omega arith)
     of Decimal.TooLarge e = let z : _≡_ {A = ℕ} 0 1 = cc in absurd (omega arith)
 

@@ -11,7 +11,7 @@ use Rattle.text.specs.declared.decimal.Decimal.{Decimal}
 use Rattle.text.specs.declared.decimal.Decimals.{Decimals}
 use Rattle.text.specs.Rows.{space, Row, numbers, fault, ahead}
 use Rattle.text.specs.Decimals.{decimalAt}
-use Rattle.text.specs.DecimalRows.{due, behind, rowFrom}
+use Rattle.text.specs.DecimalRows.{due, behindNumber, rowFrom}
 use Rattle.text.proofs.RowLaws.{AtMost, at-most-ahead, at-most-pick}
 
 module _ (text : List ℕ) (at : ℕ) {d : Decimal} (read : d ≡ decimalAt text at) where
@@ -31,21 +31,21 @@ module _ (text : List ℕ) (at : ℕ) {d : Decimal} (read : d ≡ decimalAt text
     unfolding rowFrom due
     due-many places count full = let none : places - count ≡ 0 = omega arith in rw (none, ← read, number)
 
-    pub due-number : (places count : ℕ) → count < places → rowFrom (places - count) text at ≡ ahead value (behind text next (rowFrom (places - (count + 1)) text (next + 1)))
+    pub due-number : (places count : ℕ) → count < places → rowFrom (places - count) text at ≡ ahead value (behindNumber text next (rowFrom (places - (count + 1)) text (next + 1)))
     unfolding rowFrom due
     due-number places count room = let left : places - count ≡ suc (places - (count + 1)) = omega arith in rw (left, ← read, number)
 
 module _ (text : List ℕ) (next : ℕ) (rest : Row Decimals) where
-  pub behind-end : length text ≤ next → behind text next rest ≡ numbers []
-  unfolding behind
+  pub behind-end : length text ≤ next → behindNumber text next rest ≡ numbers []
+  unfolding behindNumber
   behind-end end = rw (le-leb (length text) next end)
 
-  pub behind-other : next < length text → (getD text next 0 ≡ space → ⊥) → behind text next rest ≡ fault Decimals.NotANumber
-  unfolding behind
+  pub behind-other : next < length text → (getD text next 0 ≡ space → ⊥) → behindNumber text next rest ≡ fault Decimals.NotANumber
+  unfolding behindNumber
   behind-other more other = rw (lt-leb (length text) next more, ne-eqb (getD text next 0) space other)
 
-  pub behind-space : next < length text → getD text next 0 ≡ space → behind text next rest ≡ rest
-  unfolding behind
+  pub behind-space : next < length text → getD text next 0 ≡ space → behindNumber text next rest ≡ rest
+  unfolding behindNumber
   behind-space more one = rw (lt-leb (length text) next more, eq-eqb (getD text next 0) space one)
 
 -- where there is no fault, a number stands and has a place
@@ -59,10 +59,10 @@ place-left text at places count no-fault full =
     number-stands text at (places - count) (decimalAt text at) refl no-fault (λ value next e. no-fault _ (due-many text at refl value next e places count full))
 
 -- where the text goes on behind a number and there is no fault, a space stands
-pub behind-goes-on : (text : List ℕ) (next : ℕ) (rest : Row Decimals) → next < length text → ((why : Decimals) → behind text next rest ≡ fault why → ⊥) → behind text next rest ≡ rest
+pub behind-goes-on : (text : List ℕ) (next : ℕ) (rest : Row Decimals) → next < length text → ((why : Decimals) → behindNumber text next rest ≡ fault why → ⊥) → behindNumber text next rest ≡ rest
 behind-goes-on text next rest more no-fault = of (eqb (getD text next 0) space) refl
   where
-    of : (t : Bool) → eqb (getD text next 0) space ≡ t → behind text next rest ≡ rest
+    of : (t : Bool) → eqb (getD text next 0) space ≡ t → behindNumber text next rest ≡ rest
     of true e = behind-space text next rest more (eqb-true _ _ e)
     of false e = absurd (no-fault _ (behind-other text next rest more (eqb-false _ _ e)))
 
@@ -82,8 +82,8 @@ due-at-most k (Decimal.Number value next) read h = h value next
 due-at-most k Decimal.NoDigit read h = not-a-number
 due-at-most k Decimal.TooLarge read h = too-large
 
-behind-at-most : (k : ℕ) (text : List ℕ) (next : ℕ) (rest : Row Decimals) → AtMost Decimals.Count k rest → AtMost Decimals.Count k (behind text next rest)
-unfolding behind
+behind-at-most : (k : ℕ) (text : List ℕ) (next : ℕ) (rest : Row Decimals) → AtMost Decimals.Count k rest → AtMost Decimals.Count k (behindNumber text next rest)
+unfolding behindNumber
 behind-at-most k text next rest few =
     at-most-pick Decimals.Count k (leb (length text) next) (numbers []) _ (omega arith) (at-most-pick Decimals.Count k (eqb (getD text next 0) space) rest (fault Decimals.NotANumber) few not-a-number)
 

@@ -16,13 +16,13 @@ due Decimal.NoDigit read = fault Decimals.NotANumber
 due Decimal.TooLarge read = fault Decimals.TooLarge
 
 -- behind a number: the text's end, or one space and the rest; anything else is no number
-unfoldable pub behind : List ℕ → ℕ → Row Decimals → Row Decimals
-behind text next rest = pick (leb (length text) next) (numbers []) (pick (eqb (getD text next 0) space) rest (fault Decimals.NotANumber))
+unfoldable pub behindNumber : List ℕ → ℕ → Row Decimals → Row Decimals
+behindNumber text next rest = pick (leb (length text) next) (numbers []) (pick (eqb (getD text next 0) space) rest (fault Decimals.NotANumber))
 
 -- the numbers from an index on where one is due, with so many places left for them, or the first fault from left to right
 unfoldable pub rowFrom : ℕ → List ℕ → ℕ → Row Decimals
 rowFrom zero text at = due (decimalAt text at) (λ value next. fault Decimals.TooMany)
-rowFrom (suc places) text at = due (decimalAt text at) (λ value next. ahead value (behind text next (rowFrom places text (next + 1))))
+rowFrom (suc places) text at = due (decimalAt text at) (λ value next. ahead value (behindNumber text next (rowFrom places text (next + 1))))
 
 -- what is answered
 unfoldable pub decimalsFrom : List ℕ → ℕ → ℕ → Decimals

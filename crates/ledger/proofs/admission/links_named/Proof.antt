@@ -1,4 +1,4 @@
--- The invariant: each link is named as one of the places passed is on it.
+-- The invariant: each link is named as one of the operators passed is on it.
 use mathlib.Core.Path.{_≡_, sym, _∙_}
 use Prim.Native.Nat.{_-_, _≤_, _<_}
 use native.Mathlib.Omega.{arith}
@@ -15,11 +15,11 @@ Inv-loop value operators named₀ k₀ named k = (k ≤ value .count) × Noted o
 abbrev μ-loop : tie.MeasureT-loop
 μ-loop value operators named₀ k₀ named k = value .count - k
 
--- the value has sixteen places
+-- the value has sixteen operators
 full : (c : tie.Start Inv-loop μ-loop) → length (c .args .path .operators) ≡ 16
 full c = sym (length-map (c .args .path .operators) _) ∙ c .good .0 .1 .1 .1 .1 .1 .1 .0 .1 .0 .1
 
--- the link of the place at hand
+-- the link of the operator at hand
 inside : (c : tie.After-struct-known2 Inv-loop μ-loop) → let at = c .before .before .before .before .before in
     getD (at .before .before .args .path .operators) (at .loop .k) noLinkedOperator .link .0 < linkCount
 inside c = let at = c .before .before .before .before .before in at .before .before .pre .1 (at .loop .k) (omega arith)
@@ -27,11 +27,11 @@ inside c = let at = c .before .before .before .before .before in at .before .bef
 loop-holds : tie.Need-loop-holds Inv-loop μ-loop
 loop-holds c = (omega arith, noted-first (c .before .args .path .operators))
 
-mul-place : tie.Need-mul-place Inv-loop μ-loop
-mul-place c = omega arith
+mul-linked : tie.Need-mul-linked Inv-loop μ-loop
+mul-linked c = omega arith
 
-array-copy-out-place : tie.Need-array-copy-out-place Inv-loop μ-loop
-array-copy-out-place c = omega arith
+array-copy-out-linked : tie.Need-array-copy-out-linked Inv-loop μ-loop
+array-copy-out-linked c = omega arith
 
 cast-named : tie.Need-cast-named Inv-loop μ-loop
 cast-named c = omega (arith, inside c)
@@ -64,8 +64,8 @@ links-named-spec =
     Inv-loop
     μ-loop
     loop-holds
-    mul-place
-    array-copy-out-place
+    mul-linked
+    array-copy-out-linked
     cast-named
     array-write-named
     add-k

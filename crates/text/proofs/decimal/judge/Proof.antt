@@ -5,7 +5,7 @@ use native.Mathlib.Omega.{arith}
 use denote.Ref.{now}
 use borrow.Author.Needs.{needs}
 use Rattle.text.specs.declared.decimal.Decimals.{Decimals}
-use Rattle.text.specs.DecimalRows.{behind, rowFrom, decimalsFrom}
+use Rattle.text.specs.DecimalRows.{behindNumber, rowFrom, decimalsFrom}
 use Rattle.text.proofs.RowLaws.{Reached, reached-first, reached-next, answer-fault, answer-count}
 use Rattle.text.proofs.DecimalRowLaws.{due-none, due-large, due-many, due-number, behind-end, behind-other, behind-space}
 use Rattle.text.proofs.decimal.judge.Statement.{statement}
@@ -55,7 +55,7 @@ passed : (c : tie.Else1 Inv-loop μ-loop)
     → let l = c .before .before .before .before .before in
     let a = l .before .before .args in
     let next = c .before .before .next .given .0 .1 .0 in
-    Reached (rowFrom (a .places) (now (a .text)) (a .from)) (l .loop .count + 1) (behind (now (a .text)) next (rowFrom (a .places - (l .loop .count + 1)) (now (a .text)) (next + 1)))
+    Reached (rowFrom (a .places) (now (a .text)) (a .from)) (l .loop .count + 1) (behindNumber (now (a .text)) next (rowFrom (a .places - (l .loop .count + 1)) (now (a .text)) (next + 1)))
 passed c =
     let read = c .before .before .before .before in
     reached-next _ _ _ _ (rw (due-number _ _ (read .decimal-at .ensures) _ _ (c .before .before .next .given .1) _ _ (c .if1 .left)) at (read .before .loop .inv .1))

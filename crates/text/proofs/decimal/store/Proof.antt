@@ -7,7 +7,7 @@ use native.Mathlib.Omega.{arith}
 use denote.Ref.{now}
 use lib.ListN.{length, set, length-set}
 use borrow.Author.Needs.{needs}
-use Rattle.text.specs.DecimalRows.{behind, rowFrom, numbersAfter}
+use Rattle.text.specs.DecimalRows.{behindNumber, rowFrom, numbersAfter}
 use Rattle.text.proofs.RowLaws.{Storing, storing-first, storing-next, storing-length, storing-no-fault, storing-end}
 use Rattle.text.proofs.DecimalRowLaws.{due-number, number-stands, place-left, behind-end, behind-goes-on}
 use Rattle.text.proofs.decimal.store.Statement.{statement}
@@ -57,7 +57,7 @@ stored : (c : tie.After-known-told Inv-loop μ-loop)
     let text = now (a .text) in
     let value = c .before .value .given .0 .0 in
     let next = c .before .value .given .0 .1 .0 in
-    Storing lent (rowFrom (length lent) text (a .from)) (set (l .loop .numbers) (l .loop .count) value) (l .loop .count + 1) (behind text next (rowFrom (length lent - (l .loop .count + 1)) text (next + 1)))
+    Storing lent (rowFrom (length lent) text (a .from)) (set (l .loop .numbers) (l .loop .count) value) (l .loop .count + 1) (behindNumber text next (rowFrom (length lent - (l .loop .count + 1)) text (next + 1)))
 stored c =
     let read = c .before .before .before in
     let l = read .before .before in
