@@ -60,6 +60,18 @@ mod exported {
             width: usize,
             turns: u64,
         ) -> u64;
+
+        pub fn workload_spare_rates(
+            capacity: u32,
+            standing: *const u32,
+            standing_count: usize,
+            asked: *const u32,
+            asked_count: usize,
+            sheets: *const u8,
+            size: usize,
+            width: usize,
+            turns: u64,
+        ) -> u64;
     }
 }
 
@@ -161,6 +173,29 @@ pub fn releases(
             standing.len(),
             released.as_ptr(),
             released.len(),
+            sheets.as_ptr(),
+            sheets.len(),
+            width,
+            turns,
+        )
+    }
+}
+
+pub fn spare_rates(
+    capacity: u32,
+    standing: &[u32],
+    asked: &[u32],
+    sheets: &[u8],
+    width: usize,
+    turns: u64,
+) -> u64 {
+    unsafe {
+        exported::workload_spare_rates(
+            capacity,
+            standing.as_ptr(),
+            standing.len(),
+            asked.as_ptr(),
+            asked.len(),
             sheets.as_ptr(),
             sheets.len(),
             width,

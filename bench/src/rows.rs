@@ -16,6 +16,7 @@ pub struct Planner {
     slots: fn(&[u8], &mut [u32], &[u64], &[u64], usize, u64) -> u64,
     admissions: fn(u32, &[u32], &[u32], &[u8], usize, u64) -> u64,
     releases: fn(u32, &[u32], &[u32], &[u8], usize, u64) -> u64,
+    spare_rates: fn(u32, &[u32], &[u32], &[u8], usize, u64) -> u64,
 }
 
 pub const PROVED: Planner = Planner {
@@ -26,6 +27,7 @@ pub const PROVED: Planner = Planner {
     slots: proved::slots,
     admissions: proved::admissions,
     releases: proved::releases,
+    spare_rates: proved::spare_rates,
 };
 
 pub const PLAIN: Planner = Planner {
@@ -36,6 +38,7 @@ pub const PLAIN: Planner = Planner {
     slots: turns::slots,
     admissions: turns::admissions,
     releases: turns::releases,
+    spare_rates: turns::spare_rates,
 };
 
 /// The capacity of each link, and the paths that stand in the ledger.
@@ -55,6 +58,7 @@ pub enum Calls {
     Slots(fn(&mut Random) -> Path),
     Admissions,
     Releases,
+    SpareRates,
 }
 
 pub struct RowKind {
@@ -62,7 +66,7 @@ pub struct RowKind {
     calls: Calls,
 }
 
-pub const ROWS: [RowKind; 14] = [
+pub const ROWS: [RowKind; 15] = [
     RowKind {
         name: "figures of 16 operators",
         calls: Calls::Figures,
@@ -119,6 +123,10 @@ pub const ROWS: [RowKind; 14] = [
         name: "release from a ledger of 63",
         calls: Calls::Releases,
     },
+    RowKind {
+        name: "spare rate in a ledger of 63",
+        calls: Calls::SpareRates,
+    },
 ];
 
 /// A row with the inputs of its calls.
@@ -135,6 +143,7 @@ enum Given {
     Slots(Slots),
     Admissions(Paths),
     Releases(Paths),
+    SpareRates(Paths),
 }
 
 struct Paths {
@@ -175,6 +184,12 @@ impl RowKind {
                     sheets: random.sheets(SHEETS),
                 })
             }
+            Calls::SpareRates => Given::SpareRates(Paths {
+                capacity: CAPACITY,
+                standing: random.path_numbers(STANDING),
+                numbers: (0..16).collect(),
+                sheets: random.sheets(SHEETS),
+            }),
         };
         Row {
             name: self.name,
@@ -208,6 +223,7 @@ impl Given {
             Given::Slots(slots) => slots.play(planner, calls),
             Given::Admissions(paths) => paths.play(planner.admissions, calls),
             Given::Releases(paths) => paths.play(planner.releases, calls),
+            Given::SpareRates(paths) => paths.play(planner.spare_rates, calls),
         }
     }
 }
@@ -319,7 +335,19 @@ pub fn answers_agree() -> Result<u64, String> {
         )?;
         agree(
             "releases",
-            &Given::Releases(Paths { sheets, ..paths() }),
+            &Given::Releases(Paths {
+                sheets: sheets.clone(),
+                ..paths()
+            }),
+            200,
+        )?;
+        agree(
+            "spare rates",
+            &Given::SpareRates(Paths {
+                numbers: (0..18).collect(),
+                sheets,
+                ..paths()
+            }),
             200,
         )?;
     }

@@ -186,6 +186,28 @@ pub fn releases(
     sum
 }
 
+pub fn spare_rates(
+    capacity: u32,
+    standing: &[u32],
+    asked: &[u32],
+    sheets: &[u8],
+    width: usize,
+    turns: u64,
+) -> u64 {
+    let (mut ledger, records) = filled(capacity, standing, sheets, width);
+    let (mut sum, mut j) = (0, 0);
+    for _ in 0..turns {
+        let link = asked[j];
+        ledger.capacities[link as usize % LINKS] = capacity;
+        sum = match ledger.spare_rate(&records, link) {
+            Err(why) => mix_refusal(sum, why),
+            Ok(rate) => mix(sum, u64::from(rate)),
+        };
+        j = after(j, 1, asked.len());
+    }
+    sum
+}
+
 fn mix_record(sum: u64, record: Record) -> u64 {
     let sum = mix(sum, u64::from(record.number));
     mix(mix(sum, u64::from(record.rate)), u64::from(record.links))

@@ -135,6 +135,16 @@ impl Ledger {
         Ok(())
     }
 
+    /// What a link's capacity leaves to further paths.
+    pub fn spare_rate(&self, records: &[Record], link: u32) -> Result<u32, Refusal> {
+        let reserved = self.test(records)?;
+        let link = link as usize;
+        if link >= LINKS {
+            return Err(Refusal::OutOfRange(0));
+        }
+        Ok(self.capacities[link] - reserved[link])
+    }
+
     /// Tests all that is stored and lent, and answers the reserved total of each link.
     fn test(&self, records: &[Record]) -> Result<[u32; LINKS], Refusal> {
         if records.len() != RECORDS

@@ -1,4 +1,4 @@
-// Admissions into a ledger and releases from it. Each turn begins with the same ledger.
+// Admissions into a ledger, releases from it and the spare rates of its links. Each turn begins with the same ledger.
 
 use crate::after;
 use crate::mix;
@@ -8,9 +8,12 @@ use book::ReleasedPath;
 use book::admit_path;
 use book::open_book;
 use book::release_path;
+use book::spare_on;
 use ledger::Ledger;
 use ledger::Record;
 use ledger::no_record;
+use ledger::spare::Spare;
+use quantity::LinkCapacity;
 use sheet::read::Verdict;
 ghost use Prim.Native.Nat.{_≤_, _<_};
 ghost use lib.ListN.{length};
@@ -119,6 +122,46 @@ pub extern "C" fn workload_releases(
         left -= 1;
     }
     sum
+}
+
+// A ledger with paths; then in each turn the spare rate of one link of some. A capacity is stored anew in each turn, so that no turn can go by the tests of the one before.
+#[no_mangle]
+pub extern "C" fn workload_spare_rates(
+    capacity: u32,
+    standing: &[u32],
+    asked: &[u32],
+    sheets: &[u8],
+    width: usize,
+    turns: u64,
+) -> u64 {
+    let mut sum: u64 = 0;
+    if asked.len() == 0 {
+        return sum;
+    }
+    if sheets.len() < width {
+        return sum;
+    }
+    let book = filled(capacity, standing, sheets, width);
+    let mut ledger = book.ledger;
+    let records = book.records;
+    let mut j = 0;
+    let mut left = turns;
+    while 0 < left {
+        let link = asked[j];
+        ledger.capacities[(link % 16) as usize] = LinkCapacity(capacity);
+        sum = mix_spare(sum, spare_on(ledger, records, link));
+        j = after(j, 1, asked.len());
+        left -= 1;
+    }
+    sum
+}
+
+fn mix_spare(sum: u64, answer: Spare) -> u64 {
+    let verdict = answer.verdict;
+    match verdict {
+        Verdict::Refused(why) => mix_refusal(sum, why),
+        Verdict::Accepted => mix(sum, answer.rate.0 as u64),
+    }
 }
 
 fn mix_admitted(sum: u64, answer: AdmittedPath) -> u64 {
