@@ -194,12 +194,12 @@ pub fn spare_rates(
     width: usize,
     turns: u64,
 ) -> u64 {
-    let (mut ledger, records) = filled(capacity, standing, sheets, width);
+    let (mut ledger, _) = filled(capacity, standing, sheets, width);
     let (mut sum, mut j) = (0, 0);
     for _ in 0..turns {
         let link = asked[j];
         ledger.capacities[link as usize % LINKS] = capacity;
-        sum = match ledger.spare_rate(&records, link) {
+        sum = match ledger.spare_rate(link) {
             Err(why) => mix_refusal(sum, why),
             Ok(rate) => mix(sum, u64::from(rate)),
         };

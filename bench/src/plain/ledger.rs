@@ -44,10 +44,11 @@ pub struct Admitted {
     pub delay: u64,
 }
 
-/// The links' capacities, and how many of the lent records stand.
+/// The links' capacities and reserved totals, and how many of the lent records stand.
 #[derive(Clone, Copy, Debug, PartialEq, Eq)]
 pub struct Ledger {
     pub capacities: [u32; LINKS],
+    pub totals: [u32; LINKS],
     pub count: usize,
 }
 
@@ -81,6 +82,7 @@ impl Ledger {
         records.fill(Record::CLEAR);
         Ok(Ledger {
             capacities,
+            totals: [0; LINKS],
             count: 0,
         })
     }
@@ -95,7 +97,7 @@ impl Ledger {
         if number > LARGEST_NUMBER {
             return Err(Refusal::Unusable);
         }
-        let reserved = self.test(records)?;
+        self.test(records)?;
         let figures = figures(sheet)?;
         if find(&records[..self.count], number).is_some() {
             return Err(Refusal::PathNumberWrong);
@@ -109,8 +111,13 @@ impl Ledger {
             links: links_of(&figures.path),
         };
         for link in 0..LINKS {
-            if record.is_on(link) && reserved[link] + record.rate > self.capacities[link] {
+            if record.is_on(link) && self.totals[link] + record.rate > self.capacities[link] {
                 return Err(Refusal::LinkShort);
+            }
+        }
+        for (link, total) in self.totals.iter_mut().enumerate() {
+            if record.is_on(link) {
+                *total += record.rate;
             }
         }
         records[self.count] = record;
@@ -129,24 +136,39 @@ impl Ledger {
         self.test(records)?;
         let standing = &mut records[..self.count];
         let at = find(standing, number).ok_or(Refusal::PathNumberWrong)?;
+        let gone = standing[at];
+        for (link, total) in self.totals.iter_mut().enumerate() {
+            if gone.is_on(link) {
+                *total -= gone.rate;
+            }
+        }
         standing.copy_within(at + 1.., at);
         self.count -= 1;
         records[self.count] = Record::CLEAR;
         Ok(())
     }
 
-    /// What a link's capacity leaves to further paths.
-    pub fn spare_rate(&self, records: &[Record], link: u32) -> Result<u32, Refusal> {
-        let reserved = self.test(records)?;
+    /// What a link's capacity leaves to further paths, by the stored total.
+    pub fn spare_rate(&self, link: u32) -> Result<u32, Refusal> {
+        let unusable = self
+            .capacities
+            .iter()
+            .zip(&self.totals)
+            .fold(false, |unusable, (&capacity, &total)| {
+                unusable | (capacity > LARGEST_CAPACITY) | (total > capacity)
+            });
+        if unusable {
+            return Err(Refusal::Unusable);
+        }
         let link = link as usize;
         if link >= LINKS {
             return Err(Refusal::OutOfRange(0));
         }
-        Ok(self.capacities[link] - reserved[link])
+        Ok(self.capacities[link] - self.totals[link])
     }
 
-    /// Tests all that is stored and lent, and answers the reserved total of each link.
-    fn test(&self, records: &[Record]) -> Result<[u32; LINKS], Refusal> {
+    /// Tests all that is stored and lent.
+    fn test(&self, records: &[Record]) -> Result<(), Refusal> {
         if records.len() != RECORDS
             || self.count > RECORDS
             || self
@@ -177,9 +199,10 @@ impl Ledger {
             .iter()
             .zip(&self.capacities)
             .any(|(sum, capacity)| sum > capacity)
+            || reserved != self.totals
         {
             return Err(Refusal::Unusable);
         }
-        Ok(reserved)
+        Ok(())
     }
 }

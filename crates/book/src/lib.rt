@@ -1,4 +1,4 @@
-// The ledger's calls over records by value: each lends them and hands them back.
+// The ledger's calls over records by value: each that needs them lends them and hands them back.
 
 use ledger::Ledger;
 use ledger::Record;
@@ -8,13 +8,10 @@ use ledger::opening::Opened;
 use ledger::opening::open;
 use ledger::release::Released;
 use ledger::release::release;
-use ledger::spare::Spare;
-use ledger::spare::spare_rate;
 ghost use mathlib.Core.Path.{_≡_};
 ghost use Rattle.ledger.specs.Opening.{openedOf, recordsOpened};
 ghost use Rattle.ledger.specs.Admission.{admissionOf, recordsAdmitted};
 ghost use Rattle.ledger.specs.Release.{releasedOf, recordsReleased};
-ghost use Rattle.ledger.specs.Spare.{spareOf};
 
 pub struct NewBook {
     pub opened: Opened,
@@ -62,11 +59,4 @@ pub fn release_path(ledger: Ledger, records: [Record; 64], number: u32) -> Relea
         released,
         records: lent,
     }
-}
-
-pub fn spare_on(ledger: Ledger, records: [Record; 64], link: u32) -> Spare
-    ensures { λ r. ⌜ r ≡ spareOf ledger records link ⌝ }
-{
-    let lent = records;
-    spare_rate(ledger, &lent, link)
 }

@@ -23,13 +23,14 @@ use Rattle.figures.proofs.Promise.{accepted-none}
 use Rattle.ledger.specs.declared.Record.{Record}
 use Rattle.ledger.specs.declared.Ledger.{Ledger}
 use Rattle.ledger.specs.declared.admission.Admission.{Admission}
-use Rattle.ledger.specs.Records.{numberAt, among, stands, reserved}
-use Rattle.ledger.specs.Ledgers.{recordCount, linkCount, capacityOf}
+use Rattle.ledger.specs.Records.{numberAt, among, stands}
+use Rattle.ledger.specs.Ledgers.{recordCount, linkCount, capacityOf, totalOf}
 use Rattle.ledger.specs.Admission.{rateOf, namesLink, ledgerFull, linkShort, standingCases, admissionCases, refusedAdmission, acceptedAdmission, admissionOf}
 use Rattle.ledger.specs.Admissible.{Admissible}
 use Rattle.ledger.proofs.UsableLedger.{usable-ledger}
 use Rattle.ledger.proofs.Numbers.{not-among}
 use Rattle.ledger.proofs.Admitting.{path-link}
+use Rattle.ledger.proofs.Deciding.{total-is}
 
 -- the link of an operator is named, and a named link is an operator's
 named-at : (path : Path) (k : ℕ) → k < length (path .operators) → namesLink path (linkAt path k) ≡ true
@@ -42,33 +43,33 @@ module _ (ledger : Ledger) (records : List Record) (number : ℕ) (sheet : List 
 
   -- 12 does not stand where each operator's link carries the path, and only there
   abbrev Carried : Type 0
-  Carried = (k : ℕ) → k < length (value .operators) → reserved records (ledger .count) (linkAt value k) + rateOf value ≤ capacityOf ledger (linkAt value k)
+  Carried = (k : ℕ) → k < length (value .operators) → totalOf ledger (linkAt value k) + rateOf value ≤ capacityOf ledger (linkAt value k)
 
   abbrev beyond : ℕ → Bool
-  beyond link = ltb (capacityOf ledger link) (reserved records (ledger .count) link + rateOf value)
+  beyond link = ltb (capacityOf ledger link) (totalOf ledger link + rateOf value)
 
   none-beyond : (t : Bool) → not (both t false) ≡ true
   none-beyond true = refl
   none-beyond false = refl
 
-  not-short : Carried → linkShort ledger records value ≡ false
+  not-short : Carried → linkShort ledger value ≡ false
   unfolding linkShort namesLink
   not-short carried = ap not (every-holds _ linkCount (λ link less. by-test link (beyond link) refl))
     where
       by-test : (link : ℕ) (t : Bool) → beyond link ≡ t → not (both (namesLink value link) t) ≡ true
       by-test link true e =
           let unnamed = every-holds (λ k. not (eqb (linkAt value k) link)) (length (value .operators))
-          (λ k less. ap not (ne-eqb (linkAt value k) link (λ same. let fits = carried k less in let past = ltb-true (capacityOf ledger link) _ e in omega (arith, subst (λ (l : ℕ). reserved records (ledger .count) l + rateOf value ≤ capacityOf ledger l) same fits, past)))) in
+          (λ k less. ap not (ne-eqb (linkAt value k) link (λ same. let fits = carried k less in let past = ltb-true (capacityOf ledger link) _ e in omega (arith, subst (λ (l : ℕ). totalOf ledger l + rateOf value ≤ capacityOf ledger l) same fits, past)))) in
           ap (λ (t : Bool). not (both t true)) (ap not unnamed)
       by-test link false e = none-beyond (namesLink value link)
 
-  carried-where : NoneStands (sheetCases sheet) → linkShort ledger records value ≡ false → Carried
+  carried-where : NoneStands (sheetCases sheet) → linkShort ledger value ≡ false → Carried
   unfolding linkShort
   carried-where planned enough k less =
       let link = linkAt value k in
       let each = every-at _ linkCount (not-false _ enough) link (path-link value (sheet-path sheet planned .inside) k) in
       let fits : not (both true (beyond link)) ≡ true = ap (λ (t : Bool). not (both t (beyond link))) (sym (named-at value k less)) ∙ each in
-      ltb-false (capacityOf ledger link) (reserved records (ledger .count) link + rateOf value) (not-true (beyond link) fits)
+      ltb-false (capacityOf ledger link) (totalOf ledger link + rateOf value) (not-true (beyond link) fits)
 
   new-where : stands records (ledger .count) number ≡ false → (j : ℕ) → j < ledger .count → numberAt records j ≡ number → ⊥
   unfolding stands among
@@ -81,6 +82,7 @@ module _ (ledger : Ledger) (records : List Record) (number : ℕ) (sheet : List 
       record {
         numbered = le-largest pathNumberRange number (not-false _ (none .0));
         usable = none .1 .0;
+        summed = total-is ledger records (none .1 .0);
         planned = ap (λ (f : PathFigures). f .verdict) (firstOf-none refusedFigures (acceptedFigures (valueIn sheet) value) (sheetCases sheet ++ pathCases value) planned);
         new = new-where (standing .0);
         room = let other = eqb-false (ledger .count) recordCount (standing .1 .0) in let few = usable-ledger ledger records (none .1 .0) .few in omega arith;

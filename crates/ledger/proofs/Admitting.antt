@@ -12,7 +12,9 @@ use lib.Dec.{ltb}
 use borrow.Author.Tests.{lt-ltb, le-ltb, eq-eqb, ne-eqb}
 use Rattle.quantity.specs.Choice.{pick, both}
 use Rattle.quantity.specs.Rounding.{roundUp}
+use Rattle.quantity.specs.Limits.{largest32}
 use Rattle.quantity.specs.Quantities.{ratesSum}
+use Rattle.quantity.specs.Sums.{listOf}
 use Rattle.quantity.specs.Ranges.{inRange, linkRange, pathNumberRange}
 use Rattle.quantity.specs.Refusals.{firstOf}
 use Rattle.quantity.specs.declared.Rate.{Rate}
@@ -39,13 +41,14 @@ use Rattle.figures.specs.declared.PathFigures.{PathFigures}
 use Rattle.figures.proofs.Promise.{accepted-figures, accepted-none}
 use Rattle.ledger.specs.declared.Record.{Record}
 use Rattle.ledger.specs.declared.Ledger.{Ledger}
-use Rattle.ledger.specs.declared.test.Tested.{Tested}
 use Rattle.ledger.specs.declared.admission.Admitting.{Admitting}
-use Rattle.ledger.specs.Records.{numberAt, reserved, stands, placeAmong}
-use Rattle.ledger.specs.Ledgers.{linkCount, recordCount, capacityOf, ledgerUnusable}
-use Rattle.ledger.specs.Admission.{rateOf, namesLink, linksOf, ledgerFull, linkShort, standingCases, bitsOf}
-use Rattle.ledger.specs.Steps.{rateAt, testedOf, namedBy, shortOf, Decidable, refusedAdmitting, acceptedAdmitting, admittingOf}
-use Rattle.ledger.proofs.Deciding.{declaration-in-range, count-few, reserved-le, capacity-le, reserved-found, stands-below}
+use Rattle.ledger.specs.Records.{numberAt, share, stands, placeAmong}
+use Rattle.ledger.specs.Ledgers.{linkCount, recordCount, capacityOf, totalOf, ledgerUnusable}
+use Rattle.ledger.specs.Admission.{rateOf, namesLink, rateOn, linksOf, recordOf, ledgerFull, linkShort, standingCases, bitsOf}
+use Rattle.ledger.specs.Steps.{rateAt, charged, namedBy, shortOf, Decidable, refusedAdmitting, acceptedAdmitting, admittingOf}
+use Rattle.ledger.proofs.Deciding.{declaration-in-range, count-few, total-le, capacity-le, stands-below}
+use Rattle.ledger.proofs.Reserving.{share-at-most, listOf-same}
+use Rattle.ledger.proofs.Links.{share-named}
 
 -- The path of a sheet, whose numbers are in their ranges.
 
@@ -83,6 +86,25 @@ module _ (path : Path) (inside : pathInRange path ≡ true) where
       let declared = declaration-in-range (path .declaration) (declaration-of-path path inside) in
       omega (arith, div-le-self (path .declaration .quota .0 + (path .declaration .interval .0 - 1)) (path .declaration .interval .0))
 
+-- Sums of rates stay far below the largest number of their width.
+
+module _ (ledger : Ledger) (records : List Record) (usable : ledgerUnusable ledger records ≡ false) (path : Path) (inside : pathInRange path ≡ true) where
+  sum-fits : (link : ℕ) → link < linkCount → totalOf ledger link + rateOf path ≤ largest32
+  sum-fits link less = omega (arith, total-le ledger records usable link less, capacity-le ledger records usable link less, rate-le path inside)
+
+  -- so the totals with a path's record are those with its rate on each link that it names
+  pub charged-path : (number : ℕ) → charged (ledger .totals) (recordOf number path) ≡ listOf (λ link. record { 0 = totalOf ledger link + rateOn link path }) linkCount
+  unfolding charged recordOf
+  charged-path number =
+      listOf-same _ _ linkCount
+      (λ link less.
+      let more : Rate = record { 0 = share (recordOf number path) link } in
+      ap (λ (n : ℕ). record { 0 = n })
+      (rates-sum (rateAt (ledger .totals) link) more (omega (arith, sum-fits link less, share-path link)) ∙ ap (λ (n : ℕ). totalOf ledger link + n) (share-named number path link less)))
+    where
+      share-path : (link : ℕ) → share (recordOf number path) link ≤ rateOf path
+      share-path link = share-at-most (recordOf number path) link
+
 -- What the code finds of a path's value is what the definitions say of the path.
 
 module _ (path : Path) (value : PathValue) (same : value ≡ valueOfPath (value .form) path) where
@@ -109,19 +131,16 @@ module _ (path : Path) (value : PathValue) (same : value ≡ valueOfPath (value 
     unfolding bitsOf linksOf
     named-bits = total-same _ _ linkCount (λ link less. ap (λ (t : Bool). pick t (2 ^ link) 0) (named-link link less))
 
-    -- sums of rates stay far below the largest number of their width
-    pub named-short : (ledger : Ledger) (records : List Record) → ledgerUnusable ledger records ≡ false → {tested : Tested} → tested ≡ testedOf ledger records
+    pub named-short : (ledger : Ledger) (records : List Record) → ledgerUnusable ledger records ≡ false
         → pathInRange path ≡ true → {rate : Rate} → rate ≡ record { 0 = rateOf path }
-        → shortOf (ledger .capacities) (tested .reserved) (λ link. getD named link false) rate ≡ linkShort ledger records path
+        → shortOf (ledger .capacities) (ledger .totals) (λ link. getD named link false) rate ≡ linkShort ledger path
     unfolding shortOf linkShort
-    named-short ledger records usable {tested} found inside {rate} is =
+    named-short ledger records usable inside {rate} is =
         ap not
         (every-same _ _ linkCount
         (λ link less.
-        let sum : Rate = record { 0 = reserved records (ledger .count) link } in
-        let with : ratesSum (rateAt (tested .reserved) link) rate .0 ≡ reserved records (ledger .count) link + rateOf path =
-        ap₂ (λ (a b : Rate). ratesSum a b .0) (reserved-found ledger records found usable link less) is
-        ∙ rates-sum sum (record { 0 = rateOf path }) (omega (arith, reserved-le ledger records usable link less, capacity-le ledger records usable link less, rate-le path inside)) in
+        let with : ratesSum (rateAt (ledger .totals) link) rate .0 ≡ totalOf ledger link + rateOf path =
+        ap (λ (r : Rate). ratesSum (rateAt (ledger .totals) link) r .0) is ∙ rates-sum (rateAt (ledger .totals) link) (record { 0 = rateOf path }) (sum-fits ledger records usable path inside link less) in
         ap₂ (λ (names : Bool) (n : ℕ). not (both names (ltb (capacityOf ledger link) n))) (named-link link less) with))
 
 -- 10 to 12 can be decided of a ledger that can be used and the path of an accepted sheet, whose figures answer the path and its delay
@@ -164,11 +183,11 @@ module _ (ledger : Ledger) (records : List Record) (number : ℕ) (path : Path) 
       standing-full full = sym (pick-false _ _ _ new ∙ pick-true _ _ _ (eq-eqb (ledger .count) recordCount full))
 
       module _ (room : ledger .count ≡ recordCount → ⊥) where
-        pub standing-short : linkShort ledger records path ≡ true → refusedAdmitting ledger LinkShort ≡ standing
+        pub standing-short : linkShort ledger path ≡ true → refusedAdmitting ledger LinkShort ≡ standing
         unfolding ledgerFull
         standing-short short = sym (pick-false _ _ _ new ∙ pick-false _ _ _ (ne-eqb (ledger .count) recordCount room) ∙ pick-true _ _ _ short)
 
-        pub standing-accepted : linkShort ledger records path ≡ false → acceptedAdmitting ledger number path ≡ standing
+        pub standing-accepted : linkShort ledger path ≡ false → acceptedAdmitting ledger number path ≡ standing
         unfolding ledgerFull
         standing-accepted enough = sym (pick-false _ _ _ new ∙ pick-false _ _ _ (ne-eqb (ledger .count) recordCount room) ∙ pick-false _ _ _ enough)
 

@@ -1,29 +1,31 @@
 -- A ledger and its records are those of its account, from a new one on and after each call: then refusal 1 lets them pass, and 10 to 12 stand where the account says.
-use mathlib.Core.Path.{_≡_, ap, ap₂, _∙_}
-use mathlib.Core.Bool.{true, not}
+use mathlib.Core.Path.{_≡_, ap, ap₂, sym, _∙_}
+use mathlib.Core.Bool.{true, false, not}
 use mathlib.Core.List.{List}
 use Prim.Native.Nat.{ℕ, _+_, _-_, _≤_, _<_}
 use native.Mathlib.Omega.{arith}
 use lib.ListN.{length}
 use lib.Dec.{ltb, eqb}
-use borrow.Author.Tests.{le-leb, ne-eqb}
+use borrow.Author.Tests.{le-leb, eq-eqb, ne-eqb}
 use Rattle.quantity.specs.Choice.{both}
 use Rattle.quantity.specs.Sums.{listOf}
 use Rattle.quantity.specs.Ranges.{inRange, linkCapacityRange}
 use Rattle.quantity.specs.Refusals.{Case, firstOf}
 use Rattle.quantity.specs.declared.refusal.Refusal.{Refusal}
 use Rattle.quantity.specs.declared.LinkCapacity.{LinkCapacity}
+use Rattle.quantity.specs.declared.Rate.{Rate}
+use Rattle.quantity.proofs.Laws.{either-none}
 use Rattle.quantity.proofs.Sums.{every-holds, getD-listOf, every-same}
 use Rattle.sheet.specs.Paths.{Path}
 use Rattle.sheet.specs.Sheets.{pathIn}
 use Rattle.ledger.specs.declared.Record.{Record}
 use Rattle.ledger.specs.declared.Ledger.{Ledger}
 use Rattle.ledger.specs.Records.{numberAt, stands, reserved, among, allDiffer}
-use Rattle.ledger.specs.Ledgers.{recordCount, linkCount, capacityOf, capacitiesFit, linkFits}
+use Rattle.ledger.specs.Ledgers.{recordCount, linkCount, capacityOf, totalOf, capacitiesFit, linkFits, totalKept}
 use Rattle.ledger.specs.Opening.{askedFor}
 use Rattle.ledger.specs.Admission.{rateOf, namesLink, ledgerFull, linkShort, admissionCases}
 use Rattle.ledger.specs.Release.{releaseCases}
-use Rattle.ledger.specs.Spare.{spareCases}
+use Rattle.ledger.specs.Spare.{totalFits, linksUnusable, spareCases}
 use Rattle.ledger.specs.Calls.{Call, admit, release, spare}
 use Rattle.ledger.specs.Account.{Account, reservedOn, standsIn, shortIn, callCases}
 use Rattle.ledger.specs.Lists.{Book}
@@ -33,7 +35,7 @@ use Rattle.ledger.proofs.Entries.{recordsOf, reserved-on, stands-in, le
 module _ (capacities : List ℕ) where
   -- the ledger and the records of an account
   abbrev pub ledgerOf : Account → Ledger
-  ledgerOf entries = record { capacities = listOf (λ link. record { 0 = askedFor capacities link }) linkCount; count = length entries }
+  ledgerOf entries = record { capacities = listOf (λ link. record { 0 = askedFor capacities link }) linkCount; totals = listOf (λ link. record { 0 = reservedOn link entries }) linkCount; count = length entries }
 
   abbrev pub recordsIn : Account → List Record
   recordsIn entries = recordsOf entries (recordCount - length entries)
@@ -51,6 +53,9 @@ module _ (capacities : List ℕ) where
   pub capacity-of : (entries : Account) (link : ℕ) → link < linkCount → capacityOf (ledgerOf entries) link ≡ askedFor capacities link
   capacity-of entries link less = ap (λ (c : LinkCapacity). c .0) (getD-listOf {A = LinkCapacity} (record { 0 = 0 }) (λ link. record { 0 = askedFor capacities link }) linkCount link less)
 
+  pub total-of : (entries : Account) (link : ℕ) → link < linkCount → totalOf (ledgerOf entries) link ≡ reservedOn link entries
+  total-of entries link less = ap (λ (r : Rate). r .0) (getD-listOf {A = Rate} (record { 0 = 0 }) (λ link. record { 0 = reservedOn link entries }) linkCount link less)
+
   module _ (entries : Account) where
     pub reserved-same : (link : ℕ) → link < linkCount → reserved (recordsIn entries) (length entries) link ≡ reservedOn link entries
     reserved-same = reserved-on entries (recordCount - length entries)
@@ -59,10 +64,10 @@ module _ (capacities : List ℕ) where
     unfolding stands
     stands-same number = stands-in entries (recordCount - length entries) number
 
-    pub short-same : (path : Path) → linkShort (ledgerOf entries) (recordsIn entries) path ≡ shortIn capacities entries path
+    pub short-same : (path : Path) → linkShort (ledgerOf entries) path ≡ shortIn capacities entries path
     unfolding linkShort shortIn
     short-same path =
-        ap not (every-same _ _ linkCount (λ link less. ap not (ap (both (namesLink path link)) (ap₂ ltb (capacity-of entries link less) (ap (λ (total : ℕ). total + rateOf path) (reserved-same link less))))))
+        ap not (every-same _ _ linkCount (λ link less. ap not (ap (both (namesLink path link)) (ap₂ ltb (capacity-of entries link less) (ap (λ (total : ℕ). total + rateOf path) (total-of entries link less))))))
 
     numbers-differ : Sound entries → allDiffer (numberAt (recordsIn entries)) (length entries) ≡ true
     unfolding allDiffer among
@@ -71,26 +76,40 @@ module _ (capacities : List ℕ) where
         (λ j less. ap not (ap not (every-holds (λ i. not (eqb (numberAt (recordsIn entries) i) (numberAt (recordsIn entries) j))) j
         (λ i before. ap not (ne-eqb (numberAt (recordsIn entries) i) (numberAt (recordsIn entries) j) (numbers-once entries (recordCount - length entries) i j sound before less))))))
 
+    pub total-same : (link : ℕ) → link < linkCount → totalOf (ledgerOf entries) link ≡ reserved (recordsIn entries) (length entries) link
+    total-same link less = total-of entries link less ∙ sym (reserved-same link less)
+
+    capacities-inside : SoundAccount entries → capacitiesFit (capacityOf (ledgerOf entries)) ≡ true
+    unfolding capacitiesFit
+    capacities-inside account = every-same _ _ linkCount (λ link less. ap (inRange linkCapacityRange) (capacity-of entries link less)) ∙ account .inside
+
     pub usable-same : SoundAccount entries → UsableLedger (ledgerOf entries) (recordsIn entries)
-    unfolding capacitiesFit linkFits
+    unfolding linkFits totalKept
     usable-same account =
         record {
           sized = length-records entries (recordCount - length entries) ∙ (let few = account .few in omega arith);
           few = account .few;
-          capacities-fit = every-same _ _ linkCount (λ link less. ap (inRange linkCapacityRange) (capacity-of entries link less)) ∙ account .inside;
+          capacities-fit = capacities-inside account;
           records-fit = every-holds _ recordCount (λ j less. records-fit entries (recordCount - length entries) j (account .sound));
           all-differ = numbers-differ (account .sound);
           links-fit = every-holds _ linkCount (λ link less. le-leb (reserved (recordsIn entries) (length entries) link) (capacityOf (ledgerOf entries) link) (omega (arith, reserved-same link less, capacity-of entries link less, account .within link less)));
+          totals-kept = every-holds _ linkCount (λ link less. eq-eqb (totalOf (ledgerOf entries) link) (reserved (recordsIn entries) (length entries) link) (total-same link less));
         }
+
+    links-usable : SoundAccount entries → linksUnusable (ledgerOf entries) ≡ false
+    unfolding linksUnusable totalFits
+    links-usable account =
+        either-none _ _ (ap not (capacities-inside account))
+        (ap not (every-holds _ linkCount (λ link less. le-leb (totalOf (ledgerOf entries) link) (capacityOf (ledgerOf entries) link) (omega (arith, total-of entries link less, capacity-of entries link less, account .within link less)))))
 
     -- why a call is refused
     abbrev pub bookCases : Call → List Case
     bookCases (admit number sheet) = admissionCases (ledgerOf entries) (recordsIn entries) number sheet
     bookCases (release number) = releaseCases (ledgerOf entries) (recordsIn entries) number
-    bookCases (spare link) = spareCases (ledgerOf entries) (recordsIn entries) link
+    bookCases (spare link) = spareCases (ledgerOf entries) link
 
     pub cases-same : SoundAccount entries → {A : Type 0} (refused : Refusal → A) (result : A) (call : Call) → firstOf (bookCases call) refused result ≡ firstOf (callCases capacities entries call) refused result
     unfolding ledgerFull
     cases-same account refused result (admit number sheet) = rw (ledger-usable (ledgerOf entries) (recordsIn entries) (usable-same account), stands-same number, short-same (pathIn sheet))
     cases-same account refused result (release number) = rw (ledger-usable (ledgerOf entries) (recordsIn entries) (usable-same account), stands-same number)
-    cases-same account refused result (spare link) = rw (ledger-usable (ledgerOf entries) (recordsIn entries) (usable-same account))
+    cases-same account refused result (spare link) = rw (links-usable account)

@@ -4,11 +4,11 @@ use mathlib.Core.Bool.{Bool, true, false, not}
 use mathlib.Core.List.{List}
 use Prim.Native.Nat.{ℕ, _+_, _-_, _≤_, _<_}
 use native.Mathlib.Omega.{arith}
-use lib.ListN.{length, getD, take, set, length-set, length-replicate}
+use lib.ListN.{length, getD, take, set, replicate, length-set, length-replicate}
 use lib.Dec.{ltb}
 use lib.Seq.{getD-set-same, getD-set-other}
 use borrow.Author.Count.{below-none, below-more}
-use borrow.Author.Tests.{leb-true, lt-ltb, le-ltb, eq-eqb, ne-eqb}
+use borrow.Author.Tests.{leb-true, eqb-true, lt-ltb, le-ltb, eq-eqb, ne-eqb}
 use Rattle.quantity.specs.Choice.{pick}
 use Rattle.quantity.specs.Ranges.{Range, inRange, checkedIn, linkCapacityRange, checkedLinkCapacity, pathNumberRange, checkedPathNumber, linkRange, checkedLink, intervalRange, quotaRange}
 use Rattle.quantity.specs.Sums.{every, listOf}
@@ -20,8 +20,8 @@ use Rattle.quantity.specs.declared.Link.{Link}
 use Rattle.quantity.specs.declared.CheckedLink.{CheckedLink}
 use Rattle.quantity.specs.declared.CheckedLinkCapacity.{CheckedLinkCapacity}
 use Rattle.quantity.specs.declared.refusal.Refusal.the-variants.{Unusable, OutOfRange, PathNumberWrong}
-use Rattle.quantity.proofs.Laws.{pick-true, pick-false, picked-true, picked-false, least-le, le-largest}
-use Rattle.quantity.proofs.Sums.{every-next, every-at, length-listOf, getD-listOf, listOf-ext, both-true, every-fails}
+use Rattle.quantity.proofs.Laws.{pick-true, pick-false, picked-true, picked-false, least-le, le-largest, either-first, either-second, either-none}
+use Rattle.quantity.proofs.Sums.{term-le-total, every-next, every-at, length-listOf, getD-listOf, listOf-ext, both-true, every-fails}
 use Rattle.flow.specs.Declarations.{declarationInRange}
 use Rattle.flow.specs.declared.Declaration.{Declaration}
 use Rattle.sheet.specs.declared.read.Verdict.{Verdict}
@@ -31,12 +31,12 @@ use Rattle.ledger.specs.declared.opening.Checked.{Checked}
 use Rattle.ledger.specs.declared.test.Tested.{Tested}
 use Rattle.ledger.specs.declared.release.Releasing.{Releasing}
 use Rattle.ledger.specs.declared.Record.{Record}
-use Rattle.ledger.specs.Records.{noRecord, numberAt, reserved, placeAmong, stands}
-use Rattle.ledger.specs.Ledgers.{linkCount, recordCount, capacityOf, capacitiesFit, linkFits, ledgerUnusable}
+use Rattle.ledger.specs.Records.{noRecord, recordAt, numberAt, share, reserved, placeAmong, stands}
+use Rattle.ledger.specs.Ledgers.{linkCount, recordCount, capacityOf, totalOf, capacitiesFit, linkFits, totalKept, ledgerUnusable}
 use Rattle.ledger.specs.Opening.{askedFor, newLedger, noLedger}
 use Rattle.ledger.specs.Release.{acceptedRelease}
-use Rattle.ledger.specs.Spare.{refusedSpare, spareOf}
-use Rattle.ledger.specs.Steps.{checkedOf, clearingOf, refusedClearing, refusedReleasing, releasingOf, rateAt, reservedRates, notTested, testedOf}
+use Rattle.ledger.specs.Spare.{totalFits, linksUnusable, refusedSpare, spareOf}
+use Rattle.ledger.specs.Steps.{checkedOf, clearingOf, refusedClearing, refusedReleasing, releasingOf, discharged, notTested, testedOf}
 use Rattle.ledger.proofs.Numbers.{place-at-most, place-among, place-in-front}
 use Rattle.ledger.proofs.Testing.{tested as passing}
 use Rattle.ledger.proofs.UsableLedger.{usable-ledger}
@@ -92,6 +92,7 @@ module _ (capacities : List ℕ) where
   pub record Passed (ledger : Ledger) (link : ℕ) : Type 0 where
     pub few : link ≤ linkCount
     pub empty : ledger .count ≡ 0
+    pub nothing : ledger .totals ≡ replicate linkCount (record { 0 = 0 })
     pub sized : length (ledger .capacities) ≡ linkCount
     pub fit : every (λ j. inRange linkCapacityRange (askedFor capacities j)) link ≡ true
     pub each : (j : ℕ) → j < link → getD (ledger .capacities) j (record { 0 = 0 }) ≡ record { 0 = askedFor capacities j }
@@ -99,18 +100,19 @@ module _ (capacities : List ℕ) where
   pub passed-first : {ledger : Ledger} → ledger ≡ noLedger → Passed ledger 0
   unfolding every
   passed-first none =
-      rw none (record { few = omega arith; empty = refl; sized = length-replicate {A = LinkCapacity} linkCount (record { 0 = 0 }); fit = refl; each = below-none _ })
+      rw none (record { few = omega arith; empty = refl; nothing = refl; sized = length-replicate {A = LinkCapacity} linkCount (record { 0 = 0 }); fit = refl; each = below-none _ })
 
   module _ {ledger : Ledger} {link : ℕ} (passed : Passed ledger link) (less : link < linkCount)
       {answer : CheckedLinkCapacity} (answered : answer ≡ checkedLinkCapacity (askedFor capacities link)) where
     pub passed-next : {capacity : LinkCapacity} → answer ≡ CheckedLinkCapacity.InRange capacity
-        → Passed (record { capacities = set (ledger .capacities) link capacity; count = ledger .count }) (link + 1)
+        → Passed (record { capacities = set (ledger .capacities) link capacity; totals = ledger .totals; count = ledger .count }) (link + 1)
     passed-next {capacity} told =
         let (inside, asked) = checked-inside linkCapacityRange _ _ _ answered told (λ e. let never : _≡_ {A = ℕ} 0 1 = cc in omega arith) in
         let same : capacity ≡ record { 0 = askedFor capacities link } = cc in
         record {
           few = omega arith;
           empty = passed .empty;
+          nothing = passed .nothing;
           sized = length-set (ledger .capacities) link capacity ∙ passed .sized;
           fit = rw (every-next, passed .fit) inside;
           each =
@@ -130,7 +132,8 @@ module _ (capacities : List ℕ) where
   passed-all {ledger} passed =
       let same : ledger .capacities ≡ listOf (λ link. record { 0 = askedFor capacities link }) linkCount = listOf-ext (record { 0 = 0 }) _ linkCount (ledger .capacities) (passed .sized) (passed .each) in
       let none = passed .empty in
-      (λ i. record { fit = true; ledger = record { capacities = same i; count = none i } }) ∙ sym (pick-true _ _ _ (passed .fit))
+      let clear = passed .nothing in
+      (λ i. record { fit = true; ledger = record { capacities = same i; totals = clear i; count = none i } }) ∙ sym (pick-true _ _ _ (passed .fit))
 
   -- what was checked, and so what opening decides
   module _ {checked : Checked} (answered : checked ≡ checkedOf capacities) where
@@ -174,6 +177,19 @@ module _ (ledger : Ledger) (records : List Record) where
     unfolding linkFits
     reserved-le link less = leb-true _ _ (every-at (linkFits ledger records) linkCount (usable-ledger ledger records usable .links-fit) link less)
 
+    -- which is the stored total
+    pub total-is : (link : ℕ) → link < linkCount → totalOf ledger link ≡ reserved records (ledger .count) link
+    unfolding totalKept
+    total-is link less = eqb-true _ _ (every-at (totalKept ledger records) linkCount (usable-ledger ledger records usable .totals-kept) link less)
+
+    pub total-le : (link : ℕ) → link < linkCount → totalOf ledger link ≤ capacityOf ledger link
+    total-le link less = rw (total-is link less) (reserved-le link less)
+
+    -- and at least what each record that stands reserves
+    pub share-le : (j link : ℕ) → j < ledger .count → link < linkCount → share (recordAt records j) link ≤ totalOf ledger link
+    unfolding reserved
+    share-le j link before less = rw (total-is link less) (term-le-total (λ k. share (recordAt records k) link) (ledger .count) j before)
+
     pub capacity-le : (link : ℕ) → link < linkCount → capacityOf ledger link ≤ 1_000_000
     unfolding capacitiesFit
     capacity-le link less = le-largest linkCapacityRange (capacityOf ledger link) (every-at _ linkCount (usable-ledger ledger records usable .capacities-fit) link less)
@@ -203,10 +219,6 @@ module _ (ledger : Ledger) (records : List Record) where
           place-in-front (tested .numbers) (numberAt records) (ledger .count) numbers-whole
           (λ k less. ap (λ (t : Tested). getD (t .numbers) k 0) tested-passing ∙ getD-listOf 0 (numberAt records) recordCount k (omega (arith, count-few usable))) number
 
-      pub reserved-found : (link : ℕ) → link < linkCount → rateAt (tested .reserved) link ≡ record { 0 = reserved records (ledger .count) link }
-      unfolding reservedRates
-      reserved-found link less = ap (λ (t : Tested). rateAt (t .reserved) link) tested-passing ∙ getD-listOf (record { 0 = 0 }) (λ k. record { 0 = reserved records (ledger .count) k }) linkCount link less
-
 -- a path of the number stands where its place is below the count
 pub stands-below : (records : List Record) (count number : ℕ) {at : ℕ} → at ≡ placeAmong (numberAt records) count number → ltb at count ≡ stands records count number
 unfolding stands
@@ -234,34 +246,44 @@ module _ (ledger : Ledger) (records : List Record) (number : ℕ) where
         pub place-below : at < ledger .count
         place-below = omega (arith, place-at-most (numberAt records) number (ledger .count))
 
-        pub release-stands : record { released = acceptedRelease ledger; at = at; last = noRecord } ≡ releasingOf ledger records number
-        unfolding releasingOf
-        release-stands =
-            ap {B = Releasing} (λ (place : ℕ). record { released = acceptedRelease ledger; at = place; last = noRecord }) found
+        pub release-stands : {gone : Record} → gone ≡ recordAt records at → {left : List Rate} → left ≡ discharged (ledger .totals) gone
+            → record { released = record { verdict = Verdict.Accepted; ledger = record { capacities = ledger .capacities; totals = left; count = ledger .count - 1 } }; at = at; last = noRecord } ≡ releasingOf ledger records number
+        unfolding releasingOf acceptedRelease discharged
+        release-stands of-place less =
+            ap {B = Releasing} (λ (left : List Rate). record { released = record { verdict = Verdict.Accepted; ledger = record { capacities = ledger .capacities; totals = left; count = ledger .count - 1 } }; at = at; last = noRecord }) less
+            ∙ ap {B = Releasing} (λ (gone : Record). record { released = acceptedRelease ledger gone; at = at; last = noRecord }) of-place
+            ∙ ap {B = Releasing} (λ (place : ℕ). record { released = acceptedRelease ledger (recordAt records place); at = place; last = noRecord }) found
             ∙ sym (pick-false _ _ _ (ap not inside) ∙ pick-false _ _ _ usable ∙ pick-false _ _ _ (ap not (sym (stands-below records (ledger .count) number found) ∙ lt-ltb at (ledger .count) place-below)))
 
 -- A link's spare rate.
 
-module _ (ledger : Ledger) (records : List Record) (link : ℕ) where
-  pub spare-unusable : ledgerUnusable ledger records ≡ true → refusedSpare Unusable ≡ spareOf ledger records link
+module _ (ledger : Ledger) (link : ℕ) where
+  spare-unusable : linksUnusable ledger ≡ true → refusedSpare Unusable ≡ spareOf ledger link
   unfolding spareOf
   spare-unusable unusable = sym (pick-true _ _ _ unusable)
 
-  module _ (usable : ledgerUnusable ledger records ≡ false) where
-    pub spare-outside : inRange linkRange link ≡ false → refusedSpare (OutOfRange 0) ≡ spareOf ledger records link
+  pub spare-unfit : capacitiesFit (capacityOf ledger) ≡ false → refusedSpare Unusable ≡ spareOf ledger link
+  unfolding linksUnusable
+  spare-unfit unfit = spare-unusable (either-first _ _ (ap not unfit))
+
+  pub spare-above : every (totalFits ledger) linkCount ≡ false → refusedSpare Unusable ≡ spareOf ledger link
+  unfolding linksUnusable
+  spare-above above = spare-unusable (either-second (not (capacitiesFit (capacityOf ledger))) _ (ap not above))
+
+  module _ (fit : capacitiesFit (capacityOf ledger) ≡ true) (within : every (totalFits ledger) linkCount ≡ true) where
+    usable : linksUnusable ledger ≡ false
+    unfolding linksUnusable
+    usable = either-none _ _ (ap not fit) (ap not within)
+
+    pub spare-outside : inRange linkRange link ≡ false → refusedSpare (OutOfRange 0) ≡ spareOf ledger link
     unfolding spareOf
     spare-outside outside = sym (pick-false _ _ _ usable ∙ pick-true _ _ _ (ap not outside))
 
-    module _ {tested : Tested} (found : tested ≡ testedOf ledger records) (inside : inRange linkRange link ≡ true) where
-      below : link < linkCount
-      below = omega (arith, le-largest linkRange link inside)
+    module _ (inside : inRange linkRange link ≡ true) where
+      pub spare-fits : totalOf ledger link ≤ capacityOf ledger link
+      unfolding totalFits
+      spare-fits = leb-true _ _ (every-at (totalFits ledger) linkCount within link (omega (arith, le-largest linkRange link inside)))
 
-      rate-found : rateAt (tested .reserved) link .0 ≡ reserved records (ledger .count) link
-      rate-found = ap (λ (rate : Rate). rate .0) (reserved-found ledger records found usable link below)
-
-      pub spare-fits : rateAt (tested .reserved) link .0 ≤ capacityOf ledger link
-      spare-fits = rw rate-found (reserved-le ledger records usable link below)
-
-      pub spare-found : record { verdict = Verdict.Accepted; rate = record { 0 = capacityOf ledger link - rateAt (tested .reserved) link .0 } } ≡ spareOf ledger records link
+      pub spare-found : record { verdict = Verdict.Accepted; rate = record { 0 = capacityOf ledger link - totalOf ledger link } } ≡ spareOf ledger link
       unfolding spareOf
-      spare-found = rw rate-found (sym (pick-false _ _ _ usable ∙ pick-false _ _ _ (ap not inside)))
+      spare-found = sym (pick-false _ _ _ usable ∙ pick-false _ _ _ (ap not inside))

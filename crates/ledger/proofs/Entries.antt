@@ -15,8 +15,8 @@ use Rattle.quantity.proofs.Sums.{total-zero, total-first}
 use Rattle.ledger.specs.declared.Record.{Record}
 use Rattle.ledger.specs.Records.{noRecord, recordAt, numberAt, share, reserved, among, placeAmong}
 use Rattle.ledger.specs.Ledgers.{linkCount, recordInRange, recordClear, recordFits}
-use Rattle.ledger.specs.Admission.{rateOf, recordOf}
-use Rattle.ledger.specs.Account.{Account, Entry, rateOn, reservedOn, standsIn, without}
+use Rattle.ledger.specs.Admission.{rateOf, rateOn, recordOf}
+use Rattle.ledger.specs.Account.{Account, Entry, reservedOn, standsIn, without}
 use Rattle.ledger.specs.Kept.{recordOfEntry}
 use Rattle.ledger.proofs.Links.{share-named, links-inside}
 use Rattle.ledger.proofs.Firsts.{among-none, among-first, place-first}
@@ -105,6 +105,24 @@ remove-count (entry ∷ entries) number standing = by-test (eqb (entry .number) 
         → suc (length (pick t entries (entry ∷ without number entries))) ≡ suc (length entries)
     by-test true standing others = refl
     by-test false standing others = ap suc (others standing)
+
+-- What is reserved then is less by the share of the record that goes.
+pub remove-share : (entries : Account) (rest number link : ℕ) → link < linkCount → standsIn number entries ≡ true
+    → reservedOn link (without number entries) + share (recordAt (recordsOf entries rest) (placeAmong (numberAt (recordsOf entries rest)) (length entries) number)) link ≡ reservedOn link entries
+unfolding standsIn without recordOf reservedOn
+remove-share [] rest number link less standing = absurd (let never : _≡_ {A = ℕ} 0 1 = cc in omega arith)
+remove-share (entry ∷ entries) rest number link less standing =
+    ap (λ (at : ℕ). reservedOn link (without number (entry ∷ entries)) + share (recordAt (recordsOf (entry ∷ entries) rest) at) link) (place-first (numberAt (recordsOf (entry ∷ entries) rest)) number (length entries))
+    ∙ by-test (eqb (entry .number) number) standing (remove-share entries rest number link less)
+  where
+    place : ℕ
+    place = placeAmong (numberAt (recordsOf entries rest)) (length entries) number
+
+    by-test : (t : Bool) → either t (standsIn number entries) ≡ true
+        → (standsIn number entries ≡ true → reservedOn link (without number entries) + share (recordAt (recordsOf entries rest) place) link ≡ reservedOn link entries)
+        → reservedOn link (pick t entries (entry ∷ without number entries)) + share (recordAt (recordsOf (entry ∷ entries) rest) (pick t 0 (suc place))) link ≡ rateOn link (entry .path) + reservedOn link entries
+    by-test true standing others = omega (arith, share-named (entry .number) (entry .path) link less)
+    by-test false standing others = omega (arith, others standing)
 
 -- What holds of all paths holds of the rest.
 

@@ -8,6 +8,7 @@ use native.Mathlib.Omega.{arith}
 use lib.ListN.{length, replicate}
 use lib.Dec.{eqb}
 use borrow.Author.Tests.{not-false, eqb-true}
+use Rattle.quantity.specs.Sums.{listOf}
 use Rattle.quantity.specs.Ranges.{inRange, pathNumberRange}
 use Rattle.quantity.specs.Refusals.{Case, _⇒_, refusalNumber}
 use Rattle.quantity.specs.declared.refusal.Refusal.{Refusal}
@@ -21,7 +22,7 @@ use Rattle.ledger.specs.declared.Record.{Record}
 use Rattle.ledger.specs.declared.Ledger.{Ledger}
 use Rattle.ledger.specs.declared.opening.Opened.{Opened}
 use Rattle.ledger.specs.Records.{noRecord, numberAt, reserved}
-use Rattle.ledger.specs.Ledgers.{recordCount, capacitiesFit, ledgerUnusable}
+use Rattle.ledger.specs.Ledgers.{recordCount, totalOf, capacitiesFit, ledgerUnusable}
 use Rattle.ledger.specs.Opening.{askedFor, openCases, newLedger, refusedOpening, openedOf, recordsOpened}
 use Rattle.ledger.specs.Calls.{Call, admit, release, spare, numberWrong, Answer, refusedBy}
 use Rattle.ledger.specs.Account.{Account, reservedOn, standsIn, shortIn, without, callCases, granted, accountAnswer, accountNext, accountAfter}
@@ -29,7 +30,7 @@ use Rattle.ledger.specs.Lists.{Book, opened, answered, called, calledAll
 use Rattle.ledger.specs.Kept.{Kept}
 use Rattle.ledger.proofs.UsableLedger.{ledger-usable}
 use Rattle.ledger.proofs.Entries.{numbers-once, remove-count}
-use Rattle.ledger.proofs.Books.{bookOf, SoundAccount, reserved-same, usable-same}
+use Rattle.ledger.proofs.Books.{ledgerOf, bookOf, SoundAccount, reserved-same, total-same, usable-same}
 use Rattle.ledger.proofs.NextCalls.{answer-same, called-same}
 use Rattle.ledger.proofs.SheetRefusals.{sheet-refusal}
 
@@ -46,6 +47,11 @@ led-on capacities book entries (call ∷ calls) led =
     let (next, sound) = called-same capacities entries (led .sound) call in
     led-on capacities (called book call) (accountAfter capacities entries call) calls (record { is = ap (λ b. called b call) (led .is) ∙ next; sound = sound })
 
+-- nothing is reserved yet
+new-ledger : (capacities : List ℕ) → newLedger capacities ≡ ledgerOf capacities []
+unfolding newLedger reservedOn listOf
+new-ledger capacities = refl
+
 led-new : (capacities : List ℕ) (lent : List Record) → openedOf capacities lent .verdict ≡ Verdict.Accepted → Led capacities (opened capacities lent) []
 unfolding opened openedOf recordsOpened refusedOpening newLedger reservedOn
 led-new capacities lent accepted =
@@ -54,7 +60,7 @@ led-new capacities lent accepted =
     record {
       is =
           ap₂ (λ (l : Ledger) (r : List Record). record { ledger = l; records = r })
-          (ap (λ (o : Opened). o .ledger) (firstOf-none refusedOpening (record { verdict = Verdict.Accepted; ledger = newLedger capacities }) cases none))
+          (ap (λ (o : Opened). o .ledger) (firstOf-none refusedOpening (record { verdict = Verdict.Accepted; ledger = newLedger capacities }) cases none) ∙ new-ledger capacities)
           (firstOf-none (λ why. lent) (replicate recordCount noRecord) cases none);
       sound = record { inside = not-false (capacitiesFit (askedFor capacities)) (none .1 .0); few = omega arith; sound = tt; within = λ link less. omega arith };
     }
@@ -154,6 +160,7 @@ ledger-kept capacities lent accepted calls =
     let answers : (call : Call) → answered (calledAll (opened capacities lent) calls) call ≡ accountAnswer capacities entries call = λ call. ap (λ (b : Book). answered b call) is ∙ answer-same capacities entries (led .sound) call in
     record {
       answers = answers;
+      stored = λ link less. ap (λ (b : Book). totalOf (b .ledger) link) is ∙ total-same capacities entries link less ∙ sym (ap (λ (b : Book). reserved (b .records) (b .ledger .count) link) is);
       totals = λ link less. ap (λ (b : Book). reserved (b .records) (b .ledger .count) link) is ∙ reserved-same capacities entries link less;
       within = led .sound .within;
       usable = ap (λ (b : Book). ledgerUnusable (b .ledger) (b .records)) is ∙ ledger-usable _ _ (usable-same capacities entries (led .sound));

@@ -26,8 +26,7 @@ use Rattle.ledger.specs.Records.{noRecord, numberAt, placeAmong, stands}
 use Rattle.ledger.specs.Ledgers.{recordCount, ledgerUnusable}
 use Rattle.ledger.specs.Opening.{openCases, newLedger, refusedOpening, openedOf, recordsOpened}
 use Rattle.ledger.specs.Admission.{recordOf, ledgerFull, standingCases, admissionCases, refusedAdmission, acceptedAdmission, admissionOf, recordsAdmitted}
-use Rattle.ledger.specs.Release.{releaseCases, closedUp, refusedRelease, acceptedRelease, releasedOf, recordsReleased}
-use Rattle.ledger.specs.Spare.{refusedSpare, spareOf}
+use Rattle.ledger.specs.Release.{releaseCases, closedUp, refusedRelease, acceptedRelease, recordOfNumber, releasedOf, recordsReleased}
 use Rattle.ledger.specs.Steps.{loadedOf, loadedRecords, appended, filled, refusedClearing, clearingOf, refusedAdmitting, acceptedAdmitting, admittingOf, refusedReleasing, releasingOf}
 use Rattle.ledger.proofs.UsableLedger.{usable-ledger, ledger-unusable}
 
@@ -121,7 +120,7 @@ module _ (ledger : Ledger) (records : List Record) (number : ℕ) where
   place = placeAmong (numberAt records) (ledger .count) number
 
   abbrev acceptedReleasing : Releasing
-  acceptedReleasing = record { released = acceptedRelease ledger; at = place; last = noRecord }
+  acceptedReleasing = record { released = acceptedRelease ledger (recordOfNumber ledger records number); at = place; last = noRecord }
 
   releasing-held : releasingOf ledger (loadedRecords (loadedOf records)) number ≡ releasingOf ledger records number
   unfolding releasingOf
@@ -129,7 +128,7 @@ module _ (ledger : Ledger) (records : List Record) (number : ℕ) where
     where
       by-one : (rs : List Record) → ledgerUnusable ledger rs ≡ true → releasingOf ledger rs number ≡ refusedReleasing ledger Unusable
       by-one rs =
-          refused-by-one (refusedReleasing ledger) (record { released = acceptedRelease ledger; at = placeAmong (numberAt rs) (ledger .count) number; last = noRecord })
+          refused-by-one (refusedReleasing ledger) (record { released = acceptedRelease ledger (recordOfNumber ledger rs number); at = placeAmong (numberAt rs) (ledger .count) number; last = noRecord })
           (not (inRange pathNumberRange number)) (ledgerUnusable ledger rs) ((not (stands rs (ledger .count) number) ⇒ PathNumberWrong) ∷ [])
 
   -- and what a release decides
@@ -146,7 +145,7 @@ module _ (ledger : Ledger) (records : List Record) (number : ℕ) where
       taken : NoneStands cases → Releases a
       taken none =
           let is : a ≡ acceptedReleasing = e ∙ releasing-held ∙ firstOf-none (refusedReleasing ledger) acceptedReleasing cases none in (
-            ap (λ x. x .released) is ∙ sym (firstOf-none (refusedRelease ledger) (acceptedRelease ledger) cases none),
+            ap (λ x. x .released) is ∙ sym (firstOf-none (refusedRelease ledger) (acceptedRelease ledger (recordOfNumber ledger records number)) cases none),
             (
               (λ less. usable-ledger ledger records (none .1 .0) .sized),
               ap (λ x. closedUp records (x .at) (x .last)) is ∙ sym (firstOf-none (λ why. records) (closedUp records place noRecord) cases none),
@@ -156,22 +155,12 @@ module _ (ledger : Ledger) (records : List Record) (number : ℕ) where
       left : ((why : Refusal) × FirstIs cases why) → Releases a
       left (why, first) =
           let is : a ≡ refusedReleasing ledger why = e ∙ releasing-held ∙ first-answered (refusedReleasing ledger) acceptedReleasing why cases first in (
-            ap (λ x. x .released) is ∙ sym (first-answered (refusedRelease ledger) (acceptedRelease ledger) why cases first),
+            ap (λ x. x .released) is ∙ sym (first-answered (refusedRelease ledger) (acceptedRelease ledger (recordOfNumber ledger records number)) why cases first),
             (
               (λ less. absurd (let at = ap (λ (x : Releasing). x .at) is in omega (arith, at, less))),
               ap (λ x. closedUp records (x .at) (x .last)) is ∙ closed-nowhere records noRecord ∙ sym (first-answered (λ why. records) (closedUp records place noRecord) why cases first),
             ),
           )
-
--- what a spare rate is, from the value
-pub spare-held : (ledger : Ledger) (records : List Record) (link : ℕ) → spareOf ledger (loadedRecords (loadedOf records)) link ≡ spareOf ledger records link
-unfolding spareOf
-spare-held ledger records link =
-    from-held (λ rs. spareOf ledger rs link) records
-    (λ other. by-one [] (unusable-size ledger [] refl) ∙ sym (by-one records (unusable-size ledger records other)))
-  where
-    by-one : (rs : List Record) → ledgerUnusable ledger rs ≡ true → spareOf ledger rs link ≡ refusedSpare Unusable
-    by-one rs unusable = rw unusable
 
 -- what a new ledger decides: its answer, no more records to clear than are lent, and with these cleared the records of the call
 module _ (capacities : List ℕ) (records : List Record) where

@@ -13,8 +13,7 @@ use Rattle.quantity.proofs.Sums.{total-suc}
 use Rattle.sheet.specs.Paths.{Path}
 use Rattle.ledger.specs.Records.{hasLink, share}
 use Rattle.ledger.specs.Ledgers.{linkCount, linksRange}
-use Rattle.ledger.specs.Admission.{namesLink, bitsOf, linksOf, rateOf, recordOf}
-use Rattle.ledger.specs.Account.{rateOn}
+use Rattle.ledger.specs.Admission.{namesLink, bitsOf, linksOf, rateOf, rateOn, recordOf}
 use Rattle.ledger.proofs.Naming.{bits-below}
 
 -- a higher power of 2 is an even number of times a lower one

@@ -12,6 +12,7 @@ use borrow.Author.Tests.{lt-ltb, ltb-false, eqb-false, not-false, not-true}
 use Rattle.quantity.specs.Choice.{pick, both}
 use Rattle.quantity.specs.Ranges.{inRange, linkRange}
 use Rattle.quantity.specs.Refusals.{firstOf}
+use Rattle.quantity.specs.declared.Rate.{Rate}
 use Rattle.quantity.specs.declared.refusal.Refusal.{Refusal}
 use Rattle.quantity.proofs.Laws.{pick-true, le-largest}
 use Rattle.quantity.proofs.Sums.{every-at}
@@ -25,18 +26,19 @@ use Rattle.ledger.specs.declared.Ledger.{Ledger}
 use Rattle.ledger.specs.declared.admission.Admission.{Admission}
 use Rattle.ledger.specs.declared.release.Released.{Released}
 use Rattle.ledger.specs.declared.spare.Spare.{Spare}
-use Rattle.ledger.specs.Records.{noRecord, numberAt, placeAmong, reserved}
-use Rattle.ledger.specs.Ledgers.{recordCount, linkCount, capacityOf}
+use Rattle.ledger.specs.Records.{noRecord, recordAt, numberAt, share, placeAmong}
+use Rattle.ledger.specs.Ledgers.{recordCount, linkCount, capacityOf, totalOf}
 use Rattle.ledger.specs.Opening.{askedFor}
-use Rattle.ledger.specs.Admission.{rateOf, namesLink, recordOf, refusedAdmission, acceptedAdmission, admissionOf, recordsAdmitted}
-use Rattle.ledger.specs.Release.{closedUp, refusedRelease, acceptedRelease, releasedOf, recordsReleased}
+use Rattle.ledger.specs.Admission.{rateOf, namesLink, rateOn, recordOf, refusedAdmission, acceptedAdmission, admissionOf, recordsAdmitted}
+use Rattle.ledger.specs.Release.{closedUp, refusedRelease, acceptedRelease, recordOfNumber, releasedOf, recordsReleased}
 use Rattle.ledger.specs.Spare.{refusedSpare, spareOf}
 use Rattle.ledger.specs.Calls.{Call, admit, release, spare, Answer, refusedBy}
-use Rattle.ledger.specs.Account.{Account, Entry, rateOn, reservedOn, standsIn, shortIn, without, callCases, granted, accountAnswer, accountNext, accountAfter}
+use Rattle.ledger.specs.Account.{Account, Entry, reservedOn, standsIn, shortIn, without, callCases, granted, accountAnswer, accountNext, accountAfter}
 use Rattle.ledger.specs.Lists.{answered, called}
-use Rattle.ledger.proofs.Entries.{recordsOf, append-record, append-reserved, append-sound, remove-record, remove-count, remove-reserved, remove-sound, place-below, stands-none}
+use Rattle.ledger.proofs.Entries.{recordsOf, append-record, append-reserved, append-sound, remove-record, remove-count, remove-share, remove-reserved, remove-sound, place-below, stands-none}
+use Rattle.ledger.proofs.Reserving.{listOf-same}
 use Rattle.ledger.proofs.Rates.{rate-inside}
-use Rattle.ledger.proofs.Books.{ledgerOf, recordsIn, bookOf, SoundAccount, capacity-of, reserved-same, bookCases, cases-same}
+use Rattle.ledger.proofs.Books.{ledgerOf, recordsIn, bookOf, SoundAccount, capacity-of, total-of, bookCases, cases-same}
 
 module _ (capacities : List ℕ) (entries : Account) (account : SoundAccount capacities entries) where
   abbrev ledger : Ledger
@@ -62,8 +64,8 @@ module _ (capacities : List ℕ) (entries : Account) (account : SoundAccount cap
   abbrev of-spare : Spare → Answer
   of-spare a = record { verdict = a .verdict; rate = a .rate .0; delay = 0 }
 
-  spare-left : (link : ℕ) → inRange linkRange link ≡ true → capacityOf ledger link - reserved records (length entries) link ≡ askedFor capacities link - reservedOn link entries
-  spare-left link inside = let less : link < linkCount = omega (arith, le-largest linkRange link inside) in ap₂ _-_ (capacity-of capacities entries link less) (reserved-same capacities entries link less)
+  spare-left : (link : ℕ) → inRange linkRange link ≡ true → capacityOf ledger link - totalOf ledger link ≡ askedFor capacities link - reservedOn link entries
+  spare-left link inside = let less : link < linkCount = omega (arith, le-largest linkRange link inside) in ap₂ _-_ (capacity-of capacities entries link less) (total-of capacities entries link less)
 
   pub answer-same : (call : Call) → answered (bookOf capacities entries) call ≡ accountAnswer capacities entries call
   unfolding answered accountAnswer granted admissionOf refusedAdmission acceptedAdmission releasedOf refusedRelease acceptedRelease spareOf refusedSpare
@@ -71,18 +73,18 @@ module _ (capacities : List ℕ) (entries : Account) (account : SoundAccount cap
       firstOf-map of-admission (refusedAdmission ledger) (acceptedAdmission ledger (pathIn sheet)) (bookCases capacities entries (admit number sheet))
       ∙ cases-same capacities entries account (λ why. of-admission (refusedAdmission ledger why)) (of-admission (acceptedAdmission ledger (pathIn sheet))) (admit number sheet)
   answer-same (release number) =
-      firstOf-map of-release (refusedRelease ledger) (acceptedRelease ledger) (bookCases capacities entries (release number))
-      ∙ cases-same capacities entries account (λ why. of-release (refusedRelease ledger why)) (of-release (acceptedRelease ledger)) (release number)
+      firstOf-map of-release (refusedRelease ledger) (acceptedRelease ledger (recordOfNumber ledger records number)) (bookCases capacities entries (release number))
+      ∙ cases-same capacities entries account (λ why. of-release (refusedRelease ledger why)) (of-release (acceptedRelease ledger (recordOfNumber ledger records number))) (release number)
   answer-same (spare link) =
-      firstOf-map of-spare refusedSpare (record { verdict = Verdict.Accepted; rate = record { 0 = capacityOf ledger link - reserved records (length entries) link } }) (bookCases capacities entries (spare link))
-      ∙ cases-same capacities entries account (λ why. of-spare (refusedSpare why)) (left (capacityOf ledger link - reserved records (length entries) link)) (spare link)
+      firstOf-map of-spare refusedSpare (record { verdict = Verdict.Accepted; rate = record { 0 = capacityOf ledger link - totalOf ledger link } }) (bookCases capacities entries (spare link))
+      ∙ cases-same capacities entries account (λ why. of-spare (refusedSpare why)) (left (capacityOf ledger link - totalOf ledger link)) (spare link)
       ∙ by-range (inRange linkRange link) (spare-left link)
     where
       left : ℕ → Answer
       left rate = record { verdict = Verdict.Accepted; rate = rate; delay = 0 }
 
-      by-range : (t : Bool) → (t ≡ true → capacityOf ledger link - reserved records (length entries) link ≡ askedFor capacities link - reservedOn link entries)
-          → pick (not t) (refusedBy (OutOfRange 0)) (left (capacityOf ledger link - reserved records (length entries) link)) ≡ pick (not t) (refusedBy (OutOfRange 0)) (left (askedFor capacities link - reservedOn link entries))
+      by-range : (t : Bool) → (t ≡ true → capacityOf ledger link - totalOf ledger link ≡ askedFor capacities link - reservedOn link entries)
+          → pick (not t) (refusedBy (OutOfRange 0)) (left (capacityOf ledger link - totalOf ledger link)) ≡ pick (not t) (refusedBy (OutOfRange 0)) (left (askedFor capacities link - reservedOn link entries))
       by-range true same = ap left (same refl)
       by-range false same = refl
 
@@ -106,7 +108,10 @@ module _ (capacities : List ℕ) (entries : Account) (account : SoundAccount cap
     unfolding admissionOf acceptedAdmission
     admit-ledger =
         ap (λ (a : Admission). a .ledger) (taken (refusedAdmission ledger) (acceptedAdmission ledger (pathIn sheet)) (admit number sheet) none)
-        ∙ ap (λ (n : ℕ). record { capacities = ledger .capacities; count = n }) (sym one-more)
+        ∙ ap₂ (λ (totals : List Rate) (n : ℕ). record { capacities = ledger .capacities; totals = totals; count = n }) (listOf-same _ _ linkCount (λ link less. ap (λ (n : ℕ). record { 0 = n }) (more-reserved link less))) (sym one-more)
+      where
+        more-reserved : (link : ℕ) → link < linkCount → totalOf ledger link + rateOn link (pathIn sheet) ≡ reservedOn link next
+        more-reserved link less = ap (λ (n : ℕ). n + rateOn link (pathIn sheet)) (total-of capacities entries link less) ∙ sym (append-reserved entries (admitted-entry number sheet) link)
 
     admit-records : recordsAdmitted ledger records number sheet ≡ recordsIn capacities next
     unfolding recordsAdmitted
@@ -156,8 +161,11 @@ module _ (capacities : List ℕ) (entries : Account) (account : SoundAccount cap
     release-ledger : releasedOf ledger records number .ledger ≡ ledgerOf capacities rest
     unfolding releasedOf acceptedRelease
     release-ledger =
-        ap (λ (a : Released). a .ledger) (taken (refusedRelease ledger) (acceptedRelease ledger) (release number) none)
-        ∙ ap (λ (n : ℕ). record { capacities = ledger .capacities; count = n }) one-fewer
+        ap (λ (a : Released). a .ledger) (taken (refusedRelease ledger) (acceptedRelease ledger (recordOfNumber ledger records number)) (release number) none)
+        ∙ ap₂ (λ (totals : List Rate) (n : ℕ). record { capacities = ledger .capacities; totals = totals; count = n }) (listOf-same _ _ linkCount (λ link less. ap (λ (n : ℕ). record { 0 = n }) (less-reserved link less))) one-fewer
+      where
+        less-reserved : (link : ℕ) → link < linkCount → totalOf ledger link - share (recordAt records place) link ≡ reservedOn link rest
+        less-reserved link less = omega (arith, total-of capacities entries link less, remove-share entries (recordCount - length entries) number link less standing)
 
     release-records : recordsReleased ledger records number ≡ recordsIn capacities rest
     unfolding recordsReleased closedUp
@@ -202,7 +210,7 @@ module _ (capacities : List ℕ) (entries : Account) (account : SoundAccount cap
       (turned-down (λ why. records) (set records (length entries) (recordOf number (pathIn sheet))) (admit number sheet) why first)
   refused-same (release number) why first =
       ap₂ (λ (l : Ledger) (r : List Record). record { ledger = l; records = r })
-      (ap (λ (a : Released). a .ledger) (turned-down (refusedRelease ledger) (acceptedRelease ledger) (release number) why first))
+      (ap (λ (a : Released). a .ledger) (turned-down (refusedRelease ledger) (acceptedRelease ledger (recordOfNumber ledger records number)) (release number) why first))
       (turned-down (λ why. records) (closedUp records (placeAmong (numberAt records) (length entries) number) noRecord) (release number) why first)
   refused-same (spare link) why first = refl
 

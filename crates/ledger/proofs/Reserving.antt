@@ -34,18 +34,18 @@ shareRate r link = record { 0 = share r link }
 abbrev reservedRate : List Record → ℕ → ℕ → Rate
 reservedRate records n link = record { 0 = reserved records n link }
 
--- The sums while a record is charged: below the link with its share, from there on as they were given.
-module _ (rates : List Rate) (r : Record) where
-  abbrev chargedAt : ℕ → Rate
-  chargedAt link = ratesSum (rateAt rates link) (shareRate r link)
+-- The rates while a record is charged or discharged: below the link changed by its share, from there on as they were given.
+module _ (change : Rate → Rate → Rate) (rates : List Rate) (r : Record) where
+  abbrev pub changedAt : ℕ → Rate
+  changedAt link = change (rateAt rates link) (shareRate r link)
 
   pub record Charging (sums : List Rate) (bits link : ℕ) : Type 0 where
-    pub written : Written none chargedAt linkCount sums link
+    pub written : Written none changedAt linkCount sums link
     pub given : (k : ℕ) → link ≤ k → rateAt sums k ≡ rateAt rates k
     pub halved : bits ≡ r .links / 2 ^ link
 
   pub charging-first : length rates ≡ linkCount → Charging rates (r .links) 0
-  charging-first sized = record { written = written-first _ chargedAt linkCount sized; given = λ k from. refl; halved = sym (div-one (r .links)) }
+  charging-first sized = record { written = written-first _ changedAt linkCount sized; given = λ k from. refl; halved = sym (div-one (r .links)) }
 
   module _ {sums : List Rate} {bits link : ℕ} (charging : Charging sums bits link) where
     -- the lowest bit tells whether the record reserves its rate on the link
@@ -59,17 +59,16 @@ module _ (rates : List Rate) (r : Record) where
     share-none even =
         ap (λ (n : ℕ). record { 0 = n }) (sym (pick-false _ (r .rate .0) 0 (ne-eqb (r .links / 2 ^ link % 2) 1 (rw (charging .halved) at even))))
 
-    pub charging-next : link < linkCount → {sum more : Rate} → sum ≡ ratesSum (rateAt sums link) more → more ≡ shareRate r link → Charging (set sums link sum) (bits / 2) (link + 1)
+    pub charging-next : link < linkCount → {sum more : Rate} → sum ≡ change (rateAt sums link) more → more ≡ shareRate r link → Charging (set sums link sum) (bits / 2) (link + 1)
     charging-next less {sum} {more} added shared =
         record {
-          written = written-next _ chargedAt linkCount (charging .written) less (added ∙ ap₂ ratesSum (charging .given link (omega arith)) shared);
+          written = written-next _ changedAt linkCount (charging .written) less (added ∙ ap₂ change (charging .given link (omega arith)) shared);
           given = λ k from. getD-set-other sums link k sum none (λ same. omega arith) ∙ charging .given k (omega arith);
           halved = rw (charging .halved, add-one, pow-suc, div-div-eq-div-mul);
         }
 
-    pub charging-all : linkCount ≤ link → sums ≡ charged rates r
-    unfolding charged
-    charging-all all = written-all _ chargedAt linkCount (charging .written) all
+    pub charging-all : linkCount ≤ link → sums ≡ listOf changedAt linkCount
+    charging-all all = written-all _ changedAt linkCount (charging .written) all
 
 pub share-at-most : (r : Record) (link : ℕ) → share r link ≤ r .rate .0
 unfolding share
@@ -110,7 +109,7 @@ pub total-at-most : (f : ℕ → ℕ) (m n : ℕ) → ((k : ℕ) → k < n → f
 total-at-most f m zero each = omega (arith, total-zero f)
 total-at-most f m (suc n) each = rw mul-suc (omega (arith, total-suc f n, each n (omega arith), total-at-most f m n (λ k less. each k (omega arith))))
 
-listOf-same : {A : Type 0} (f g : ℕ → A) (n : ℕ) → ((k : ℕ) → k < n → f k ≡ g k) → listOf f n ≡ listOf g n
+pub listOf-same : {A : Type 0} (f g : ℕ → A) (n : ℕ) → ((k : ℕ) → k < n → f k ≡ g k) → listOf f n ≡ listOf g n
 unfolding listOf
 listOf-same {A} f g zero same = refl
 listOf-same {A} f g (suc n) same = ap₂ (λ (xs : List A) (x : A). xs ++ (x ∷ [])) (listOf-same f g n (λ k less. same k (omega arith))) (same n (omega arith))

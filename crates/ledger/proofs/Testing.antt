@@ -1,11 +1,11 @@
--- What the test of a ledger shows: the records lent, the count, the capacities, each record, the numbers and each link; and that a ledger of which these hold passes it.
-use mathlib.Core.Path.{_≡_, ap, sym, _∙_}
+-- What the test of a ledger shows: the records lent, the count, the capacities, each record, the numbers, each link and its total; and that a ledger of which these hold passes it.
+use mathlib.Core.Path.{_≡_, refl, ap, sym, _∙_}
 use mathlib.Core.Bool.{Bool, true, false}
 use mathlib.Core.List.{List, []}
-use Prim.Native.Nat.{ℕ, _-_, _≤_}
+use Prim.Native.Nat.{ℕ, _-_, _≤_, _<_}
 use native.Mathlib.Omega.{arith}
 use lib.ListN.{length, getD, take}
-use lib.Dec.{leb}
+use lib.Dec.{leb, eqb}
 use Rattle.quantity.specs.Choice.{both}
 use Rattle.quantity.specs.Sums.{every, listOf}
 use Rattle.quantity.specs.declared.Rate.{Rate}
@@ -16,7 +16,7 @@ use Rattle.ledger.specs.declared.Ledger.{Ledger}
 use Rattle.ledger.specs.declared.test.Tested.{Tested}
 use Rattle.ledger.specs.declared.records.Loaded.{Loaded}
 use Rattle.ledger.specs.Records.{numberAt, reserved, allDiffer}
-use Rattle.ledger.specs.Ledgers.{recordCount, linkCount, capacityOf, linkFits}
+use Rattle.ledger.specs.Ledgers.{recordCount, linkCount, capacityOf, totalOf, linkFits, totalKept}
 use Rattle.ledger.specs.Steps.{loadedRecords, rateAt, reservedRates, notTested, testedOf}
 use Rattle.ledger.proofs.Numbers.{all-differ-in-front}
 use Rattle.ledger.proofs.UsableLedger.{UsableLedger, ledger-usable, ledger-unusable}
@@ -36,7 +36,7 @@ module _ (ledger : Ledger) (records : List Record) where
   tested-not fails = sym (pick-true _ notTested _ (ledger-unusable ledger records fails))
 
   abbrev pub tested : Tested
-  tested = record { usable = true; numbers = listOf (numberAt records) recordCount; reserved = reservedRates records (ledger .count) }
+  tested = record { usable = true; numbers = listOf (numberAt records) recordCount }
 
   pub tested-usable : UsableLedger ledger records → tested ≡ testedOf ledger records
   unfolding testedOf
@@ -50,24 +50,40 @@ numbers-differ records count few =
     all-differ-in-front (listOf (numberAt records) recordCount) (numberAt records) count (rw length-listOf few)
     (λ k less. getD-listOf 0 (numberAt records) recordCount k (omega arith))
 
--- and the links fit as their reserved rates do
-pub links-fit-reserved : (ledger : Ledger) (records : List Record) →
-    every (λ link. leb (rateAt (reservedRates records (ledger .count)) link .0) (capacityOf ledger link)) linkCount ≡ every (linkFits ledger records) linkCount
-unfolding linkFits reservedRates
-links-fit-reserved ledger records =
-    every-same _ _ linkCount
-    (λ link less. ap (λ (sum : Rate). leb (sum .0) (capacityOf ledger link)) (getD-listOf (record { 0 = 0 }) (λ k. record { 0 = reserved records (ledger .count) k }) linkCount link less))
+-- and the links fit, and their totals are kept, as their reserved rates say
+module _ (ledger : Ledger) (records : List Record) where
+  abbrev sums : List Rate
+  sums = reservedRates records (ledger .count)
+
+  sum-at : (link : ℕ) → link < linkCount → rateAt sums link ≡ record { 0 = reserved records (ledger .count) link }
+  unfolding reservedRates
+  sum-at link less = getD-listOf (record { 0 = 0 }) (λ k. record { 0 = reserved records (ledger .count) k }) linkCount link less
+
+  pub links-fit-reserved : every (λ link. leb (rateAt sums link .0) (capacityOf ledger link)) linkCount ≡ every (linkFits ledger records) linkCount
+  unfolding linkFits
+  links-fit-reserved = every-same _ _ linkCount (λ link less. ap (λ (sum : Rate). leb (sum .0) (capacityOf ledger link)) (sum-at link less))
+
+  pub totals-kept-reserved : every (λ link. eqb (totalOf ledger link) (rateAt sums link .0)) linkCount ≡ every (totalKept ledger records) linkCount
+  unfolding totalKept
+  totals-kept-reserved = every-same _ _ linkCount (λ link less. ap (λ (sum : Rate). eqb (totalOf ledger link) (sum .0)) (sum-at link less))
 
 -- The records that a value stands for: those lent, where there are 64.
 module _ (ledger : Ledger) (held : Loaded) where
-  pub tested-unsized : held .sized ≡ false → notTested ≡ testedOf ledger (loadedRecords held)
+  -- records that can be used are those held
+  pub usable-sized : UsableLedger ledger (loadedRecords held) → held .sized ≡ true
   unfolding loadedRecords
+  usable-sized usable = by-test (held .sized) refl
+    where
+      by-test : (t : Bool) → held .sized ≡ t → t ≡ true
+      by-test true e = refl
+      by-test false e = absurd (let none : _≡_ {A = ℕ} 0 recordCount = rw (pick-false (held .sized) (held .records) [] e) at (usable .sized) in omega arith)
+
+  pub tested-unsized : held .sized ≡ false → notTested ≡ testedOf ledger (loadedRecords held)
   tested-unsized other =
-      tested-not ledger (loadedRecords held)
-      (λ usable. let none : _≡_ {A = ℕ} 0 recordCount = rw (pick-false (held .sized) (held .records) [] other) at (usable .sized) in omega arith)
+      tested-not ledger (loadedRecords held) (λ usable. let sized = usable-sized usable in let never : _≡_ {A = ℕ} 0 1 = cc in omega arith)
 
   module _ (sized : held .sized ≡ true) where
-    held-records : held .records ≡ loadedRecords held
+    pub held-records : held .records ≡ loadedRecords held
     unfolding loadedRecords
     held-records = sym (pick-true (held .sized) (held .records) [] sized)
 

@@ -1,4 +1,4 @@
--- A ledger that refusal 1 lets pass is sound in each of six ways, and one that is sound in all of them passes.
+-- A ledger that refusal 1 lets pass is sound in each of seven ways, and one that is sound in all of them passes.
 use mathlib.Core.Path.{_≡_, refl, ap}
 use mathlib.Core.Bool.{Bool, true, false, not}
 use mathlib.Core.List.{List}
@@ -11,7 +11,7 @@ use Rattle.quantity.proofs.Laws.{either-false, either-none}
 use Rattle.ledger.specs.declared.Record.{Record}
 use Rattle.ledger.specs.declared.Ledger.{Ledger}
 use Rattle.ledger.specs.Records.{numberAt, allDiffer}
-use Rattle.ledger.specs.Ledgers.{recordCount, linkCount, capacityOf, capacitiesFit, recordFits, linkFits, ledgerUnusable}
+use Rattle.ledger.specs.Ledgers.{recordCount, linkCount, capacityOf, capacitiesFit, recordFits, linkFits, totalKept, ledgerUnusable}
 
 pub record UsableLedger (ledger : Ledger) (records : List Record) : Type 0 where
   pub sized : length records ≡ recordCount
@@ -20,6 +20,7 @@ pub record UsableLedger (ledger : Ledger) (records : List Record) : Type 0 where
   pub records-fit : every (recordFits (ledger .count) records) recordCount ≡ true
   pub all-differ : allDiffer (numberAt records) (ledger .count) ≡ true
   pub links-fit : every (linkFits ledger records) linkCount ≡ true
+  pub totals-kept : every (totalKept ledger records) linkCount ≡ true
 
 module _ (ledger : Ledger) (records : List Record) where
   pub usable-ledger : ledgerUnusable ledger records ≡ false → UsableLedger ledger records
@@ -31,6 +32,7 @@ module _ (ledger : Ledger) (records : List Record) where
       let (fit, rest) = either-false (not (every (recordFits (ledger .count) records) recordCount)) _ rest in
       let (differ, rest) = either-false (not (allDiffer (numberAt records) (ledger .count))) _ rest in
       let (links, rest) = either-false (not (every (linkFits ledger records) linkCount)) _ rest in
+      let (totals, rest) = either-false (not (every (totalKept ledger records) linkCount)) _ rest in
       record {
         sized = eqb-true (length records) recordCount (not-false _ sized);
         few = ltb-false recordCount (ledger .count) few;
@@ -38,6 +40,7 @@ module _ (ledger : Ledger) (records : List Record) where
         records-fit = not-false _ fit;
         all-differ = not-false _ differ;
         links-fit = not-false _ links;
+        totals-kept = not-false _ totals;
       }
 
   pub ledger-usable : UsableLedger ledger records → ledgerUnusable ledger records ≡ false
@@ -48,7 +51,8 @@ module _ (ledger : Ledger) (records : List Record) where
       (either-none (not (capacitiesFit (capacityOf ledger))) _ (ap not (passed .capacities-fit))
       (either-none (not (every (recordFits (ledger .count) records) recordCount)) _ (ap not (passed .records-fit))
       (either-none (not (allDiffer (numberAt records) (ledger .count))) _ (ap not (passed .all-differ))
-      (either-none (not (every (linkFits ledger records) linkCount)) _ (ap not (passed .links-fit)) refl)))))
+      (either-none (not (every (linkFits ledger records) linkCount)) _ (ap not (passed .links-fit))
+      (either-none (not (every (totalKept ledger records) linkCount)) _ (ap not (passed .totals-kept)) refl))))))
 
   -- where one of these fails, it does not
   pub ledger-unusable : (UsableLedger ledger records → ⊥) → ledgerUnusable ledger records ≡ true

@@ -15,7 +15,7 @@ use Rattle.sheet.specs.declared.read.Verdict.{Verdict}
 use Rattle.figures.specs.Answers.{figuresCases, pathDelay}
 use Rattle.ledger.specs.Ledgers.{recordCount, linkCount}
 use Rattle.ledger.specs.Opening.{askedFor}
-use Rattle.ledger.specs.Admission.{rateOf, namesLink}
+use Rattle.ledger.specs.Admission.{rateOf, namesLink, rateOn}
 use Rattle.ledger.specs.Calls.{Call, admit, release, spare, Answer, refusedBy}
 
 -- a path that was admitted
@@ -26,10 +26,6 @@ pub record Entry : Type 0 where
 -- the paths admitted and not yet released, in order of admission
 abbrev pub Account : Type 0
 Account = List Entry
-
--- what a path reserves on a link: its rate if it names the link
-unfoldable pub rateOn : ℕ → Path → ℕ
-rateOn link path = pick (namesLink path link) (rateOf path) 0
 
 -- the rates of these paths on a link
 unfoldable pub reservedOn : ℕ → Account → ℕ

@@ -5,7 +5,7 @@ use mathlib.Core.List.{List, [], _∷_, _++_}
 use lib.ListN.{length, set}
 use lib.Dec.{ltb, eqb}
 use Rattle.quantity.specs.Choice.{pick, both}
-use Rattle.quantity.specs.Sums.{total, every}
+use Rattle.quantity.specs.Sums.{total, every, listOf}
 use Rattle.quantity.specs.Rounding.{roundUp}
 use Rattle.quantity.specs.Ranges.{inRange, pathNumberRange}
 use Rattle.quantity.specs.Refusals.{Case, _⇒_, firstOf}
@@ -18,8 +18,8 @@ use Rattle.figures.specs.Answers.{figuresCases, pathDelay}
 use Rattle.ledger.specs.declared.Record.{Record}
 use Rattle.ledger.specs.declared.Ledger.{Ledger}
 use Rattle.ledger.specs.declared.admission.Admission.{Admission}
-use Rattle.ledger.specs.Records.{reserved, stands}
-use Rattle.ledger.specs.Ledgers.{recordCount, linkCount, capacityOf, ledgerUnusable}
+use Rattle.ledger.specs.Records.{stands}
+use Rattle.ledger.specs.Ledgers.{recordCount, linkCount, capacityOf, totalOf, ledgerUnusable}
 
 -- what a path reserves: ⌈Q/m⌉ of its declaration
 unfoldable pub rateOf : Path → ℕ
@@ -28,6 +28,10 @@ rateOf path = roundUp (path .declaration .quota .0) (path .declaration .interval
 -- a path names a link if an operator of it is on the link, however many are
 unfoldable pub namesLink : Path → ℕ → Bool
 namesLink path link = not (every (λ k. not (eqb (linkAt path k) link)) (length (path .operators)))
+
+-- what a path reserves on a link: its rate if it names the link, once however often it does
+unfoldable pub rateOn : ℕ → Path → ℕ
+rateOn link path = pick (namesLink path link) (rateOf path) 0
 
 -- the first so many links as bits, bit i for link i
 unfoldable pub bitsOf : (ℕ → Bool) → ℕ → ℕ
@@ -44,15 +48,15 @@ recordOf number path = record { number = record { 0 = number }; rate = record { 
 unfoldable pub ledgerFull : Ledger → Bool
 ledgerFull ledger = eqb (ledger .count) recordCount
 
--- 12: the reserved total of a link that the path names would pass its capacity
-unfoldable pub linkShort : Ledger → List Record → Path → Bool
-linkShort ledger records path =
-    not (every (λ link. not (both (namesLink path link) (ltb (capacityOf ledger link) (reserved records (ledger .count) link + rateOf path)))) linkCount)
+-- 12: the total of a link that the path names would pass its capacity
+unfoldable pub linkShort : Ledger → Path → Bool
+linkShort ledger path =
+    not (every (λ link. not (both (namesLink path link) (ltb (capacityOf ledger link) (totalOf ledger link + rateOf path)))) linkCount)
 
 -- 10 to 12 of a path
 abbrev pub standingCases : Ledger → List Record → ℕ → Path → List Case
 standingCases ledger records number path =
-    (stands records (ledger .count) number ⇒ PathNumberWrong) ∷ (ledgerFull ledger ⇒ LedgerFull) ∷ (linkShort ledger records path ⇒ LinkShort) ∷ []
+    (stands records (ledger .count) number ⇒ PathNumberWrong) ∷ (ledgerFull ledger ⇒ LedgerFull) ∷ (linkShort ledger path ⇒ LinkShort) ∷ []
 
 abbrev pub admissionCases : Ledger → List Record → ℕ → List ℕ → List Case
 admissionCases ledger records number sheet =
@@ -63,12 +67,12 @@ admissionCases ledger records number sheet =
 unfoldable pub refusedAdmission : Ledger → Refusal → Admission
 refusedAdmission ledger why = record { verdict = Verdict.Refused why; ledger = ledger; rate = record { 0 = 0 }; delay = record { 0 = 0 } }
 
--- one more path stands
+-- one more path stands, and its rate is added on each link that it names
 unfoldable pub acceptedAdmission : Ledger → Path → Admission
 acceptedAdmission ledger path =
     record {
       verdict = Verdict.Accepted;
-      ledger = record { capacities = ledger .capacities; count = ledger .count + 1 };
+      ledger = record { capacities = ledger .capacities; totals = listOf (λ link. record { 0 = totalOf ledger link + rateOn link path }) linkCount; count = ledger .count + 1 };
       rate = record { 0 = rateOf path };
       delay = record { 0 = pathDelay path };
     }

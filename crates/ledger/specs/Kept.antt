@@ -8,7 +8,7 @@ use Rattle.quantity.specs.declared.refusal.Refusal.the-variants.{Unusable, Ledg
 use Rattle.sheet.specs.declared.read.Verdict.{Verdict}
 use Rattle.ledger.specs.declared.Record.{Record}
 use Rattle.ledger.specs.Records.{noRecord, numberAt, reserved}
-use Rattle.ledger.specs.Ledgers.{recordCount, linkCount, ledgerUnusable}
+use Rattle.ledger.specs.Ledgers.{recordCount, linkCount, totalOf, ledgerUnusable}
 use Rattle.ledger.specs.Opening.{askedFor}
 use Rattle.ledger.specs.Admission.{recordOf}
 use Rattle.ledger.specs.Calls.{Call, admit, release, numberWrong}
@@ -33,7 +33,9 @@ module _ (capacities : List ℕ) (lent : List Record) (calls : List Call) where
   pub record Kept : Type 0 where
     -- the next call, whichever it is, is answered as the account says: each refusal stands by its condition on the calls alone
     pub answers : (call : Call) → answered book call ≡ accountAnswer capacities entries call
-    -- the reserved total of a link is the rates of the paths admitted and not yet released that name it
+    -- the stored total of each link is the sum over the records that stand
+    pub stored : (link : ℕ) → link < linkCount → totalOf (book .ledger) link ≡ reserved (book .records) standing link
+    -- which is the rates of the paths admitted and not yet released that name the link
     pub totals : (link : ℕ) → link < linkCount → reserved (book .records) standing link ≡ reservedOn link entries
     -- and never above its capacity
     pub within : (link : ℕ) → link < linkCount → reservedOn link entries ≤ askedFor capacities link

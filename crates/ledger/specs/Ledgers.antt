@@ -24,6 +24,10 @@ linksRange = record { least = 0; largest = 65535 }
 abbrev pub capacityOf : Ledger → ℕ → ℕ
 capacityOf ledger link = getD (ledger .capacities) link (record { 0 = 0 }) .0
 
+-- the stored total of a link, which is to be the sum over the records that stand (`reserved`)
+abbrev pub totalOf : Ledger → ℕ → ℕ
+totalOf ledger link = getD (ledger .totals) link (record { 0 = 0 }) .0
+
 -- link capacities are in their range
 unfoldable pub capacitiesFit : (ℕ → ℕ) → Bool
 capacitiesFit capacities = every (λ link. inRange linkCapacityRange (capacities link)) linkCount
@@ -43,8 +47,12 @@ recordFits count records j = pick (ltb j count) (recordInRange (recordAt records
 unfoldable pub linkFits : Ledger → List Record → ℕ → Bool
 linkFits ledger records link = leb (reserved records (ledger .count) link) (capacityOf ledger link)
 
+-- a link's stored total is the sum
+unfoldable pub totalKept : Ledger → List Record → ℕ → Bool
+totalKept ledger records link = eqb (totalOf ledger link) (reserved records (ledger .count) link)
+
 -- 1: there are not 64 records; the count, a capacity or a record's value is out of its range; a record that should be 0 is not;
--- a number stands twice; a link's reserved total is above its capacity
+-- a number stands twice; a link's reserved total is above its capacity; a stored total is not the sum
 unfoldable pub ledgerUnusable : Ledger → List Record → Bool
 ledgerUnusable ledger records =
     anyOf
@@ -54,4 +62,5 @@ ledgerUnusable ledger records =
     ∷ not (every (recordFits (ledger .count) records) recordCount)
     ∷ not (allDiffer (numberAt records) (ledger .count))
     ∷ not (every (linkFits ledger records) linkCount)
+    ∷ not (every (totalKept ledger records) linkCount)
     ∷ [])

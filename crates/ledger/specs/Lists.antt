@@ -25,7 +25,7 @@ answered book (admit number sheet) =
     let admission = admissionOf (book .ledger) (book .records) number sheet in
     record { verdict = admission .verdict; rate = admission .rate .0; delay = admission .delay .0 }
 answered book (release number) = record { verdict = releasedOf (book .ledger) (book .records) number .verdict; rate = 0; delay = 0 }
-answered book (spare link) = let asked = spareOf (book .ledger) (book .records) link in record { verdict = asked .verdict; rate = asked .rate .0; delay = 0 }
+answered book (spare link) = let asked = spareOf (book .ledger) link in record { verdict = asked .verdict; rate = asked .rate .0; delay = 0 }
 
 -- what it returned and left
 unfoldable pub called : Book → Call → Book

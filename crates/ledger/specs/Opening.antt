@@ -27,11 +27,11 @@ openCases capacities records =
 
 -- the ledger before its first path
 unfoldable pub newLedger : List ℕ → Ledger
-newLedger capacities = record { capacities = listOf (λ link. record { 0 = askedFor capacities link }) linkCount; count = 0 }
+newLedger capacities = record { capacities = listOf (λ link. record { 0 = askedFor capacities link }) linkCount; totals = replicate linkCount (record { 0 = 0 }); count = 0 }
 
 -- the ledger that is handed back beside a refusal
 abbrev pub noLedger : Ledger
-noLedger = record { capacities = replicate linkCount (record { 0 = 0 }); count = 0 }
+noLedger = record { capacities = replicate linkCount (record { 0 = 0 }); totals = replicate linkCount (record { 0 = 0 }); count = 0 }
 
 unfoldable pub refusedOpening : Refusal → Opened
 refusedOpening why = record { verdict = Verdict.Refused why; ledger = noLedger }

@@ -1,7 +1,7 @@
 -- Serves the private contracts of the ledger, and need not be believed: no public call cites it.
 -- The steps of the calls, as the code takes them: the lent records by value, what the test finds, what is decided, and what is written.
 use mathlib.Core.Path.{_≡_}
-use Prim.Native.Nat.{ℕ, _≤_, _<_}
+use Prim.Native.Nat.{ℕ, _-_, _≤_, _<_}
 use mathlib.Core.Bool.{Bool, true, false, not}
 use mathlib.Core.List.{List, [], _++_}
 use lib.ListN.{length, getD, set, drop, replicate}
@@ -31,7 +31,7 @@ use Rattle.ledger.specs.Records.{noRecord, numberAt, share, reserved, pl
 use Rattle.ledger.specs.Ledgers.{recordCount, linkCount, capacitiesFit, ledgerUnusable}
 use Rattle.ledger.specs.Opening.{askedFor, openCases, newLedger, noLedger, refusedOpening}
 use Rattle.ledger.specs.Admission.{namesLink, recordOf, admissionCases, refusedAdmission, acceptedAdmission}
-use Rattle.ledger.specs.Release.{releaseCases, refusedRelease, acceptedRelease}
+use Rattle.ledger.specs.Release.{releaseCases, refusedRelease, acceptedRelease, recordOfNumber}
 
 -- The lent records.
 
@@ -57,15 +57,19 @@ rateAt rates link = getD rates link (record { 0 = 0 })
 unfoldable pub charged : List Rate → Record → List Rate
 charged rates r = listOf (λ link. ratesSum (rateAt rates link) (record { 0 = share r link })) linkCount
 
+-- and without it
+unfoldable pub discharged : List Rate → Record → List Rate
+discharged rates r = listOf (λ link. record { 0 = rateAt rates link .0 - share r link }) linkCount
+
 unfoldable pub reservedRates : List Record → ℕ → List Rate
 reservedRates records count = listOf (λ link. record { 0 = reserved records count link }) linkCount
 
 abbrev pub notTested : Tested
-notTested = record { usable = false; numbers = replicate recordCount 0; reserved = replicate linkCount (record { 0 = 0 }) }
+notTested = record { usable = false; numbers = replicate recordCount 0 }
 
 unfoldable pub testedOf : Ledger → List Record → Tested
 testedOf ledger records =
-    pick (ledgerUnusable ledger records) notTested (record { usable = true; numbers = listOf (numberAt records) recordCount; reserved = reservedRates records (ledger .count) })
+    pick (ledgerUnusable ledger records) notTested (record { usable = true; numbers = listOf (numberAt records) recordCount })
 
 -- Decide.
 
@@ -119,4 +123,4 @@ unfoldable pub releasingOf : Ledger → List Record → ℕ → Releasing
 unfolding refusedReleasing
 releasingOf ledger records number =
     firstOf (releaseCases ledger records number) (refusedReleasing ledger)
-    (record { released = acceptedRelease ledger; at = placeAmong (numberAt records) (ledger .count) number; last = noRecord })
+    (record { released = acceptedRelease ledger (recordOfNumber ledger records number); at = placeAmong (numberAt records) (ledger .count) number; last = noRecord })

@@ -7,6 +7,7 @@ use crate::records::Loaded;
 use crate::records::append;
 use crate::records::load;
 use crate::test::Tested;
+use crate::test::charge;
 use crate::test::find;
 use crate::test::test;
 use figures::figures;
@@ -110,14 +111,21 @@ fn decide_standing(
     let rate = reserved_by(declaration);
     let named = links_named(path);
     let capacities = ledger.capacities;
-    let reserved = tested.reserved;
-    if link_short(capacities, reserved, named, rate) {
+    let totals = ledger.totals;
+    if link_short(capacities, totals, named, rate) {
         return refused(ledger, Refusal::LinkShort);
     }
+    let entry = Record {
+        number,
+        rate,
+        links: bits_of(named),
+    };
+    let charged = charge(totals, entry);
     let admission = Admission {
         verdict: Verdict::Accepted,
         ledger: Ledger {
             capacities,
+            totals: charged,
             count: count + 1,
         },
         rate,
@@ -126,11 +134,7 @@ fn decide_standing(
     Admitting {
         admission,
         at: count,
-        entry: Record {
-            number,
-            rate,
-            links: bits_of(named),
-        },
+        entry,
     }
 }
 
@@ -178,19 +182,19 @@ fn bits_of(named: [bool; 16]) -> u32
     bits
 }
 
-// Whether a named link's capacity is below its reserved total with the rate.
+// Whether a named link's capacity is below its total with the rate.
 fn link_short(
     capacities: [LinkCapacity; 16],
-    reserved: [Rate; 16],
+    totals: [Rate; 16],
     named: [bool; 16],
     rate: Rate,
 ) -> bool
-    ensures { λ r. ⌜ r ≡ shortOf capacities reserved (λ link. getD named link false) rate ⌝ }
+    ensures { λ r. ⌜ r ≡ shortOf capacities totals (λ link. getD named link false) rate ⌝ }
 {
     let mut link = 0;
     while link < crate::LINKS {
         let capacity = capacities[link];
-        let sum = reserved[link];
+        let sum = totals[link];
         let with = sum.plus(rate);
         if named[link] && capacity.0 < with.0 {
             return true;

@@ -28,9 +28,10 @@ pub struct Record {
     pub links: u32,
 }
 
-// The capacities of the sixteen links, and how many paths stand. Their records are lent.
+// The capacities of the sixteen links, what the paths that stand reserve on each, and how many stand. Their records are lent.
 pub struct Ledger {
     pub capacities: [LinkCapacity; 16],
+    pub totals: [Rate; 16],
     pub count: usize,
 }
 

@@ -6,6 +6,7 @@ use crate::no_record;
 use crate::records::fill;
 use quantity::CheckedLinkCapacity;
 use quantity::LinkCapacity;
+use quantity::Rate;
 use quantity::refusal::Refusal;
 use sheet::read::Verdict;
 ghost use mathlib.Core.Path.{_≡_};
@@ -97,8 +98,11 @@ pub fn no_ledger() -> Ledger
 {
     let none = LinkCapacity(0);
     let capacities = [none; 16];
+    let nothing = Rate(0);
+    let totals = [nothing; 16];
     Ledger {
         capacities,
+        totals,
         count: 0,
     }
 }

@@ -10,11 +10,15 @@ use crate::test::find;
 use crate::test::test;
 use quantity::CheckedPathNumber;
 use quantity::PathNumber;
+use quantity::Rate;
 use quantity::refusal::Refusal;
 use sheet::read::Verdict;
 ghost use mathlib.Core.Path.{_≡_};
+ghost use Prim.Native.Nat.{ℕ, _≤_, _<_};
+ghost use Rattle.ledger.specs.Records.{share};
+ghost use Rattle.ledger.specs.Ledgers.{linkCount};
 ghost use Rattle.ledger.specs.Release.{releasedOf, recordsReleased};
-ghost use Rattle.ledger.specs.Steps.{loadedRecords, refusedReleasing, releasingOf};
+ghost use Rattle.ledger.specs.Steps.{loadedRecords, rateAt, discharged, refusedReleasing, releasingOf};
 
 // The ledger without the path. Beside a refusal it is as it was.
 pub struct Released {
@@ -57,11 +61,16 @@ fn decide(ledger: Ledger, held: Loaded, number: u32) -> Releasing
             if at == count {
                 return refused(ledger, Refusal::PathNumberWrong);
             }
+            let records = held.records;
+            let gone = records[at];
+            let totals = ledger.totals;
+            let left = discharge(totals, gone);
             let capacities = ledger.capacities;
             let released = Released {
                 verdict: Verdict::Accepted,
                 ledger: Ledger {
                     capacities,
+                    totals: left,
                     count: count - 1,
                 },
             };
@@ -84,4 +93,22 @@ fn refused(ledger: Ledger, why: Refusal) -> Releasing
         at: crate::RECORDS,
         last,
     }
+}
+
+// Each link's total without a record's share.
+fn discharge(totals: [Rate; 16], gone: Record) -> [Rate; 16]
+    requires { ⌜ ((link : ℕ) → link < linkCount → share gone link ≤ rateAt totals link .0) ⌝ }
+    ensures { λ r. ⌜ r ≡ discharged totals gone ⌝ }
+{
+    let mut left = totals;
+    let mut bits = gone.links;
+    let mut link = 0;
+    while link < crate::LINKS {
+        let total = left[link];
+        let share = if bits % 2 == 1 { gone.rate } else { Rate(0) };
+        left[link] = Rate(total.0 - share.0);
+        bits /= 2;
+        link += 1;
+    }
+    left
 }

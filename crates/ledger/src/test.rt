@@ -1,4 +1,4 @@
-// The first step of every call: each stored value is tested once (document 01, section 7, 1).
+// The first step of an admission and of a release: each stored value is tested once (document 01, section 7, 1).
 
 use crate::Ledger;
 use crate::Record;
@@ -9,18 +9,17 @@ ghost use mathlib.Core.Path.{_≡_};
 ghost use mathlib.Core.Bool.{true};
 ghost use Prim.Native.Nat.{_≤_};
 ghost use lib.ListN.{length, getD};
-ghost use lib.Dec.{leb};
+ghost use lib.Dec.{leb, eqb};
 ghost use Rattle.quantity.specs.Choice.{pick};
 ghost use Rattle.quantity.specs.Sums.{every, listOf};
 ghost use Rattle.ledger.specs.Records.{recordAt, numberAt, placeAmong, allDiffer};
 ghost use Rattle.ledger.specs.Ledgers.{linkCount, recordCount, recordInRange, recordClear, recordFits, capacitiesFit};
 ghost use Rattle.ledger.specs.Steps.{loadedRecords, rateAt, charged, reservedRates, notTested, testedOf};
 
-// Whether what is lent and stored can be used; then the records' numbers, and each link's reserved total.
+// Whether what is lent and stored can be used; then the records' numbers.
 pub struct Tested {
     pub usable: bool,
     pub numbers: [u32; 64],
-    pub reserved: [Rate; 16],
 }
 
 pub(crate) fn test(ledger: Ledger, held: Loaded) -> Tested
@@ -46,29 +45,29 @@ pub(crate) fn test(ledger: Ledger, held: Loaded) -> Tested
         return not_tested();
     }
     let reserved = reserve(records, count);
-    if !links_fit(capacities, reserved) {
+    if !totals_fit(capacities, reserved) {
+        return not_tested();
+    }
+    let totals = ledger.totals;
+    if !same_rates(totals, reserved) {
         return not_tested();
     }
     Tested {
         usable: true,
         numbers,
-        reserved,
     }
 }
 
 fn not_tested() -> Tested
     ensures { λ r. ⌜ r ≡ notTested ⌝ }
 {
-    let none = Rate(0);
-    let reserved = [none; 16];
     Tested {
         usable: false,
         numbers: [0; 64],
-        reserved,
     }
 }
 
-fn capacities_fit(capacities: [LinkCapacity; 16]) -> bool
+pub(crate) fn capacities_fit(capacities: [LinkCapacity; 16]) -> bool
     ensures { λ r. ⌜ r ≡ capacitiesFit (λ link. getD capacities link (record { 0 = 0 }) .0) ⌝ }
 {
     let mut link = 0;
@@ -151,8 +150,8 @@ fn all_differ(numbers: &[u32]) -> bool
     true
 }
 
-// Each link's sum with a record's share: its rate on the links that its bits name.
-fn charge(rates: [Rate; 16], entry: Record) -> [Rate; 16]
+// Each link's total with a record's share: its rate on the links that its bits name.
+pub(crate) fn charge(rates: [Rate; 16], entry: Record) -> [Rate; 16]
     ensures { λ r. ⌜ r ≡ charged rates entry ⌝ }
 {
     let mut sums = rates;
@@ -185,14 +184,30 @@ fn reserve(records: [Record; 64], count: usize) -> [Rate; 16]
     rates
 }
 
-fn links_fit(capacities: [LinkCapacity; 16], reserved: [Rate; 16]) -> bool
-    ensures { λ r. ⌜ r ≡ every (λ link. leb (rateAt reserved link .0) (getD capacities link (record { 0 = 0 }) .0)) linkCount ⌝ }
+// Whether each link's total is at most its capacity.
+pub(crate) fn totals_fit(capacities: [LinkCapacity; 16], totals: [Rate; 16]) -> bool
+    ensures { λ r. ⌜ r ≡ every (λ link. leb (rateAt totals link .0) (getD capacities link (record { 0 = 0 }) .0)) linkCount ⌝ }
 {
     let mut link = 0;
     while link < crate::LINKS {
-        let sum = reserved[link];
+        let sum = totals[link];
         let capacity = capacities[link];
         if capacity.0 < sum.0 {
+            return false;
+        }
+        link += 1;
+    }
+    true
+}
+
+fn same_rates(rates: [Rate; 16], others: [Rate; 16]) -> bool
+    ensures { λ r. ⌜ r ≡ every (λ link. eqb (rateAt rates link .0) (rateAt others link .0)) linkCount ⌝ }
+{
+    let mut link = 0;
+    while link < crate::LINKS {
+        let rate = rates[link];
+        let other = others[link];
+        if rate.0 != other.0 {
             return false;
         }
         link += 1;

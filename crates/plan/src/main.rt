@@ -3,7 +3,6 @@
 use book::admit_path;
 use book::open_book;
 use book::release_path;
-use book::spare_on;
 use console::input::Input;
 use console::input::advance;
 use console::input::begin;
@@ -28,6 +27,7 @@ use ledger::Record;
 use ledger::admission::Admission;
 use ledger::no_record;
 use ledger::opening::no_ledger;
+use ledger::spare::spare_rate;
 use quantity::Link;
 use quantity::refusal::Refusal;
 use sheet::PathValue;
@@ -229,9 +229,7 @@ fn with_ledger(book: Book, ledger: Ledger, records: [Record; 64], begun: bool) -
 
 // `spare LINK`
 fn ask_spare(book: Book, link: u64) {
-    let ledger = book.ledger;
-    let records = book.records;
-    let asked = spare_on(ledger, records, narrow(link));
+    let asked = spare_rate(book.ledger, narrow(link));
     let verdict = asked.verdict;
     match verdict {
         Verdict::Refused(why) => refused(why),

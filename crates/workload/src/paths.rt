@@ -8,11 +8,11 @@ use book::ReleasedPath;
 use book::admit_path;
 use book::open_book;
 use book::release_path;
-use book::spare_on;
 use ledger::Ledger;
 use ledger::Record;
 use ledger::no_record;
 use ledger::spare::Spare;
+use ledger::spare::spare_rate;
 use quantity::LinkCapacity;
 use sheet::read::Verdict;
 ghost use Prim.Native.Nat.{_≤_, _<_};
@@ -143,13 +143,12 @@ pub extern "C" fn workload_spare_rates(
     }
     let book = filled(capacity, standing, sheets, width);
     let mut ledger = book.ledger;
-    let records = book.records;
     let mut j = 0;
     let mut left = turns;
     while 0 < left {
         let link = asked[j];
         ledger.capacities[(link % 16) as usize] = LinkCapacity(capacity);
-        sum = mix_spare(sum, spare_on(ledger, records, link));
+        sum = mix_spare(sum, spare_rate(ledger, link));
         j = after(j, 1, asked.len());
         left -= 1;
     }

@@ -157,8 +157,8 @@ module _ {M : Type 1} (𝓤 : URA M) (H : Heap 𝓤) (A : Atoms 𝓤) (W : Given
         land ! (from ! (stop !)) (init ! 18 refl (LL.lawful N.the-type N′.the-laws 𝓤 H A W .typed r _ ir .0)) $
         rewrite ! 18 (λ (u : Val). ‵ (fat fullShare N′.mir l₆ 0 u)) (ap only (LL.tells N.the-type N′.the-laws r (w′ ∷ []) ir)) refl $ drop ! $
         -- [the sheet's token; the records; their token; _13 (3); …; _6 (17); …; _2 (25); …]
-        assigns ! (of-opd ! (of-field ! 17 within 1 (tyInt w64) 104 refl refl refl)) (from ! (stop !)) (init ! 15 refl (uint-lawful 𝓤 H A W w64 .typed (r .at) _ (parts .1 .0) .0)) $
-        assigns ! (of-opd ! (of-field ! 17 within 2 T′.mir 112 refl refl refl)) (from ! (stop !)) (init ! 13 refl (LL.lawful T.the-type T′.the-laws 𝓤 H A W .typed (r .entry) _ (parts .1 .1 .0) .0)) $
+        assigns ! (of-opd ! (of-field ! 17 within 1 (tyInt w64) 168 refl refl refl)) (from ! (stop !)) (init ! 15 refl (uint-lawful 𝓤 H A W w64 .typed (r .at) _ (parts .1 .0) .0)) $
+        assigns ! (of-opd ! (of-field ! 17 within 2 T′.mir 176 refl refl refl)) (from ! (stop !)) (init ! 13 refl (LL.lawful T.the-type T′.the-laws 𝓤 H A W .typed (r .entry) _ (parts .1 .1 .0) .0)) $
         assigns ! (addr ! (from ! (fld ! refl (hop ! (look-in ! 25 (sub ! 0 refl (whole !))) (stop !))))) (from ! (stop !)) (init ! 5 refl (tt, tt)) $
         assigns ! (agg ! (and-then ! (load ! (from ! (stop !)) (look ! 5 refl)) (and-then ! (load ! (from ! (fld ! refl (stop !))) (look-in ! 25 (sub ! 1 refl (whole !)))) (no-more !)))) (from ! (stop !)) (init ! 3 refl (tt, (tt, (record { fits = room .0 }, tt)))) $
         move ! (2 ∷ 1 ∷ []) $ writes AtOperator appended 𝓤 H A W at-mem run κ q b o γ ys (r .at) (r .entry) fm known-append (e .1 .0) (parts .1 .0) (parts .1 .1 .0)

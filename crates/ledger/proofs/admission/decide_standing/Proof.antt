@@ -14,7 +14,7 @@ use Rattle.ledger.specs.Ledgers.{recordCount, ledgerUnusable}
 use Rattle.ledger.specs.Admission.{linkShort, acceptedAdmission, recordOf}
 use Rattle.ledger.specs.Steps.{testedOf, Decidable, acceptedAdmitting}
 use Rattle.ledger.proofs.Deciding.{place-found}
-use Rattle.ledger.proofs.Admitting.{reserved-rate, named-bits, named-short, standing-known, standing-full, standing-short, standing-accepted}
+use Rattle.ledger.proofs.Admitting.{charged-path, reserved-rate, named-bits, named-short, standing-known, standing-full, standing-short, standing-accepted}
 use Rattle.ledger.proofs.admission.decide_standing.Statement.{statement}
 use Rattle.ledger.proofs.admission.decide_standing.Tie as tie
 
@@ -44,13 +44,13 @@ place c records usable found = c .find .ensures ∙ place-found (start c .args .
 -- the test of the links is that of the definition
 short : (c : tie.After-link-short) (records : List Record) (path : Path) →
     let args = start (sought (roomy c)) .args in
-    ledgerUnusable (args .ledger) records ≡ false → args .tested ≡ testedOf (args .ledger) records → pathInRange path ≡ true → args .path ≡ valueOfPath (args .path .form) path
-    → c .link-short .result ≡ linkShort (args .ledger) records path
-short c records path usable found inside same =
+    ledgerUnusable (args .ledger) records ≡ false → pathInRange path ≡ true → args .path ≡ valueOfPath (args .path .form) path
+    → c .link-short .result ≡ linkShort (args .ledger) path
+short c records path usable inside same =
     let args = start (sought (roomy c)) .args in
     let named = c .before .before .before in
     c .link-short .ensures
-    ∙ named-short path (args .path) same (required (start (sought (roomy c))) .2) (named .links-named .ensures) (args .ledger) records usable found inside
+    ∙ named-short path (args .path) same (required (start (sought (roomy c))) .2) (named .links-named .ensures) (args .ledger) records usable inside
     (reserved-rate path (args .path) same (named .before .reserved-by .ensures))
 
 sub-find : tie.Need-sub-find
@@ -102,24 +102,33 @@ returns-3 c records path usable found inside same delayed =
     let args = start at .args in
     c .refused3 .ensures
     ∙ standing-short (args .ledger) records (args .number .0) path (place at records usable found) (roomy tested .before .if1 .left) (roomy tested .if2 .left)
-    (sym (short tested records path usable found inside same) ∙ c .before .if3 .taken)
-
-add-t14 : tie.Need-add-t14
-add-t14 c = omega (arith, required (start (sought (roomy (c .before)))) .0)
+    (sym (short tested records path usable inside same) ∙ c .before .if3 .taken)
 
 bits-of-requires : tie.Need-bits-of-requires
 bits-of-requires c κs = search needs
 
+charge-requires : tie.Need-charge-requires
+charge-requires c κs = search needs
+
+add-t16 : tie.Need-add-t16
+add-t16 c = omega (arith, required (start (sought (roomy (c .before .before .before)))) .0)
+
 returns-4 : tie.Need-returns-4
 unfolding acceptedAdmitting acceptedAdmission recordOf
 returns-4 c records path usable found inside same delayed =
-    let tested = c .before .before in
+    let tested = c .before .before .before in
     let at = sought (roomy tested) in
     let args = start at .args in
     let named = tested .before .before .before in
-    rw (reserved-rate path (args .path) same (named .before .reserved-by .ensures), delayed, c .bits-of .ensures ∙ named-bits path (args .path) same (required (start at) .2) (named .links-named .ensures))
+    rw (
+      c .charge .ensures,
+      reserved-rate path (args .path) same (named .before .reserved-by .ensures),
+      delayed,
+      c .before .bits-of .ensures ∙ named-bits path (args .path) same (required (start at) .2) (named .links-named .ensures),
+      charged-path (args .ledger) records usable path inside (args .number .0),
+    )
     (standing-accepted (args .ledger) records (args .number .0) path (place at records usable found) (roomy tested .before .if1 .left) (roomy tested .if2 .left)
-    (sym (short tested records path usable found inside same) ∙ c .before .if3 .left))
+    (sym (short tested records path usable inside same) ∙ c .before .before .if3 .left))
 
 pub decide-standing-spec : {M : Type 1} → statement M
 decide-standing-spec =
@@ -138,6 +147,7 @@ decide-standing-spec =
     link-short-requires
     refused-requires-3
     returns-3
-    add-t14
     bits-of-requires
+    charge-requires
+    add-t16
     returns-4)

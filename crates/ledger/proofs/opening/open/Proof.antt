@@ -131,8 +131,8 @@ module _ {M : Type 1} (𝓤 : URA M) (H : Heap 𝓤) (A : Atoms 𝓤) (W : Given
         land ! (from ! (stop !)) (init ! 15 refl (LL.lawful N.the-type N′.the-laws 𝓤 H A W .typed r _ is .0)) $
         rewrite ! 15 (λ (u : Val). ‵ (fat fullShare N′.mir l₃ 0 u)) (ap only (LL.tells N.the-type N′.the-laws r (w ∷ []) is)) refl $ drop ! $
         -- [the records; the token; _9 (2); …; _3 (14); …; _2 (16); …]
-        assigns ! (of-opd ! (of-field ! 14 within 1 (tyInt w64) 96 refl refl refl)) (from ! (stop !)) (init ! 12 refl (uint-lawful 𝓤 H A W w64 .typed (r .count) _ (parts .1 .0) .0)) $
-        assigns ! (of-opd ! (of-field ! 14 within 2 T′.mir 104 refl refl refl)) (from ! (stop !)) (init ! 10 refl (LL.lawful T.the-type T′.the-laws 𝓤 H A W .typed (r .none) _ (parts .1 .1 .0) .0)) $
+        assigns ! (of-opd ! (of-field ! 14 within 1 (tyInt w64) 160 refl refl refl)) (from ! (stop !)) (init ! 12 refl (uint-lawful 𝓤 H A W w64 .typed (r .count) _ (parts .1 .0) .0)) $
+        assigns ! (of-opd ! (of-field ! 14 within 2 T′.mir 168 refl refl refl)) (from ! (stop !)) (init ! 10 refl (LL.lawful T.the-type T′.the-laws 𝓤 H A W .typed (r .none) _ (parts .1 .1 .0) .0)) $
         assigns ! (addr ! (from ! (fld ! refl (hop ! (look-in ! 16 (sub ! 0 refl (whole !))) (stop !))))) (from ! (stop !)) (init ! 4 refl (tt, tt)) $
         assigns ! (agg ! (and-then ! (load ! (from ! (stop !)) (look ! 4 refl)) (and-then ! (load ! (from ! (fld ! refl (stop !))) (look-in ! 16 (sub ! 1 refl (whole !)))) (no-more !)))) (from ! (stop !)) (init ! 2 refl (tt, (tt, (record { fits = room .0 }, tt)))) $
         move ! (1 ∷ 0 ∷ []) $ writes Enough filled 𝓤 H A W at-mem run κ q b o γ ys (r .count) (r .none) fm known-fill (opens .1 .0) (parts .1 .0) (parts .1 .1 .0)

@@ -1,14 +1,18 @@
 -- Each way out by the test of the number, by that of the ledger and by the place where the number is found.
 use mathlib.Core.Path.{_≡_, ap, sym, _∙_}
 use mathlib.Core.Bool.{true, false, not}
+use mathlib.Core.List.{List}
+use Prim.Native.Nat.{_<_}
 use native.Mathlib.Omega.{arith}
 use borrow.Author.Needs.{needs}
 use Rattle.quantity.specs.Ranges.{inRange, pathNumberRange}
-use Rattle.ledger.specs.Records.{numberAt, placeAmong}
-use Rattle.ledger.specs.Ledgers.{ledgerUnusable}
-use Rattle.ledger.specs.Release.{acceptedRelease}
+use Rattle.ledger.specs.declared.Record.{Record}
+use Rattle.ledger.specs.Records.{recordAt, numberAt, placeAmong}
+use Rattle.ledger.specs.Ledgers.{recordCount, ledgerUnusable}
 use Rattle.ledger.specs.Steps.{loadedRecords}
-use Rattle.ledger.proofs.Deciding.{number-inside, number-outside, tested-refuses, numbers-whole, place-found, release-outside, release-unusable, release-unknown, place-below, release-stands}
+use Rattle.ledger.proofs.Testing.{usable-sized, held-records}
+use Rattle.ledger.proofs.UsableLedger.{usable-ledger}
+use Rattle.ledger.proofs.Deciding.{number-inside, number-outside, count-few, share-le, tested-refuses, numbers-whole, place-found, release-outside, release-unusable, release-unknown, place-below, release-stands}
 use Rattle.ledger.proofs.release.decide.Statement.{statement}
 use Rattle.ledger.proofs.release.decide.Tie as tie
 
@@ -47,6 +51,24 @@ place c =
     c .find .ensures
     ∙ place-found (args .ledger) records (before .test .ensures) (usable (passed c)) _
     ∙ ap (placeAmong (numberAt records) (args .ledger .count)) (checked (numbered before) .1)
+
+-- a path of the number stands there
+below : (c : tie.Else2) → c .before .find .result < start (numbered (tested (passed (c .before)))) .args .ledger .count
+below c =
+    let before = tested (passed (c .before)) in
+    let args = start (numbered before) .args in
+    place-below (args .ledger) (loadedRecords (args .held)) (args .number) (checked (numbered before) .0) (usable (passed (c .before))) (place (c .before)) (c .if2 .left)
+
+within : (c : tie.After-records) → c .before .before .find .result < recordCount
+within c =
+    let args = start (numbered (tested (passed (c .before .before)))) .args in
+    omega (arith, below (c .before), count-few (args .ledger) (loadedRecords (args .held)) (usable (passed (c .before .before))))
+
+-- and the records are those held
+held : (c : tie.Else1) → let args = start (numbered (tested c)) .args in args .held .records ≡ loadedRecords (args .held)
+held c =
+    let args = start (numbered (tested c)) .args in
+    held-records (args .ledger) (args .held) (usable-sized (args .ledger) (args .held) (usable-ledger (args .ledger) (loadedRecords (args .held)) (usable c)))
 
 checked-requires : tie.Need-checked-requires
 checked-requires c κs = search needs
@@ -98,11 +120,20 @@ returns-2 c =
     c .refused3 .ensures
     ∙ release-unknown (args .ledger) (loadedRecords (args .held)) (args .number) (checked (numbered (tested (passed found))) .0) (usable (passed found)) (place found) (c .before .if2 .taken)
 
-sub-t19 : tie.Need-sub-t19
-sub-t19 c =
-    let found = c .before .before in
-    let args = start (numbered (tested (passed found))) .args in
-    omega (arith, place-below (args .ledger) (loadedRecords (args .held)) (args .number) (checked (numbered (tested (passed found))) .0) (usable (passed found)) (place found) (c .before .if2 .left))
+mul-gone : tie.Need-mul-gone
+mul-gone c = omega (arith, within c)
+
+array-copy-out-gone : tie.Need-array-copy-out-gone
+array-copy-out-gone c = within c
+
+discharge-requires : tie.Need-discharge-requires
+discharge-requires c κs link less =
+    let other = c .before .before .before in
+    let args = start (numbered (tested (passed (other .before)))) .args in
+    rw (held (passed (other .before))) (share-le (args .ledger) (loadedRecords (args .held)) (usable (passed (other .before))) _ link (below other) less)
+
+sub-t23 : tie.Need-sub-t23
+sub-t23 c = omega (arith, below (c .before .before .before .before .before))
 
 no-record-requires : tie.Need-no-record-requires
 no-record-requires c κs = search needs
@@ -114,12 +145,12 @@ returns-3 c =
     ∙ release-outside (args .ledger) (loadedRecords (args .held)) (args .number) (number-outside (args .number) (c .before .before .before .checked .ensures) (c .before .enum-told .given .1))
 
 returns-4 : tie.Need-returns-4
-unfolding acceptedRelease
 returns-4 c =
-    let found = c .before .before .before in
+    let other = c .before .before .before .before .before .before in
+    let found = other .before in
     let args = start (numbered (tested (passed found))) .args in
     rw (c .no-record .ensures)
-    (release-stands (args .ledger) (loadedRecords (args .held)) (args .number) (checked (numbered (tested (passed found))) .0) (usable (passed found)) (place found) (c .before .before .if2 .left))
+    (release-stands (args .ledger) (loadedRecords (args .held)) (args .number) (checked (numbered (tested (passed found))) .0) (usable (passed found)) (place found) (other .if2 .left) (ap (λ (records : List Record). recordAt records (found .find .result)) (held (passed found))) (c .before .before .discharge .ensures))
 
 pub decide-spec : {M : Type 1} → statement M
 decide-spec =
@@ -138,7 +169,10 @@ decide-spec =
     find-requires
     refused-requires-3
     returns-2
-    sub-t19
+    mul-gone
+    array-copy-out-gone
+    discharge-requires
+    sub-t23
     no-record-requires
     returns-3
     returns-4)

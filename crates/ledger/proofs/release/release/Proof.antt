@@ -76,7 +76,7 @@ use Rattle.ledger.proofs.release.release.Code as code
 abbrev stayed : Stays (f.ended .signature .params) (f.ended .kept)
 stayed = (stay-dropped (plain (λ _. L.the-row)) yes, (gave-slice (0 ∷ []) tt (plain (λ _. T.the-row)), (stay-dropped (plain (λ _. u32)) yes, tt)))
 
--- what is decided holds these: the answer, the place at byte 96 and the record at byte 104
+-- what is decided holds these: the answer, the place at byte 160 and the record at byte 168
 abbrev within : Tys
 within = tcons S′.mir (tcons (tyInt w64) (tcons T′.mir tnil))
 
@@ -145,8 +145,8 @@ module _ {M : Type 1} (𝓤 : URA M) (H : Heap 𝓤) (A : Atoms 𝓤) (W : Given
         land ! (from ! (stop !)) (init ! 17 refl (LL.lawful N.the-type N′.the-laws 𝓤 H A W .typed r _ ir .0)) $
         rewrite ! 17 (λ (u : Val). ‵ (fat fullShare N′.mir l₅ 0 u)) (ap only (LL.tells N.the-type N′.the-laws r (w′ ∷ []) ir)) refl $ drop ! $
         -- [the slice; the token; _12 (2); …; _5 (16); …; _2 (22); …]
-        assigns ! (of-opd ! (of-field ! 16 within 1 (tyInt w64) 96 refl refl refl)) (from ! (stop !)) (init ! 14 refl (uint-lawful 𝓤 H A W w64 .typed (r .at) _ (parts .1 .0) .0)) $
-        assigns ! (of-opd ! (of-field ! 16 within 2 T′.mir 104 refl refl refl)) (from ! (stop !)) (init ! 12 refl (LL.lawful T.the-type T′.the-laws 𝓤 H A W .typed (r .last) _ (parts .1 .1 .0) .0)) $
+        assigns ! (of-opd ! (of-field ! 16 within 1 (tyInt w64) 160 refl refl refl)) (from ! (stop !)) (init ! 14 refl (uint-lawful 𝓤 H A W w64 .typed (r .at) _ (parts .1 .0) .0)) $
+        assigns ! (of-opd ! (of-field ! 16 within 2 T′.mir 168 refl refl refl)) (from ! (stop !)) (init ! 12 refl (LL.lawful T.the-type T′.the-laws 𝓤 H A W .typed (r .last) _ (parts .1 .1 .0) .0)) $
         assigns ! (addr ! (from ! (fld ! refl (hop ! (look-in ! 22 (sub ! 0 refl (whole !))) (stop !))))) (from ! (stop !)) (init ! 4 refl (tt, tt)) $
         assigns ! (agg ! (and-then ! (load ! (from ! (stop !)) (look ! 4 refl)) (and-then ! (load ! (from ! (fld ! refl (stop !))) (look-in ! 22 (sub ! 1 refl (whole !)))) (no-more !)))) (from ! (stop !)) (init ! 2 refl (tt, (tt, (record { fits = room .0 }, tt)))) $
         move ! (1 ∷ 0 ∷ []) $

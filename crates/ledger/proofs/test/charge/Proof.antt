@@ -4,19 +4,21 @@ use mathlib.Core.Path.{_∙_}
 use mathlib.Core.Logic.{⊎-elim}
 use borrow.Author.Needs.{needs}
 use native.Mathlib.Omega.{arith}
+use Rattle.quantity.specs.Quantities.{ratesSum}
 use Rattle.ledger.specs.Ledgers.{linkCount}
+use Rattle.ledger.specs.Steps.{charged}
 use Rattle.ledger.proofs.Reserving.{Charging, charging-first, charging-next, charging-all, share-named, share-none}
 use Rattle.ledger.proofs.test.charge.Statement.{statement}
 use Rattle.ledger.proofs.test.charge.Tie as tie
 
 abbrev Inv-loop : tie.InvT-loop
-Inv-loop entry sums₀ bits₀ link₀ sums bits link = Charging sums₀ entry sums bits link
+Inv-loop entry sums₀ bits₀ link₀ sums bits link = Charging ratesSum sums₀ entry sums bits link
 
 abbrev μ-loop : tie.MeasureT-loop
 μ-loop entry sums₀ bits₀ link₀ sums bits link = linkCount - link
 
 loop-holds : tie.Need-loop-holds Inv-loop μ-loop
-loop-holds c = charging-first (c .args .rates) (c .args .entry) (omega arith)
+loop-holds c = charging-first ratesSum (c .args .rates) (c .args .entry) (omega arith)
 
 mul-sum : tie.Need-mul-sum Inv-loop μ-loop
 mul-sum c = omega arith
@@ -43,13 +45,14 @@ loop-again : tie.Need-loop-again Inv-loop μ-loop
 loop-again c =
     let at = c .before .before .before .before in
     let charging = at .loop .inv in
-    charging-next (at .before .args .rates) (at .before .args .entry) charging (c .before .before .before .loop-test .taken) (c .plus .ensures)
-    (⊎-elim (λ w. w .2 ∙ share-named _ _ charging (w .0 .taken)) (λ w. w .1 ∙ share-none _ _ charging (w .0 .left)) (c .before .if1 .came))
+    charging-next ratesSum (at .before .args .rates) (at .before .args .entry) charging (c .before .before .before .loop-test .taken) (c .plus .ensures)
+    (⊎-elim (λ w. w .2 ∙ share-named _ _ _ charging (w .0 .taken)) (λ w. w .1 ∙ share-none _ _ _ charging (w .0 .left)) (c .before .if1 .came))
 
 returns : tie.Need-returns Inv-loop μ-loop
+unfolding charged
 returns c =
     let at = c .before in
-    charging-all (at .before .args .rates) (at .before .args .entry) (at .loop .inv) (c .loop-test .left)
+    charging-all ratesSum (at .before .args .rates) (at .before .args .entry) (at .loop .inv) (c .loop-test .left)
 
 pub charge-spec : {M : Type 1} → statement M
 charge-spec =

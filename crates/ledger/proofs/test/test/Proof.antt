@@ -1,19 +1,19 @@
 -- Any test that fails refuses; past all of them the ledger can be used.
-use mathlib.Core.Path.{_≡_, ap, ap₂, sym, _∙_}
+use mathlib.Core.Path.{_≡_, ap, sym, _∙_}
 use mathlib.Core.Bool.{Bool, true, false}
 use mathlib.Core.List.{List}
 use Prim.Native.Nat.{ℕ, _-_}
 use native.Mathlib.Omega.{arith}
 use lib.ListN.{length, getD, take, length-map}
-use lib.Dec.{leb}
+use lib.Dec.{leb, eqb}
 use borrow.Author.Needs.{needs}
 use borrow.Author.Tests.{not-true, not-false}
 use Rattle.quantity.specs.Sums.{every}
 use Rattle.quantity.specs.declared.Rate.{Rate}
 use Rattle.ledger.specs.Records.{numberAt, allDiffer}
-use Rattle.ledger.specs.Ledgers.{recordCount, linkCount, capacityOf, recordFits, linkFits}
+use Rattle.ledger.specs.Ledgers.{recordCount, linkCount, capacityOf, totalOf, recordFits, linkFits, totalKept}
 use Rattle.ledger.specs.Steps.{rateAt}
-use Rattle.ledger.proofs.Testing.{numbers-differ, links-fit-reserved, tested-unsized, tested-held-not, tested-held}
+use Rattle.ledger.proofs.Testing.{numbers-differ, links-fit-reserved, totals-kept-reserved, tested-unsized, tested-held-not, tested-held}
 use Rattle.ledger.proofs.UsableLedger.{UsableLedger}
 use Rattle.ledger.proofs.test.test.Statement.{statement}
 use Rattle.ledger.proofs.test.test.Tie as tie
@@ -54,14 +54,23 @@ differing c =
     ∙ ap (λ (numbers : List ℕ). allDiffer (λ k. getD (take (count - 0) numbers) k 0) (length (take (count - 0) numbers))) (c .before .before .before .numbers-of .ensures)
     ∙ numbers-differ (args .held .records) count (passed .if2 .left)
 
-linked : (c : tie.After-links-fit) →
+linked : (c : tie.After-totals-fit) →
     let args = start (counted (numbered (c .before .before .before)) .before) .args in
-    c .links-fit .result ≡ every (linkFits (args .ledger) (args .held .records)) linkCount
+    c .totals-fit .result ≡ every (linkFits (args .ledger) (args .held .records)) linkCount
 linked c =
     let ledger = start (counted (numbered (c .before .before .before)) .before) .args .ledger in
-    c .links-fit .ensures
+    c .totals-fit .ensures
     ∙ ap (λ (rates : List Rate). every (λ link. leb (rateAt rates link .0) (capacityOf ledger link)) linkCount) (c .before .reserve .ensures)
     ∙ links-fit-reserved ledger _
+
+kept : (c : tie.After-same-rates) →
+    let args = start (counted (numbered (c .before .before .before .before .before .before)) .before) .args in
+    c .same-rates .result ≡ every (totalKept (args .ledger) (args .held .records)) linkCount
+kept c =
+    let ledger = start (counted (numbered (c .before .before .before .before .before .before)) .before) .args .ledger in
+    c .same-rates .ensures
+    ∙ ap (λ (rates : List Rate). every (λ link. eqb (totalOf ledger link) (rateAt rates link .0)) linkCount) (c .before .before .before .before .reserve .ensures)
+    ∙ totals-kept-reserved ledger _
 
 not-tested-requires : tie.Need-not-tested-requires
 not-tested-requires c κs = search needs
@@ -138,8 +147,8 @@ reserve-requires c κs =
     let passed = numbered (c .before) in
     (counted passed .if2 .left, fit passed)
 
-links-fit-requires : tie.Need-links-fit-requires
-links-fit-requires c κs = search needs
+totals-fit-requires : tie.Need-totals-fit-requires
+totals-fit-requires c κs = search needs
 
 not-tested-requires-6 : tie.Need-not-tested-requires-6
 not-tested-requires-6 c κs = search needs
@@ -152,9 +161,24 @@ returns-6 c =
     ∙ tested-held-not (start passed .args .ledger) (start passed .args .held) (lent passed)
     (λ usable. contradiction (linked tested ∙ usable .links-fit) (not-true _ (c .before .if6 .taken)))
 
+same-rates-requires : tie.Need-same-rates-requires
+same-rates-requires c κs = search needs
+
+not-tested-requires-7 : tie.Need-not-tested-requires-7
+not-tested-requires-7 c κs = search needs
+
 returns-7 : tie.Need-returns-7
 returns-7 c =
-    let tested = c .before .before .before .before in
+    let tested = c .before .before in
+    let passed = counted (numbered (tested .before .before .before .before .before .before)) .before in
+    c .not-tested7 .ensures
+    ∙ tested-held-not (start passed .args .ledger) (start passed .args .held) (lent passed)
+    (λ usable. contradiction (kept tested ∙ usable .totals-kept) (not-true _ (c .before .if7 .taken)))
+
+returns-8 : tie.Need-returns-8
+returns-8 c =
+    let linked-at = c .before .before .before .before in
+    let tested = linked-at .before .before .before in
     let passed = counted (numbered tested) in
     let args = start (passed .before) .args in
     let usable : UsableLedger (args .ledger) (args .held .records) = record {
@@ -162,11 +186,11 @@ returns-7 c =
       few = passed .if2 .left;
       capacities-fit = sym (numbered tested .before .before .before .before .capacities-fit .ensures) ∙ not-false _ (numbered tested .before .before .before .if3 .left);
       records-fit = fit (numbered tested);
-      all-differ = sym (differing tested) ∙ not-false _ (c .before .before .before .if5 .left);
-      links-fit = sym (linked (c .before)) ∙ not-false _ (c .if6 .left);
+      all-differ = sym (differing tested) ∙ not-false _ (linked-at .before .before .if5 .left);
+      links-fit = sym (linked linked-at) ∙ not-false _ (c .before .before .before .if6 .left);
+      totals-kept = sym (kept (c .before)) ∙ not-false _ (c .if7 .left);
     } in
-    ap₂ (λ (numbers : List ℕ) (reserved : List Rate). record { usable = true; numbers = numbers; reserved = reserved })
-    (tested .before .before .before .numbers-of .ensures) (c .before .before .reserve .ensures)
+    ap (λ (numbers : List ℕ). record { usable = true; numbers = numbers }) (tested .before .before .before .numbers-of .ensures)
     ∙ tested-held (args .ledger) (args .held) (lent (passed .before)) usable
 
 pub test-spec : {M : Type 1} → statement M
@@ -191,7 +215,10 @@ test-spec =
     not-tested-requires-5
     returns-5
     reserve-requires
-    links-fit-requires
+    totals-fit-requires
     not-tested-requires-6
     returns-6
-    returns-7)
+    same-rates-requires
+    not-tested-requires-7
+    returns-7
+    returns-8)

@@ -6,10 +6,10 @@ use Rattle.workload.proofs.paths.workload_spare_rates.Statement.{statem
 use Rattle.workload.proofs.paths.workload_spare_rates.Tie as tie
 
 abbrev Inv-loop : tie.InvT-loop
-Inv-loop capacity standing asked sheets width turns sum₀ ledger₀ records j₀ left₀ sum ledger j left = j + 1 ≤ length asked
+Inv-loop capacity standing asked sheets width turns sum₀ ledger₀ j₀ left₀ sum ledger j left = j + 1 ≤ length asked
 
 abbrev μ-loop : tie.MeasureT-loop
-μ-loop capacity standing asked sheets width turns sum₀ ledger₀ records j₀ left₀ sum ledger j left = left
+μ-loop capacity standing asked sheets width turns sum₀ ledger₀ j₀ left₀ sum ledger j left = left
 
 returns : tie.Need-returns Inv-loop μ-loop
 returns c = search needs
@@ -29,17 +29,17 @@ mul-link c = search needs
 shared-slice-read-link : tie.Need-shared-slice-read-link Inv-loop μ-loop
 shared-slice-read-link c = search needs
 
-cast-t17 : tie.Need-cast-t17 Inv-loop μ-loop
-cast-t17 c = search needs
+cast-t16 : tie.Need-cast-t16 Inv-loop μ-loop
+cast-t16 c = search needs
 
-mul-t21 : tie.Need-mul-t21 Inv-loop μ-loop
-mul-t21 c = search needs
+mul-t20 : tie.Need-mul-t20 Inv-loop μ-loop
+mul-t20 c = search needs
 
 element-set-from-ledger : tie.Need-element-set-from-ledger Inv-loop μ-loop
 element-set-from-ledger c = search needs
 
-spare-on-requires : tie.Need-spare-on-requires Inv-loop μ-loop
-spare-on-requires c κs = search needs
+spare-rate-requires : tie.Need-spare-rate-requires Inv-loop μ-loop
+spare-rate-requires c κs = search needs
 
 mix-spare-requires : tie.Need-mix-spare-requires Inv-loop μ-loop
 mix-spare-requires c κs = search needs
@@ -71,10 +71,10 @@ workload-spare-rates-spec =
     loop-holds
     mul-link
     shared-slice-read-link
-    cast-t17
-    mul-t21
+    cast-t16
+    mul-t20
     element-set-from-ledger
-    spare-on-requires
+    spare-rate-requires
     mix-spare-requires
     after-requires
     sub-left

@@ -1,4 +1,4 @@
--- The links passed fit; the first whose reserved total is above its capacity decides.
+-- The links passed fit; the first whose total is above its capacity decides.
 use Prim.Native.Nat.{ℕ, _≤_, _-_}
 use mathlib.Core.Path.{_≡_, refl, sym}
 use mathlib.Core.Bool.{Bool, true}
@@ -13,17 +13,17 @@ use Rattle.quantity.specs.Sums.{every}
 use Rattle.quantity.proofs.Sums.{every-fails, every-on}
 use Rattle.ledger.specs.Steps.{rateAt}
 use Rattle.ledger.specs.Ledgers.{linkCount}
-use Rattle.ledger.proofs.test.links_fit.Statement.{statement}
-use Rattle.ledger.proofs.test.links_fit.Tie as tie
+use Rattle.ledger.proofs.test.totals_fit.Statement.{statement}
+use Rattle.ledger.proofs.test.totals_fit.Tie as tie
 
 abbrev fits : List LinkCapacity → List Rate → ℕ → Bool
-fits capacities reserved link = leb (rateAt reserved link .0) (getD capacities link (record { 0 = 0 }) .0)
+fits capacities totals link = leb (rateAt totals link .0) (getD capacities link (record { 0 = 0 }) .0)
 
 abbrev Inv-loop : tie.InvT-loop
-Inv-loop capacities reserved link₀ link = (link ≤ linkCount) × (every (fits capacities reserved) link ≡ true)
+Inv-loop capacities totals link₀ link = (link ≤ linkCount) × (every (fits capacities totals) link ≡ true)
 
 abbrev μ-loop : tie.MeasureT-loop
-μ-loop capacities reserved link₀ link = linkCount - link
+μ-loop capacities totals link₀ link = linkCount - link
 
 loop-holds : tie.Need-loop-holds Inv-loop μ-loop
 unfolding every
@@ -64,8 +64,8 @@ returns-2 c =
     let done : at .loop .link ≡ linkCount = omega arith in
     sym (rw done at (at .loop .inv .1))
 
-pub links-fit-spec : {M : Type 1} → statement M
-links-fit-spec =
+pub totals-fit-spec : {M : Type 1} → statement M
+totals-fit-spec =
     tie.close
     (tie.spec
     Inv-loop
