@@ -1,4 +1,4 @@
--- Demand 2: each refusal of 1 to 12 is kept from standing by its condition, and by that alone.
+-- Demand 2: each refusal of 1 to 12 is kept from standing by its condition, and by that alone. And asking is answered by the capacities and totals alone.
 use mathlib.Core.Path.{_≡_, refl, ap, ap₂, sym, subst, _∙_}
 use mathlib.Core.Bool.{Bool, true, false, not}
 use mathlib.Core.List.{List, _++_}
@@ -10,6 +10,8 @@ use lib.Dec.{ltb, eqb}
 use borrow.Author.Tests.{ltb-true, ltb-false, eqb-false, not-false, not-true, le-leb, eq-eqb, ne-eqb}
 use Rattle.quantity.specs.Choice.{both}
 use Rattle.quantity.specs.Ranges.{inRange, pathNumberRange}
+use Rattle.quantity.specs.declared.LinkCapacity.{LinkCapacity}
+use Rattle.quantity.specs.declared.Rate.{Rate}
 use Rattle.quantity.proofs.Laws.{le-largest}
 use Rattle.quantity.proofs.Sums.{every-at, every-holds, every-fails}
 use Rattle.quantity.proofs.Refusals.{NoneStands, none-of-both, none-of-each, none-where-result, firstOf-none}
@@ -26,6 +28,7 @@ use Rattle.ledger.specs.declared.admission.Admission.{Admission}
 use Rattle.ledger.specs.Records.{numberAt, among, stands}
 use Rattle.ledger.specs.Ledgers.{recordCount, linkCount, capacityOf, totalOf}
 use Rattle.ledger.specs.Admission.{rateOf, namesLink, ledgerFull, linkShort, standingCases, admissionCases, refusedAdmission, acceptedAdmission, admissionOf}
+use Rattle.ledger.specs.Spare.{totalFits, linksUnusable, spareOf}
 use Rattle.ledger.specs.Admissible.{Admissible}
 use Rattle.ledger.proofs.UsableLedger.{usable-ledger}
 use Rattle.ledger.proofs.Numbers.{not-among}
@@ -107,3 +110,9 @@ module _ (ledger : Ledger) (records : List Record) (number : ℕ) (sheet : List 
     (λ accepted. admissible (none-where-result (refusedAdmission ledger) (acceptedAdmission ledger value) (λ (a : Admission). a .verdict ≡ Verdict.Accepted) (λ why. never-accepted why) (admissionCases ledger records number sheet) accepted)),
     (λ a. ap (λ (r : Admission). r .verdict) (firstOf-none (refusedAdmission ledger) (acceptedAdmission ledger value) (admissionCases ledger records number sheet) (none-where a))),
   )
+
+-- Neither the count nor a record tells in what asking answers.
+pub asked-alone : (ledger other : Ledger) (link : ℕ) → ledger .capacities ≡ other .capacities → ledger .totals ≡ other .totals → spareOf ledger link ≡ spareOf other link
+unfolding spareOf linksUnusable totalFits
+asked-alone ledger other link same-capacities same-totals =
+    ap₂ (λ (capacities : List LinkCapacity) (totals : List Rate). spareOf (record { capacities = capacities; totals = totals; count = 0 }) link) same-capacities same-totals
