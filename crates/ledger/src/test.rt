@@ -10,7 +10,7 @@ ghost use mathlib.Core.Bool.{true};
 ghost use Prim.Native.Nat.{_≤_};
 ghost use lib.ListN.{length, getD};
 ghost use lib.Dec.{leb, eqb};
-ghost use Rattle.quantity.specs.Choice.{pick};
+ghost use Rattle.quantity.specs.Choice.{pick, both};
 ghost use Rattle.quantity.specs.Sums.{every, listOf};
 ghost use Rattle.ledger.specs.Records.{recordAt, numberAt, placeAmong, allDiffer};
 ghost use Rattle.ledger.specs.Ledgers.{linkCount, recordCount, recordInRange, recordClear, recordFits, capacitiesFit};
@@ -67,18 +67,24 @@ fn not_tested() -> Tested
     }
 }
 
+// All links are tested, so that the loop has no branch.
 pub(crate) fn capacities_fit(capacities: [LinkCapacity; 16]) -> bool
     ensures { λ r. ⌜ r ≡ capacitiesFit (λ link. getD capacities link (record { 0 = 0 }) .0) ⌝ }
 {
+    let mut fit = true;
     let mut link = 0;
     while link < crate::LINKS {
         let capacity = capacities[link];
-        if !capacity.in_range() {
-            return false;
-        }
+        fit = and(fit, capacity.in_range());
         link += 1;
     }
-    true
+    fit
+}
+
+fn and(a: bool, b: bool) -> bool
+    ensures { λ r. ⌜ r ≡ both a b ⌝ }
+{
+    if a { b } else { false }
 }
 
 // A record that stands has its values in their ranges, and any other is 0.
@@ -188,16 +194,15 @@ fn reserve(records: [Record; 64], count: usize) -> [Rate; 16]
 pub(crate) fn totals_fit(capacities: [LinkCapacity; 16], totals: [Rate; 16]) -> bool
     ensures { λ r. ⌜ r ≡ every (λ link. leb (rateAt totals link .0) (getD capacities link (record { 0 = 0 }) .0)) linkCount ⌝ }
 {
+    let mut fit = true;
     let mut link = 0;
     while link < crate::LINKS {
         let sum = totals[link];
         let capacity = capacities[link];
-        if capacity.0 < sum.0 {
-            return false;
-        }
+        fit = and(fit, sum.0 <= capacity.0);
         link += 1;
     }
-    true
+    fit
 }
 
 fn same_rates(rates: [Rate; 16], others: [Rate; 16]) -> bool

@@ -1,16 +1,16 @@
--- The capacities passed are in their range; the first that is not decides.
+-- The test of the capacities passed.
 use Prim.Native.Nat.{ℕ, _≤_, _-_}
-use mathlib.Core.Path.{_≡_, refl, sym, _∙_}
-use mathlib.Core.Bool.{Bool, true}
+use mathlib.Core.Path.{_≡_, refl, sym, _∙_, ap, ap₂}
+use mathlib.Core.Bool.{Bool}
 use mathlib.Core.List.{List}
 use native.Mathlib.Omega.{arith}
 use lib.ListN.{getD}
 use borrow.Author.Needs.{needs}
-use borrow.Author.Tests.{not-true, not-false}
+use Rattle.quantity.specs.Choice.{both}
 use Rattle.quantity.specs.Ranges.{inRange, linkCapacityRange}
 use Rattle.quantity.specs.declared.LinkCapacity.{LinkCapacity}
 use Rattle.quantity.specs.Sums.{every}
-use Rattle.quantity.proofs.Sums.{every-fails, every-on}
+use Rattle.quantity.proofs.Sums.{every-next}
 use Rattle.ledger.specs.Ledgers.{linkCount, capacitiesFit}
 use Rattle.ledger.proofs.test.capacities_fit.Statement.{statement}
 use Rattle.ledger.proofs.test.capacities_fit.Tie as tie
@@ -19,10 +19,10 @@ abbrev fits : List LinkCapacity → ℕ → Bool
 fits capacities link = inRange linkCapacityRange (getD capacities link (record { 0 = 0 }) .0)
 
 abbrev Inv-loop : tie.InvT-loop
-Inv-loop capacities link₀ link = (link ≤ linkCount) × (every (fits capacities) link ≡ true)
+Inv-loop capacities fit₀ link₀ fit link = (link ≤ linkCount) × (fit ≡ every (fits capacities) link)
 
 abbrev μ-loop : tie.MeasureT-loop
-μ-loop capacities link₀ link = linkCount - link
+μ-loop capacities fit₀ link₀ fit link = linkCount - link
 
 loop-holds : tie.Need-loop-holds Inv-loop μ-loop
 unfolding every
@@ -37,12 +37,8 @@ array-copy-out-capacity c = omega arith
 in-range-requires : tie.Need-in-range-requires Inv-loop μ-loop
 in-range-requires c κs = search needs
 
-returns : tie.Need-returns Inv-loop μ-loop
-unfolding capacitiesFit
-returns c =
-    let at = c .before .before .before .before in
-    sym (every-fails (fits (at .before .args .t1)) linkCount (at .loop .link) (c .before .before .before .loop-test .taken)
-    (sym (c .before .in-range .ensures) ∙ not-true _ (c .if1 .taken)))
+and-requires : tie.Need-and-requires Inv-loop μ-loop
+and-requires c κs = search needs
 
 add-link : tie.Need-add-link Inv-loop μ-loop
 add-link c = omega arith
@@ -53,14 +49,15 @@ loop-less c = omega arith
 loop-again : tie.Need-loop-again Inv-loop μ-loop
 loop-again c =
     let at = c .before .before .before .before in
-    (omega arith, every-on (fits (at .before .args .t1)) (at .loop .link) (at .loop .inv .1) (sym (c .before .in-range .ensures) ∙ not-false _ (c .if1 .left)))
+    let test = fits (at .before .args .t1) in
+    (omega arith, c .and .ensures ∙ ap₂ both (at .loop .inv .1) (c .before .in-range .ensures) ∙ sym (every-next test (at .loop .link)))
 
-returns-2 : tie.Need-returns-2 Inv-loop μ-loop
+returns : tie.Need-returns Inv-loop μ-loop
 unfolding capacitiesFit
-returns-2 c =
+returns c =
     let at = c .before in
-    let done : at .loop .link ≡ linkCount = omega arith in
-    sym (rw done at (at .loop .inv .1))
+    let all : at .loop .link ≡ linkCount = omega arith in
+    at .loop .inv .1 ∙ ap (every (fits (at .before .args .t1))) all
 
 pub capacities-fit-spec : {M : Type 1} → statement M
 capacities-fit-spec =
@@ -72,8 +69,8 @@ capacities-fit-spec =
     mul-capacity
     array-copy-out-capacity
     in-range-requires
-    returns
+    and-requires
     add-link
     loop-less
     loop-again
-    returns-2)
+    returns)

@@ -1,16 +1,17 @@
--- The links passed fit; the first whose total is above its capacity decides.
+-- The test of the links passed.
 use Prim.Native.Nat.{ℕ, _≤_, _-_}
-use mathlib.Core.Path.{_≡_, refl, sym}
-use mathlib.Core.Bool.{Bool, true}
+use mathlib.Core.Path.{_≡_, refl, sym, _∙_, ap}
+use mathlib.Core.Bool.{Bool}
 use mathlib.Core.List.{List}
 use native.Mathlib.Omega.{arith}
 use lib.Dec.{leb}
 use lib.ListN.{getD}
-use borrow.Author.Tests.{le-leb, lt-leb}
+use borrow.Author.Needs.{needs}
+use Rattle.quantity.specs.Choice.{both}
 use Rattle.quantity.specs.declared.Rate.{Rate}
 use Rattle.quantity.specs.declared.LinkCapacity.{LinkCapacity}
 use Rattle.quantity.specs.Sums.{every}
-use Rattle.quantity.proofs.Sums.{every-fails, every-on}
+use Rattle.quantity.proofs.Sums.{every-next}
 use Rattle.ledger.specs.Steps.{rateAt}
 use Rattle.ledger.specs.Ledgers.{linkCount}
 use Rattle.ledger.proofs.test.totals_fit.Statement.{statement}
@@ -20,10 +21,10 @@ abbrev fits : List LinkCapacity → List Rate → ℕ → Bool
 fits capacities totals link = leb (rateAt totals link .0) (getD capacities link (record { 0 = 0 }) .0)
 
 abbrev Inv-loop : tie.InvT-loop
-Inv-loop capacities totals link₀ link = (link ≤ linkCount) × (every (fits capacities totals) link ≡ true)
+Inv-loop capacities totals fit₀ link₀ fit link = (link ≤ linkCount) × (fit ≡ every (fits capacities totals) link)
 
 abbrev μ-loop : tie.MeasureT-loop
-μ-loop capacities totals link₀ link = linkCount - link
+μ-loop capacities totals fit₀ link₀ fit link = linkCount - link
 
 loop-holds : tie.Need-loop-holds Inv-loop μ-loop
 unfolding every
@@ -41,11 +42,8 @@ mul-capacity c = omega arith
 array-copy-out-capacity : tie.Need-array-copy-out-capacity Inv-loop μ-loop
 array-copy-out-capacity c = omega arith
 
-returns : tie.Need-returns Inv-loop μ-loop
-returns c =
-    let at = c .before .before .before .before .before .before in
-    sym (every-fails (fits (at .before .args .t1) (at .before .args .t2)) linkCount (at .loop .link) (c .before .before .before .before .before .loop-test .taken)
-    (lt-leb _ _ (c .if1 .taken)))
+and-requires : tie.Need-and-requires Inv-loop μ-loop
+and-requires c κs = search needs
 
 add-link : tie.Need-add-link Inv-loop μ-loop
 add-link c = omega arith
@@ -56,13 +54,14 @@ loop-less c = omega arith
 loop-again : tie.Need-loop-again Inv-loop μ-loop
 loop-again c =
     let at = c .before .before .before .before .before .before in
-    (omega arith, every-on (fits (at .before .args .t1) (at .before .args .t2)) (at .loop .link) (at .loop .inv .1) (le-leb _ _ (c .if1 .left)))
+    let test = fits (at .before .args .t1) (at .before .args .t2) in
+    (omega arith, c .and .ensures ∙ ap (λ (t : Bool). both t (test (at .loop .link))) (at .loop .inv .1) ∙ sym (every-next test (at .loop .link)))
 
-returns-2 : tie.Need-returns-2 Inv-loop μ-loop
-returns-2 c =
+returns : tie.Need-returns Inv-loop μ-loop
+returns c =
     let at = c .before in
-    let done : at .loop .link ≡ linkCount = omega arith in
-    sym (rw done at (at .loop .inv .1))
+    let all : at .loop .link ≡ linkCount = omega arith in
+    at .loop .inv .1 ∙ ap (every (fits (at .before .args .t1) (at .before .args .t2))) all
 
 pub totals-fit-spec : {M : Type 1} → statement M
 totals-fit-spec =
@@ -75,8 +74,8 @@ totals-fit-spec =
     array-copy-out-sum
     mul-capacity
     array-copy-out-capacity
-    returns
+    and-requires
     add-link
     loop-less
     loop-again
-    returns-2)
+    returns)
