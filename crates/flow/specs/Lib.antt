@@ -2,3 +2,4 @@ pub mod Flows
 pub mod Classes
 pub mod Declarations
 pub mod Keeping
+pub mod Rows
