@@ -3,16 +3,19 @@ use mathlib.Core.Path.{_≡_}
 use mathlib.Core.Bool.{true}
 use mathlib.Core.List.{List}
 use mathlib.Core.Logic.{_↔_}
-use Prim.Native.Nat.{ℕ, _+_, _*_, _/_, _≤_}
+use Prim.Native.Nat.{ℕ, suc, _+_, _-_, _*_, _/_, _≤_, _<_, min}
 use native.Mathlib.Nat.{add-assoc, le-trans}
 use Rattle.quantity.specs.Sums.{total}
+use Rattle.quantity.specs.Rounding.{roundUp}
 use Rattle.quantity.specs.Divisors.{Divides}
 use Rattle.flow.specs.Flows.{Flow, flowOf, Smooth, Uniform, InTime, Envelope}
 use Rattle.flow.specs.Classes.{Class, Keeps, burst, mostIn, blocksMet, changedTo}
 use Rattle.flow.specs.Keeping.{keepsClass}
+use Rattle.flow.specs.Rows.{Row, units, mostOfRows, rowsMost}
 use Rattle.flow.proofs.Windows as Windows
 use Rattle.flow.proofs.Reached as Reached
 use Rattle.flow.proofs.Keeping as Keeping
+use Rattle.flow.proofs.Rows as Rows
 
 -- Delays add (Theorem 6).
 pub in-time-add : (D E : ℕ) (r s u : Flow) → InTime D r s → InTime E s u → InTime (D + E) r u
@@ -57,3 +60,22 @@ envelope = Windows.envelope
 
 pub keeps-decided : (c : Class) (units : List ℕ) → 1 ≤ c .interval → (keepsClass c units ≡ true) ↔ Keeps c (flowOf units)
 keeps-decided = Keeping.keeps-decided
+
+-- Several rows (source document 003).
+
+-- nothing in no slots
+pub rows-none : (rows : ℕ → Row) (k : ℕ) → rowsMost rows k 0 ≡ 0
+rows-none = Rows.rows-none
+
+-- one row is a uniform class
+pub rows-one : (rows : ℕ → Row) → 1 ≤ rows 0 .interval → (n : ℕ) → rowsMost rows 1 n ≡ roundUp n (rows 0 .interval) * rows 0 .quota
+rows-one = Rows.rows-one
+
+module _ (rows : ℕ → Row) (k : ℕ) (some : 1 ≤ k) (large : (i : ℕ) → i < k → 1 ≤ rows i .interval) where
+  -- with a row there is always a bound
+  pub rows-bounded : (n : ℕ) → mostOfRows rows k n ≡ units (rowsMost rows k n)
+  rows-bounded = Rows.rows-bounded rows k some large
+
+  -- one row more: it is not used, or once more
+  pub rows-step : 1 ≤ rows k .interval → (n : ℕ) → 1 ≤ n → rowsMost rows (suc k) n ≡ min (rowsMost rows k n) (rows k .quota + rowsMost rows (suc k) (n - rows k .interval))
+  rows-step = Rows.rows-step rows k some large
