@@ -11,11 +11,12 @@ use Rattle.quantity.specs.Divisors.{Divides}
 use Rattle.flow.specs.Flows.{Flow, flowOf, Smooth, Uniform, InTime, Envelope}
 use Rattle.flow.specs.Classes.{Class, Keeps, burst, mostIn, blocksMet, changedTo}
 use Rattle.flow.specs.Keeping.{keepsClass}
-use Rattle.flow.specs.Rows.{Row, units, mostOfRows, rowsMost}
+use Rattle.flow.specs.Rows.{Row, KeepsRows, units, mostOfRows, rowsMost}
 use Rattle.flow.proofs.Windows as Windows
 use Rattle.flow.proofs.Reached as Reached
 use Rattle.flow.proofs.Keeping as Keeping
 use Rattle.flow.proofs.Rows as Rows
+use Rattle.flow.proofs.RowsWindows as RowsWindows
 
 -- Delays add (Theorem 6).
 pub in-time-add : (D E : ℕ) (r s u : Flow) → InTime D r s → InTime E s u → InTime (D + E) r u
@@ -79,3 +80,21 @@ module _ (rows : ℕ → Row) (k : ℕ) (some : 1 ≤ k) (large : (i : ℕ) → 
   -- one row more: it is not used, or once more
   pub rows-step : 1 ≤ rows k .interval → (n : ℕ) → 1 ≤ n → rowsMost rows (suc k) n ≡ min (rowsMost rows k n) (rows k .quota + rowsMost rows (suc k) (n - rows k .interval))
   rows-step = Rows.rows-step rows k some large
+
+  -- for each row, at most its quota and the most in the slots that its interval leaves
+  pub rows-any : (i : ℕ) → i < k → (n : ℕ) → rowsMost rows k n ≤ rows i .quota + rowsMost rows k (n - rows i .interval)
+  rows-any = RowsWindows.rows-any rows k large
+
+  -- for some row, just that
+  pub rows-some : (n : ℕ) → 1 ≤ n → (i : ℕ) × (i < k) × (rowsMost rows k n ≡ rows i .quota + rowsMost rows k (n - rows i .interval))
+  rows-some = RowsWindows.rows-some rows k some large
+
+  pub rows-mono : (n n' : ℕ) → n ≤ n' → rowsMost rows k n ≤ rowsMost rows k n'
+  rows-mono = RowsWindows.rows-mono rows k some large
+
+  pub rows-subadditive : (a b : ℕ) → rowsMost rows k (a + b) ≤ rowsMost rows k a + rowsMost rows k b
+  rows-subadditive = RowsWindows.rows-subadditive rows k some large
+
+  -- no window of n slots has more than the rows allow in n slots
+  pub rows-window : (r : Flow) → KeepsRows rows k r → (a n : ℕ) → total r (a + n) ≤ total r a + rowsMost rows k n
+  rows-window = RowsWindows.rows-window rows k some large

@@ -3,4 +3,5 @@ pub mod Blocks
 mod Windows
 mod Reached
 mod Rows
+mod RowsWindows
 pub mod Keeping

@@ -135,12 +135,21 @@ module _ (rows : ℕ → Row) (k : ℕ) (large : 1 ≤ rows k .interval) where
   unfolding withUnits
   last-step n some = most-step n some ∙ ap (λ (a : Most). smaller (mostOfRows rows k n) (withUnits (rows k .quota) a)) (last-bounded (n - rows k .interval))
 
+  pub last-le : (n : ℕ) → rowsMost rows (suc k) n ≤ rows k .quota + rowsMost rows (suc k) (n - rows k .interval)
+  unfolding smaller
+  last-le zero = omega (arith, rows-none rows (suc k))
+  last-le (suc n) = smaller-le (mostOfRows rows k (suc n)) (last-step (suc n) (omega arith)) (last-bounded (suc n))
+    where
+      smaller-le : (a : Most) {c : Most} {b w : ℕ} → c ≡ smaller a (units b) → c ≡ units w → w ≤ b
+      smaller-le unbounded {b = b} {w = w} e f = let same : w ≡ b = cc in omega arith
+      smaller-le (units a) {b = b} {w = w} e f = let same : w ≡ min a b = cc in omega arith
+
 pub rows-bounded : (rows : ℕ → Row) (k : ℕ) → 1 ≤ k → ((i : ℕ) → i < k → 1 ≤ rows i .interval) → (n : ℕ) → mostOfRows rows k n ≡ units (rowsMost rows k n)
 rows-bounded rows zero some large = absurd (omega arith)
 rows-bounded rows (suc k) some large = last-bounded rows k (large k (le-refl (suc k)))
 
 -- one row, once more
-one-step : (rows : ℕ → Row) → 1 ≤ rows 0 .interval → (n : ℕ) → 1 ≤ n → rowsMost rows 1 n ≡ rows 0 .quota + rowsMost rows 1 (n - rows 0 .interval)
+pub one-step : (rows : ℕ → Row) → 1 ≤ rows 0 .interval → (n : ℕ) → 1 ≤ n → rowsMost rows 1 n ≡ rows 0 .quota + rowsMost rows 1 (n - rows 0 .interval)
 unfolding rowsMost mostOfRows noRows smaller unitsIn
 one-step rows large zero some = absurd (omega arith)
 one-step rows large (suc n) some = ap unitsIn (last-step rows 0 large (suc n) some)
