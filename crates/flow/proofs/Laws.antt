@@ -98,3 +98,11 @@ module _ (rows : ℕ → Row) (k : ℕ) (some : 1 ≤ k) (large : (i : ℕ) → 
   -- no window of n slots has more than the rows allow in n slots
   pub rows-window : (r : Flow) → KeepsRows rows k r → (a n : ℕ) → total r (a + n) ≤ total r a + rowsMost rows k n
   rows-window = RowsWindows.rows-window rows k some large
+
+  -- one flow that keeps the rows has all of it, in the first n slots for every n
+  pub rows-reached : (r : Flow) × (KeepsRows rows k r) × ((n : ℕ) → total r n ≡ rowsMost rows k n)
+  rows-reached = RowsWindows.rows-reached rows k some large
+
+  -- so no smaller bound holds of all flows that keep the rows
+  pub rows-least : (n q : ℕ) → ((r : Flow) → KeepsRows rows k r → (a : ℕ) → total r (a + n) ≤ total r a + q) → rowsMost rows k n ≤ q
+  rows-least = RowsWindows.rows-least rows k some large

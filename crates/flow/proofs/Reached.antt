@@ -16,10 +16,10 @@ use Rattle.flow.specs.Flows.{Flow, Smooth}
 use Rattle.flow.specs.Classes.{blocksMet}
 
 -- the flow that has the totals T
-with-totals : (ℕ → ℕ) → Flow
+pub with-totals : (ℕ → ℕ) → Flow
 with-totals T t = T (suc t) - T t
 
-total-with-totals : (T : ℕ → ℕ) → T 0 ≡ 0 → ((t : ℕ) → T t ≤ T (suc t)) → (n : ℕ) → total (with-totals T) n ≡ T n
+pub total-with-totals : (T : ℕ → ℕ) → T 0 ≡ 0 → ((t : ℕ) → T t ≤ T (suc t)) → (n : ℕ) → total (with-totals T) n ≡ T n
 unfolding with-totals
 total-with-totals T none rises zero = total-zero (with-totals T) ∙ sym none
 total-with-totals T none rises (suc n) = omega (arith, total-suc (with-totals T) n, total-with-totals T none rises n, rises n)

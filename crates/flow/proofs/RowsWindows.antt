@@ -1,5 +1,5 @@
 -- The most that several rows allow in n slots is, for each row, at most its quota and the most in the slots that its interval leaves, and for some
--- row just that. From this: it never falls, two windows have no less than one as long, and every flow that keeps the rows keeps it.
+-- row just that. From this: it never falls, two windows have no less than one as long, every flow that keeps the rows keeps it, and one flow has it.
 use mathlib.Core.Path.{_≡_, ap}
 use mathlib.Core.Logic.{⊎-elim}
 use Prim.Native.Nat.{ℕ, zero, suc, _+_, _-_, _*_, _≤_, _<_}
@@ -7,8 +7,10 @@ use native.Mathlib.Nat.{le-refl, not-suc-le-zero, le-of-suc-le-suc, eq-or-lt-of-
 use native.Mathlib.Decide.{decLe}
 use native.Mathlib.Omega.{arith}
 use Rattle.quantity.specs.Sums.{total}
+use Rattle.quantity.proofs.Sums.{total-zero}
 use Rattle.flow.specs.Flows.{Flow}
 use Rattle.flow.specs.Rows.{Row, KeepsRows, rowsMost}
+use Rattle.flow.proofs.Reached.{with-totals, total-with-totals}
 use Rattle.flow.proofs.Rows.{from-below, rows-none, one-step, rows-step, last-le}
 
 -- a row more allows no more
@@ -93,3 +95,24 @@ module _ (rows : ℕ → Row) (k : ℕ) (some : 1 ≤ k) (large : (i : ℕ) → 
           let left = suc n - rows i .interval in
           let ends : a + left + (suc n - left) ≡ a + suc n = omega arith in
           omega (arith, ap (total r) ends, keeps i less (a + left) (suc n - left) (omega arith), below left (omega (arith, large i less)))
+
+  -- in no window as long as a row's interval is more than its quota
+  within-quota : (i : ℕ) → i < k → (n : ℕ) → n ≤ rows i .interval → rowsMost rows k n ≤ rows i .quota
+  within-quota i less n h =
+      let none : n - rows i .interval ≡ 0 = omega arith in
+      omega (arith, rows-any rows k large i less n, ap (rowsMost rows k) none, rows-none rows k)
+
+  pub rows-reached : (r : Flow) × (KeepsRows rows k r) × ((n : ℕ) → total r n ≡ rowsMost rows k n)
+  rows-reached =
+      let r = with-totals (rowsMost rows k) in
+      let totals = total-with-totals (rowsMost rows k) (rows-none rows k) (λ t. rows-mono t (suc t) (omega arith)) in (
+        r,
+        λ i less a n h. omega (arith, totals (a + n), totals a, rows-subadditive a n, within-quota i less n h),
+        totals,
+      )
+
+  pub rows-least : (n q : ℕ) → ((r : Flow) → KeepsRows rows k r → (a : ℕ) → total r (a + n) ≤ total r a + q) → rowsMost rows k n ≤ q
+  rows-least n q all =
+      let (r, keeps, totals) = rows-reached in
+      let same : 0 + n ≡ n = omega arith in
+      omega (arith, all r keeps 0, ap (total r) same, totals n, total-zero r)
