@@ -106,3 +106,8 @@ module _ (rows : ℕ → Row) (k : ℕ) (some : 1 ≤ k) (large : (i : ℕ) → 
   -- so no smaller bound holds of all flows that keep the rows
   pub rows-least : (n q : ℕ) → ((r : Flow) → KeepsRows rows k r → (a : ℕ) → total r (a + n) ≤ total r a + q) → rowsMost rows k n ≤ q
   rows-least = RowsWindows.rows-least rows k some large
+
+  -- a burst that is enough within the interval of a row with Q ≤ m·P is enough in every window
+  pub rows-envelope : (j P B : ℕ) → j < k → rows j .quota ≤ rows j .interval * P → ((n : ℕ) → 1 ≤ n → n ≤ rows j .interval → rowsMost rows k n ≤ B + n * P)
+      → (n : ℕ) → rowsMost rows k n ≤ B + n * P
+  rows-envelope = RowsWindows.rows-envelope rows k some large

@@ -3,7 +3,7 @@
 use mathlib.Core.Path.{_≡_, ap}
 use mathlib.Core.Logic.{⊎-elim}
 use Prim.Native.Nat.{ℕ, zero, suc, _+_, _-_, _*_, _≤_, _<_}
-use native.Mathlib.Nat.{le-refl, not-suc-le-zero, le-of-suc-le-suc, eq-or-lt-of-le}
+use native.Mathlib.Nat.{le-refl, not-suc-le-zero, le-of-suc-le-suc, eq-or-lt-of-le, add-mul}
 use native.Mathlib.Decide.{decLe}
 use native.Mathlib.Omega.{arith}
 use Rattle.quantity.specs.Sums.{total}
@@ -116,3 +116,19 @@ module _ (rows : ℕ → Row) (k : ℕ) (some : 1 ≤ k) (large : (i : ℕ) → 
       let (r, keeps, totals) = rows-reached in
       let same : 0 + n ≡ n = omega arith in
       omega (arith, all r keeps 0, ap (total r) same, totals n, total-zero r)
+
+  pub rows-envelope : (j P B : ℕ) → j < k → rows j .quota ≤ rows j .interval * P
+      → ((n : ℕ) → 1 ≤ n → n ≤ rows j .interval → rowsMost rows k n ≤ B + n * P)
+      → (n : ℕ) → rowsMost rows k n ≤ B + n * P
+  rows-envelope j P B less slow within = from-below by-slots
+    where
+      by-slots : (n : ℕ) → ((i : ℕ) → i < n → rowsMost rows k i ≤ B + i * P) → rowsMost rows k n ≤ B + n * P
+      by-slots zero below = omega (arith, rows-none rows k)
+      by-slots (suc n) below =
+          let m = rows j .interval in
+          elim (decLe (suc n) m) [
+            | yes inside ↦ within (suc n) (omega arith) inside
+            | no beyond ↦
+                let whole : suc n - m + m ≡ suc n = omega arith in
+                omega (arith, rows-any rows k large j less (suc n), below (suc n - m) (omega (arith, large j less)), add-mul (suc n - m) m P, ap (λ (x : ℕ). x * P) whole)
+          ]
