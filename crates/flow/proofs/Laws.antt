@@ -17,6 +17,8 @@ use Rattle.flow.proofs.Reached as Reached
 use Rattle.flow.proofs.Keeping as Keeping
 use Rattle.flow.proofs.Rows as Rows
 use Rattle.flow.proofs.RowsWindows as RowsWindows
+use Rattle.flow.proofs.RowsExample.{exampleRows}
+use Rattle.flow.proofs.RowsExample as RowsExample
 
 -- Delays add (Theorem 6).
 pub in-time-add : (D E : ℕ) (r s u : Flow) → InTime D r s → InTime E s u → InTime (D + E) r u
@@ -111,3 +113,7 @@ module _ (rows : ℕ → Row) (k : ℕ) (some : 1 ≤ k) (large : (i : ℕ) → 
   pub rows-envelope : (j P B : ℕ) → j < k → rows j .quota ≤ rows j .interval * P → ((n : ℕ) → 1 ≤ n → n ≤ rows j .interval → rowsMost rows k n ≤ B + n * P)
       → (n : ℕ) → rowsMost rows k n ≤ B + n * P
   rows-envelope = RowsWindows.rows-envelope rows k some large
+
+-- rows (1, 9), (3, 15), (12, 48): one slot by the first row, 8 by the second, 12 by the last, 16 by all three
+pub rows-example : (rowsMost exampleRows 3 1 ≡ 9) × (rowsMost exampleRows 3 8 ≡ 45) × (rowsMost exampleRows 3 12 ≡ 48) × (rowsMost exampleRows 3 16 ≡ 72)
+rows-example = RowsExample.rows-example

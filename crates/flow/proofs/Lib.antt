@@ -4,4 +4,5 @@ mod Windows
 mod Reached
 mod Rows
 mod RowsWindows
+pub mod RowsExample
 pub mod Keeping
