@@ -101,6 +101,10 @@ module _ (rows : ℕ → Row) (k : ℕ) (some : 1 ≤ k) (large : (i : ℕ) → 
   pub rows-window : (r : Flow) → KeepsRows rows k r → (a n : ℕ) → total r (a + n) ≤ total r a + rowsMost rows k n
   rows-window = RowsWindows.rows-window rows k some large
 
+  -- within a row's interval no more than its quota
+  pub rows-within-quota : (i : ℕ) → i < k → (n : ℕ) → n ≤ rows i .interval → rowsMost rows k n ≤ rows i .quota
+  rows-within-quota = RowsWindows.rows-within-quota rows k some large
+
   -- one flow that keeps the rows has all of it, in the first n slots for every n
   pub rows-reached : (r : Flow) × (KeepsRows rows k r) × ((n : ℕ) → total r n ≡ rowsMost rows k n)
   rows-reached = RowsWindows.rows-reached rows k some large

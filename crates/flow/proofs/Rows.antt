@@ -167,9 +167,7 @@ rows-one rows large = from-below by-slots
 -- one row more than k: it is not used, or once more
 pub rows-step : (rows : ℕ → Row) (k : ℕ) → 1 ≤ k → ((i : ℕ) → i < k → 1 ≤ rows i .interval) → 1 ≤ rows k .interval
     → (n : ℕ) → 1 ≤ n → rowsMost rows (suc k) n ≡ min (rowsMost rows k n) (rows k .quota + rowsMost rows (suc k) (n - rows k .interval))
-unfolding smaller unitsIn
+unfolding rowsMost smaller unitsIn
 rows-step rows k some large last n positive =
-    let step : mostOfRows rows (suc k) n ≡ units (min (rowsMost rows k n) (rows k .quota + rowsMost rows (suc k) (n - rows k .interval)))
-    = last-step rows k last n positive ∙ ap (λ (a : Most). smaller a (units (rows k .quota + rowsMost rows (suc k) (n - rows k .interval)))) (rows-bounded rows k some large n) in
-    let whole = last-bounded rows k last n in
-    (cc)
+    let more = rows k .quota + rowsMost rows (suc k) (n - rows k .interval) in
+    ap unitsIn (last-step rows k last n positive ∙ ap (λ (a : Most). smaller a (units more)) (rows-bounded rows k some large n))

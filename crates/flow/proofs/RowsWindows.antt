@@ -3,7 +3,7 @@
 use mathlib.Core.Path.{_≡_, ap}
 use mathlib.Core.Logic.{⊎-elim}
 use Prim.Native.Nat.{ℕ, zero, suc, _+_, _-_, _*_, _≤_, _<_}
-use native.Mathlib.Nat.{le-refl, not-suc-le-zero, le-of-suc-le-suc, eq-or-lt-of-le, add-mul}
+use native.Mathlib.Nat.{not-suc-le-zero, le-of-suc-le-suc, eq-or-lt-of-le, add-mul}
 use native.Mathlib.Decide.{decLe}
 use native.Mathlib.Omega.{arith}
 use Rattle.quantity.specs.Sums.{total}
@@ -96,9 +96,8 @@ module _ (rows : ℕ → Row) (k : ℕ) (some : 1 ≤ k) (large : (i : ℕ) → 
           let ends : a + left + (suc n - left) ≡ a + suc n = omega arith in
           omega (arith, ap (total r) ends, keeps i less (a + left) (suc n - left) (omega arith), below left (omega (arith, large i less)))
 
-  -- in no window as long as a row's interval is more than its quota
-  within-quota : (i : ℕ) → i < k → (n : ℕ) → n ≤ rows i .interval → rowsMost rows k n ≤ rows i .quota
-  within-quota i less n h =
+  pub rows-within-quota : (i : ℕ) → i < k → (n : ℕ) → n ≤ rows i .interval → rowsMost rows k n ≤ rows i .quota
+  rows-within-quota i less n h =
       let none : n - rows i .interval ≡ 0 = omega arith in
       omega (arith, rows-any rows k large i less n, ap (rowsMost rows k) none, rows-none rows k)
 
@@ -107,7 +106,7 @@ module _ (rows : ℕ → Row) (k : ℕ) (some : 1 ≤ k) (large : (i : ℕ) → 
       let r = with-totals (rowsMost rows k) in
       let totals = total-with-totals (rowsMost rows k) (rows-none rows k) (λ t. rows-mono t (suc t) (omega arith)) in (
         r,
-        λ i less a n h. omega (arith, totals (a + n), totals a, rows-subadditive a n, within-quota i less n h),
+        λ i less a n h. omega (arith, totals (a + n), totals a, rows-subadditive a n, rows-within-quota i less n h),
         totals,
       )
 
