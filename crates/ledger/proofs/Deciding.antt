@@ -1,4 +1,4 @@
--- What opening, a release and a spare rate decide, from the tests on the way; and what a tested ledger that can be used tells each call.
+-- What opening and a release decide, from the tests on the way; and what a tested ledger that can be used tells each call.
 use mathlib.Core.Path.{_≡_, refl, ap, sym, _∙_}
 use mathlib.Core.Bool.{Bool, true, false, not}
 use mathlib.Core.List.{List}
@@ -20,7 +20,7 @@ use Rattle.quantity.specs.declared.Link.{Link}
 use Rattle.quantity.specs.declared.CheckedLink.{CheckedLink}
 use Rattle.quantity.specs.declared.CheckedLinkCapacity.{CheckedLinkCapacity}
 use Rattle.quantity.specs.declared.refusal.Refusal.the-variants.{Unusable, OutOfRange, PathNumberWrong}
-use Rattle.quantity.proofs.Laws.{pick-true, pick-false, picked-true, picked-false, least-le, le-largest, either-first, either-second, either-none}
+use Rattle.quantity.proofs.Laws.{pick-true, pick-false, picked-true, picked-false, least-le, le-largest}
 use Rattle.quantity.proofs.Sums.{term-le-total, every-next, every-at, length-listOf, getD-listOf, listOf-ext, both-true, every-fails}
 use Rattle.flow.specs.Declarations.{declarationInRange}
 use Rattle.flow.specs.declared.Declaration.{Declaration}
@@ -35,7 +35,6 @@ use Rattle.ledger.specs.Records.{noRecord, recordAt, numberAt, share, re
 use Rattle.ledger.specs.Ledgers.{linkCount, recordCount, capacityOf, totalOf, capacitiesFit, linkFits, totalKept, ledgerUnusable}
 use Rattle.ledger.specs.Opening.{askedFor, newLedger, noLedger}
 use Rattle.ledger.specs.Release.{acceptedRelease}
-use Rattle.ledger.specs.Spare.{totalFits, linksUnusable, refusedSpare, spareOf}
 use Rattle.ledger.specs.Steps.{checkedOf, clearingOf, refusedClearing, refusedReleasing, releasingOf, discharged, notTested, testedOf}
 use Rattle.ledger.proofs.Numbers.{place-at-most, place-among, place-in-front}
 use Rattle.ledger.proofs.Testing.{tested as passing}
@@ -254,36 +253,3 @@ module _ (ledger : Ledger) (records : List Record) (number : ℕ) where
             ∙ ap {B = Releasing} (λ (gone : Record). record { released = acceptedRelease ledger gone; at = at; last = noRecord }) of-place
             ∙ ap {B = Releasing} (λ (place : ℕ). record { released = acceptedRelease ledger (recordAt records place); at = place; last = noRecord }) found
             ∙ sym (pick-false _ _ _ (ap not inside) ∙ pick-false _ _ _ usable ∙ pick-false _ _ _ (ap not (sym (stands-below records (ledger .count) number found) ∙ lt-ltb at (ledger .count) place-below)))
-
--- A link's spare rate.
-
-module _ (ledger : Ledger) (link : ℕ) where
-  spare-unusable : linksUnusable ledger ≡ true → refusedSpare Unusable ≡ spareOf ledger link
-  unfolding spareOf
-  spare-unusable unusable = sym (pick-true _ _ _ unusable)
-
-  pub spare-unfit : capacitiesFit (capacityOf ledger) ≡ false → refusedSpare Unusable ≡ spareOf ledger link
-  unfolding linksUnusable
-  spare-unfit unfit = spare-unusable (either-first _ _ (ap not unfit))
-
-  pub spare-above : every (totalFits ledger) linkCount ≡ false → refusedSpare Unusable ≡ spareOf ledger link
-  unfolding linksUnusable
-  spare-above above = spare-unusable (either-second (not (capacitiesFit (capacityOf ledger))) _ (ap not above))
-
-  module _ (fit : capacitiesFit (capacityOf ledger) ≡ true) (within : every (totalFits ledger) linkCount ≡ true) where
-    usable : linksUnusable ledger ≡ false
-    unfolding linksUnusable
-    usable = either-none _ _ (ap not fit) (ap not within)
-
-    pub spare-outside : inRange linkRange link ≡ false → refusedSpare (OutOfRange 0) ≡ spareOf ledger link
-    unfolding spareOf
-    spare-outside outside = sym (pick-false _ _ _ usable ∙ pick-true _ _ _ (ap not outside))
-
-    module _ (inside : inRange linkRange link ≡ true) where
-      pub spare-fits : totalOf ledger link ≤ capacityOf ledger link
-      unfolding totalFits
-      spare-fits = leb-true _ _ (every-at (totalFits ledger) linkCount within link (omega (arith, le-largest linkRange link inside)))
-
-      pub spare-found : record { verdict = Verdict.Accepted; rate = record { 0 = capacityOf ledger link - totalOf ledger link } } ≡ spareOf ledger link
-      unfolding spareOf
-      spare-found = sym (pick-false _ _ _ usable ∙ pick-false _ _ _ (ap not inside))

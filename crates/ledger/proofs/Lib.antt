@@ -7,6 +7,7 @@ pub mod UsableLedger
 pub mod Testing
 pub mod Naming
 pub mod Deciding
+pub mod Sparing
 pub mod Admitting
 pub mod Lent
 pub mod Shared

@@ -1,11 +1,11 @@
 -- Serves the private contracts of the ledger, and need not be believed: no public call cites it.
--- The steps of the calls, as the code takes them: the lent records by value, what the test finds, what is decided, and what is written.
+-- The steps of the calls, as the code takes them: the lent records by value, what the test finds, what is decided, what is written, and what asking finds of the links.
 use mathlib.Core.Path.{_≡_}
-use Prim.Native.Nat.{ℕ, _-_, _≤_, _<_}
+use Prim.Native.Nat.{ℕ, _+_, _-_, _≤_, _<_}
 use mathlib.Core.Bool.{Bool, true, false, not}
 use mathlib.Core.List.{List, [], _++_}
 use lib.ListN.{length, getD, set, drop, replicate}
-use lib.Dec.{ltb, eqb}
+use lib.Dec.{leb, ltb, eqb}
 use Rattle.quantity.specs.Choice.{pick, both}
 use Rattle.quantity.specs.Sums.{every, listOf}
 use Rattle.quantity.specs.Quantities.{ratesSum}
@@ -27,11 +27,13 @@ use Rattle.ledger.specs.declared.opening.Clearing.{Clearing}
 use Rattle.ledger.specs.declared.opening.Checked.{Checked}
 use Rattle.ledger.specs.declared.admission.Admitting.{Admitting}
 use Rattle.ledger.specs.declared.release.Releasing.{Releasing}
+use Rattle.ledger.specs.declared.spare.Spares.{Spares}
 use Rattle.ledger.specs.Records.{noRecord, numberAt, share, reserved, placeAmong}
-use Rattle.ledger.specs.Ledgers.{recordCount, linkCount, capacitiesFit, ledgerUnusable}
+use Rattle.ledger.specs.Ledgers.{recordCount, linkCount, capacityOf, totalOf, capacitiesFit, ledgerUnusable}
 use Rattle.ledger.specs.Opening.{askedFor, openCases, newLedger, noLedger, refusedOpening}
 use Rattle.ledger.specs.Admission.{namesLink, recordOf, admissionCases, refusedAdmission, acceptedAdmission}
 use Rattle.ledger.specs.Release.{releaseCases, refusedRelease, acceptedRelease, recordOfNumber}
+use Rattle.ledger.specs.Spare.{linksUnusable}
 
 -- The lent records.
 
@@ -124,3 +126,16 @@ unfolding refusedReleasing
 releasingOf ledger records number =
     firstOf (releaseCases ledger records number) (refusedReleasing ledger)
     (record { released = acceptedRelease ledger (recordOfNumber ledger records number); at = placeAmong (numberAt records) (ledger .count) number; last = noRecord })
+
+-- Ask.
+
+-- what a capacity leaves beside a total; where the total is above it, the difference of 32 bits wraps
+unfoldable pub leftOf : ℕ → ℕ → ℕ
+leftOf capacity total = pick (leb total capacity) (capacity - total) (capacity + 4_294_967_296 - total)
+
+-- whether the links can be used, and what each leaves
+unfoldable pub sparesOf : Ledger → Spares
+sparesOf ledger = record {
+  fit = not (linksUnusable ledger);
+  rates = listOf (λ link. record { 0 = leftOf (capacityOf ledger link) (totalOf ledger link) }) linkCount;
+}

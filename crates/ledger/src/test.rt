@@ -68,7 +68,7 @@ fn not_tested() -> Tested
 }
 
 // All links are tested, so that the loop has no branch.
-pub(crate) fn capacities_fit(capacities: [LinkCapacity; 16]) -> bool
+fn capacities_fit(capacities: [LinkCapacity; 16]) -> bool
     ensures { λ r. ⌜ r ≡ capacitiesFit (λ link. getD capacities link (record { 0 = 0 }) .0) ⌝ }
 {
     let mut fit = true;
@@ -81,7 +81,7 @@ pub(crate) fn capacities_fit(capacities: [LinkCapacity; 16]) -> bool
     fit
 }
 
-fn and(a: bool, b: bool) -> bool
+pub(crate) fn and(a: bool, b: bool) -> bool
     ensures { λ r. ⌜ r ≡ both a b ⌝ }
 {
     if a { b } else { false }
@@ -191,7 +191,7 @@ fn reserve(records: [Record; 64], count: usize) -> [Rate; 16]
 }
 
 // Whether each link's total is at most its capacity.
-pub(crate) fn totals_fit(capacities: [LinkCapacity; 16], totals: [Rate; 16]) -> bool
+fn totals_fit(capacities: [LinkCapacity; 16], totals: [Rate; 16]) -> bool
     ensures { λ r. ⌜ r ≡ every (λ link. leb (rateAt totals link .0) (getD capacities link (record { 0 = 0 }) .0)) linkCount ⌝ }
 {
     let mut fit = true;
