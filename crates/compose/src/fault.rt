@@ -35,7 +35,7 @@ pub(crate) fn say(line: u64, why: Fault) {
           interval out of range|quota out of range|delay wanted out of range|\
           rate out of range|delay out of range|link out of range|profile out of range|\
           hops out of range|packet out of range|link rate out of range|\
-          delayer of more than 64 slots|link is missing|smooth or uniform is missing here|\
+          delayer of more than 64 slots|link is missing|smooth, uniform or rows is missing here|\
           wanted is missing here|a line is missing|a line too many|line too long",
         index_of(why),
     );

@@ -1,5 +1,6 @@
 // What a line of a path's text says by itself, wherever it stands.
 
+use crate::declaration::read_declaration;
 use crate::fault::Fault;
 use crate::profile::read_profile;
 use console::numbers::narrow;
@@ -22,15 +23,28 @@ use text::decimal::decimals_from;
 
 pub(crate) const SPACE: u8 = 32;
 
+// The words of a declaration, by their place in the table of words.
+const SMOOTH: usize = 7;
+
+pub(crate) const UNIFORM: usize = 8;
+
+const ROWS: usize = 9;
+
 // The numbers of what is said are in their ranges.
 pub enum Said {
     Nothing,
     Hexadecimal,
-    Declaration(Declaration),
+    Declaration,
     Wanted(WantedDelay),
     LinkedOperator(LinkedOperator),
     House(House),
     Wrong(Fault),
+}
+
+// What a line says, and the declaration where it says one. (An enum cannot hold the rows' array.)
+pub struct Line {
+    pub said: Said,
+    pub declaration: Declaration,
 }
 
 // One or two numbers; of one, the second is 0.
@@ -39,69 +53,59 @@ enum Numbers {
     Wrong(Fault),
 }
 
+// How many numbers there are.
+pub enum Count {
+    Numbers(usize),
+    Wrong(Fault),
+}
+
 // The operators have the numbers of document 01, section 5. What follows a word begins behind a space.
-pub(crate) fn read_line(line: &[u8]) -> Said {
+pub(crate) fn read_line(line: &[u8]) -> Line {
     let found = find(
-        b"limiter|compactor|expander|filter|delayer|smooth|uniform|wanted|profile",
+        b"limiter|compactor|expander|filter|delayer|wanted|profile|smooth|uniform|rows",
         line,
     );
     let word = found.index;
     let from = found.behind;
-    if word < 8 {
-        return said_by(word, numbers_behind(word, line, from));
+    if SMOOTH <= word && word <= ROWS {
+        return read_declaration(word, line, from);
     }
-    if word == 8 {
-        return read_profile(line, from);
-    }
-    Said::Wrong(Fault::UnknownWord)
+    without_declaration(read_other(word, line, from))
 }
 
-// `limiter R link k` and so for each operator; `smooth m Q`, `uniform m Q`; `wanted N`
-fn numbers_behind(word: usize, line: &[u8], from: usize) -> Numbers {
-    if word < 5 {
-        return number_and_link(line, from);
+fn read_other(word: usize, line: &[u8], from: usize) -> Said {
+    match word {
+        0..=4 => said_linked_by(word, number_and_link(line, from)),
+        5 => said_wanted(one_number(line, from)),
+        6 => read_profile(line, from),
+        _ => Said::Wrong(Fault::UnknownWord),
     }
-    if word < 7 {
-        return numbers_from(line, from, 2);
-    }
-    numbers_from(line, from, 1)
 }
 
-fn said_by(word: usize, numbers: Numbers) -> Said {
+pub(crate) fn without_declaration(said: Said) -> Line {
+    let declaration = Declaration::of_one_row(Kind::Smooth, Interval(0), Quota(0));
+    Line { said, declaration }
+}
+
+// `wanted N`
+fn said_wanted(numbers: Numbers) -> Said {
     match numbers {
         Numbers::Wrong(why) => Said::Wrong(why),
-        Numbers::Given { first, second } => said_of(word, first, second),
+        Numbers::Given { first, second: _ } => {
+            let wanted = WantedDelay(first);
+            if !wanted.in_range() {
+                return Said::Wrong(Fault::WantedOutOfRange);
+            }
+            Said::Wanted(wanted)
+        }
     }
 }
 
-fn said_of(word: usize, first: u32, second: u32) -> Said {
-    match word {
-        5 => said_declaration(Kind::Smooth, Interval(first), Quota(second)),
-        6 => said_declaration(Kind::Uniform, Interval(first), Quota(second)),
-        7 => said_wanted(WantedDelay(first)),
-        _ => said_linked(operator_of(word, first), Link(second)),
-    }
-}
-
-fn said_declaration(kind: Kind, interval: Interval, quota: Quota) -> Said {
-    if !interval.in_range() {
-        return Said::Wrong(Fault::IntervalOutOfRange);
-    }
-    if !quota.in_range() {
-        return Said::Wrong(Fault::QuotaOutOfRange);
-    }
-    Said::Declaration(Declaration {
-        kind,
-        interval,
-        quota,
-    })
-}
-
-fn said_wanted(wanted: WantedDelay) -> Said {
-    if wanted.in_range() {
-        Said::Wanted(wanted)
-    } else {
-        Said::Wrong(Fault::WantedOutOfRange)
+// `limiter R link k`, and so for each operator
+fn said_linked_by(kind: usize, numbers: Numbers) -> Said {
+    match numbers {
+        Numbers::Wrong(why) => Said::Wrong(why),
+        Numbers::Given { first, second } => said_linked(operator_of(kind, first), Link(second)),
     }
 }
 
@@ -163,7 +167,7 @@ fn with_link(number: u32, rest: &[u8]) -> Numbers {
     if 0 < found.index {
         return Numbers::Wrong(Fault::LinkMissing);
     }
-    match numbers_from(rest, found.behind, 1) {
+    match one_number(rest, found.behind) {
         Numbers::Wrong(why) => Numbers::Wrong(why),
         Numbers::Given { first, second: _ } => Numbers::Given {
             first: number,
@@ -172,29 +176,32 @@ fn with_link(number: u32, rest: &[u8]) -> Numbers {
     }
 }
 
-// The numbers from an index on, as many as there have to be.
-fn numbers_from(line: &[u8], from: usize, count: usize) -> Numbers {
-    if line.len() < from {
-        return Numbers::Wrong(Fault::TooFewNumbers);
-    }
+// The one number from an index on.
+fn one_number(line: &[u8], from: usize) -> Numbers {
     let mut numbers = [0u64; 2];
-    let read = decimals_from(line, from, &mut numbers);
-    numbers_of(read, count, narrow(numbers[0]), narrow(numbers[1]))
-}
-
-fn numbers_of(read: Decimals, count: usize, first: u32, second: u32) -> Numbers {
-    match read {
-        Decimals::NotANumber => Numbers::Wrong(Fault::NotANumber),
-        Decimals::TooLarge => Numbers::Wrong(Fault::NumberTooLarge),
-        Decimals::TooMany => Numbers::Wrong(Fault::TooManyNumbers),
-        Decimals::Count(n) => {
-            if n < count {
-                return Numbers::Wrong(Fault::TooFewNumbers);
-            }
-            if count < n {
+    match count_from(line, from, &mut numbers) {
+        Count::Wrong(why) => Numbers::Wrong(why),
+        Count::Numbers(n) => {
+            if 1 < n {
                 return Numbers::Wrong(Fault::TooManyNumbers);
             }
-            Numbers::Given { first, second }
+            Numbers::Given {
+                first: narrow(numbers[0]),
+                second: 0,
+            }
         }
+    }
+}
+
+// The numbers from an index on, put into their places.
+pub(crate) fn count_from(line: &[u8], from: usize, numbers: &mut [u64]) -> Count {
+    if line.len() < from {
+        return Count::Wrong(Fault::TooFewNumbers);
+    }
+    match decimals_from(line, from, numbers) {
+        Decimals::NotANumber => Count::Wrong(Fault::NotANumber),
+        Decimals::TooLarge => Count::Wrong(Fault::NumberTooLarge),
+        Decimals::TooMany => Count::Wrong(Fault::TooManyNumbers),
+        Decimals::Count(n) => Count::Numbers(n),
     }
 }

@@ -3,8 +3,10 @@
 
 use crate::fault::Fault;
 use crate::fault::say;
+use crate::line::Line;
 use crate::line::Said;
 use crate::line::read_line;
+use crate::line::without_declaration;
 use console::input::Input;
 use console::input::advance;
 use console::input::begin;
@@ -20,6 +22,7 @@ use sheet::write::write;
 use text::line::starts_with;
 ghost use Prim.Native.Nat.{_≤_};
 
+mod declaration;
 mod fault;
 mod line;
 mod profile;
@@ -72,16 +75,16 @@ fn main() {
 }
 
 // What a line says. `hex` is known as the first line alone.
-fn said_in(input: Input, line: &[u8; 1023]) -> Said
+fn said_in(input: Input, line: &[u8; 1023]) -> Line
     requires { ⌜ input .length ≤ 1023 ⌝ }
 {
     let length = input.length;
     let whole = &line[..];
     if input.too_long {
-        return Said::Wrong(Fault::LineTooLong);
+        return without_declaration(Said::Wrong(Fault::LineTooLong));
     }
     if length == 0 {
-        return Said::Nothing;
+        return without_declaration(Said::Nothing);
     }
     if input.lines == 1 {
         return read_first(&whole[0..length]);
@@ -89,17 +92,18 @@ fn said_in(input: Input, line: &[u8; 1023]) -> Said
     read_line(&whole[0..length])
 }
 
-fn read_first(line: &[u8]) -> Said {
+fn read_first(line: &[u8]) -> Line {
     if line.len() == 3 {
         if starts_with(line, b"hex") {
-            return Said::Hexadecimal;
+            return without_declaration(Said::Hexadecimal);
         }
     }
     read_line(line)
 }
 
 // Behind a wrong line the rest of its path is passed over.
-fn take(draft: Draft, lines: u64, said: Said) -> Draft {
+fn take(draft: Draft, lines: u64, line: Line) -> Draft {
+    let said = line.said;
     match said {
         Said::Nothing => end_path(draft, lines),
         Said::Hexadecimal => {
@@ -110,19 +114,20 @@ fn take(draft: Draft, lines: u64, said: Said) -> Draft {
         _ => if draft.wrong {
             draft
         } else {
-            take_part(draft, lines, said)
+            take_part(draft, lines, line)
         },
     }
 }
 
 // What a line says goes to its place in the path, if it is the one that comes next.
-fn take_part(draft: Draft, lines: u64, said: Said) -> Draft {
+fn take_part(draft: Draft, lines: u64, line: Line) -> Draft {
+    let said = line.said;
     if let Said::Wrong(why) = said {
         return fail(draft, lines, why);
     }
     let turn = turn_of(said);
     if turn.this == draft.next {
-        return put(draft, turn.next, said);
+        return put(draft, turn.next, line);
     }
     fail(draft, lines, order_fault(draft.next, turn.this))
 }
@@ -155,7 +160,7 @@ fn end_path(draft: Draft, lines: u64) -> Draft {
 
 fn turn_of(said: Said) -> Turn {
     match said {
-        Said::Declaration(_) => Turn {
+        Said::Declaration => Turn {
             this: FIRST,
             next: SECOND,
         },
@@ -185,8 +190,8 @@ fn order_fault(next: u8, this: u8) -> Fault {
 }
 
 // Behind sixteen operators comes nothing.
-fn put(draft: Draft, next: u8, said: Said) -> Draft {
-    let path = path_with(draft.path, said);
+fn put(draft: Draft, next: u8, line: Line) -> Draft {
+    let path = path_with(draft.path, line);
     Draft {
         path,
         next: if path.count < 16 { next } else { NOTHING },
@@ -196,10 +201,14 @@ fn put(draft: Draft, next: u8, said: Said) -> Draft {
     }
 }
 
-fn path_with(path: PathValue, said: Said) -> PathValue {
+fn path_with(path: PathValue, line: Line) -> PathValue {
     let mut next = path;
+    let said = line.said;
     match said {
-        Said::Declaration(declaration) => next.declaration = declaration,
+        Said::Declaration => {
+            let declaration = line.declaration;
+            next.declaration = declaration;
+        }
         Said::Wanted(wanted) => next.wanted = wanted,
         Said::LinkedOperator(linked) => return with_linked(path, linked),
         Said::House(house) => return with_form(path, Form::House(house)),

@@ -5,4 +5,5 @@ pub mod listing;
 pub mod numbers;
 pub mod paper;
 pub mod print;
+pub mod rows;
 pub mod words;

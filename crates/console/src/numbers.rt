@@ -32,16 +32,37 @@ pub fn numbers_of(lines: u64, command: &[u8], from: usize, wanted: usize) -> Num
             fault = if n < wanted { 3 } else { 2 };
         }
     }
-    error_of(
-        lines,
-        b"not a number|number too large|too many numbers|too few numbers",
-        fault,
-    );
+    numbers_wrong(lines, fault);
     Numbers {
         given: false,
         first: 0,
         second: 0,
     }
+}
+
+// How many numbers a command has from an index on, two by two; 0: the line is an error.
+pub fn pairs_of(lines: u64, command: &[u8], from: usize, numbers: &mut [u64; 10]) -> usize {
+    let mut fault = 3;
+    match decimals_from(command, from, numbers) {
+        Decimals::NotANumber => fault = 0,
+        Decimals::TooLarge => fault = 1,
+        Decimals::TooMany => fault = 2,
+        Decimals::Count(n) => {
+            if n % 2 == 0 {
+                return n;
+            }
+        }
+    }
+    numbers_wrong(lines, fault);
+    0
+}
+
+fn numbers_wrong(lines: u64, fault: usize) {
+    error_of(
+        lines,
+        b"not a number|number too large|too many numbers|too few numbers",
+        fault,
+    );
 }
 
 // A number as a quantity of 32 bits takes it. What these do not hold is out of every range, as their largest number is.

@@ -1,8 +1,9 @@
 -- Section 4's numbers fit their words: what is carried stays within its bounds behind every operator that is not refused, and no delay is above its class's burst and its slots.
-use Prim.Native.Nat.{ℕ, _+_, _*_, _≤_, min, _-_}
-use mathlib.Core.Path.{_≡_, sym, ap, subst, _∙_}
+use Prim.Native.Nat.{ℕ, _+_, _*_, _≤_, _<_, min, _-_}
+use mathlib.Core.Path.{_≡_, refl, sym, ap, subst, _∙_}
+use mathlib.Core.List.{List}
 use mathlib.Core.Bool.{Bool, true, false}
-use native.Mathlib.Nat.{le-trans, le-mul-of-pos-right, mul-le-mul, mul-le-mul-left, mul-comm, le-min, min-le-left}
+use native.Mathlib.Nat.{le-trans, le-mul-of-pos-right, mul-le-mul, mul-le-mul-left, mul-le-mul-right, mul-comm, le-min, min-le-left}
 use native.Mathlib.Omega.{arith}
 use borrow.Author.Tests.{leb-true}
 use Rattle.quantity.specs.Ranges.{Range, inRange, intervalRange, rateRange, delayRange}
@@ -16,17 +17,22 @@ use Rattle.quantity.specs.declared.Delay.{Delay}
 use Rattle.quantity.proofs.Quantities.{units-sum, units-over}
 use Rattle.quantity.proofs.Rounding.{round-up-enough, round-up-least}
 use Rattle.quantity.proofs.Sums.{both-true}
-use Rattle.flow.specs.Classes.{Class, burst}
+use Rattle.flow.specs.Rows.{Row, reach, rowsMost}
+use Rattle.flow.specs.Bounds.{RowInside, ClassWithin}
+use Rattle.flow.specs.Classes.{Class, smooth, uniform, rows, Positive, mostIn, changedQuota, carries, burstAt}
+use Rattle.flow.proofs.ClassBounds.{rows-most-bound, burst-bound, within-positive}
 use Rattle.operator.specs.FilterPart.{Slowest, unfiltered, filtered, slower}
 use Rattle.operator.specs.Operators.{numberInRange}
-use Rattle.flow.specs.declared.Kind.{Kind}
 use Rattle.operator.specs.declared.Operator.{Operator}
 use Rattle.operator.specs.declared.Operator.the-variants.{Limiter, Compactor, Expander, Filter, Delayer}
 use Rattle.figures.specs.declared.carried.LeastRate.{LeastRate}
-use Rattle.figures.specs.declared.carried.LeastRate.the-variants.{Least}
+use Rattle.figures.specs.declared.carried.LeastRate.the-variants.{NoFilter, Least}
 use Rattle.figures.specs.Progress.{Progress, behind}
-use Rattle.figures.specs.Figures.{partDelay, delayOfPart, ownDelay, changedQuota, largestChangedQuota}
-use Rattle.figures.specs.Carried.{slowestIn, ClassWithin, RateWithin, Within, mostBefore, mostWith}
+use Rattle.figures.specs.Figures.{partDelay, delayOfPart, ownDelay, quotaBehind, largestChangedQuota}
+use Rattle.figures.specs.declared.carried.Carried.{Carried}
+use Rattle.flow.specs.declared.Declaration.{Declaration}
+use Rattle.figures.specs.Carried.{classIn, slowestIn, progressIn, RateWithin, Within, BurstKept, BurstFits, delayKept, Ready, mostBefore, mostWith}
+use Rattle.figures.proofs.Part.{delay-le-slower}
 
 pub in-range : (range : Range) (value : ℕ) → inRange range value ≡ true → (range .least ≤ value) × (value ≤ range .largest)
 unfolding inRange
@@ -39,21 +45,14 @@ inside-of e inside = sym (ap numberInRange e) ∙ inside
 pub round-up-at-most : (x y : ℕ) → 1 ≤ y → roundUp x y ≤ x
 round-up-at-most x y positive = round-up-least x y x positive (le-mul-of-pos-right x positive)
 
--- a larger divisor gives no more
-pub round-up-falls : (x y z : ℕ) → 1 ≤ y → y ≤ z → roundUp x z ≤ roundUp x y
-round-up-falls x y z positive larger =
-    round-up-least x z (roundUp x y) (le-trans positive larger) (le-trans (round-up-enough x y positive) (mul-le-mul-left (roundUp x y) larger))
-
-burst-of-kind : (kind : Kind) (m Q : ℕ) → Q ≤ largestChangedQuota → burst (record { kind = kind; interval = m; quota = Q }) ≤ 134_217_726
-unfolding burst
-burst-of-kind Kind.Smooth m Q small = omega arith
-burst-of-kind Kind.Uniform m Q small = omega arith
-
-pub burst-bound : (c : Class) → ClassWithin c → burst c ≤ 134_217_726
-burst-bound c within = burst-of-kind (c .kind) (c .interval) (c .quota) (within .quota)
-
-pub rate-within : {slowest : LeastRate} {rate : Rate} → slowest ≡ Least rate → RateWithin (slowestIn slowest) → (1 ≤ rate .0) × (rate .0 ≤ 65_535)
+pub rate-within : {slowest : LeastRate} {rate : Rate} {burst : Units} → slowest ≡ Least rate burst → RateWithin (slowestIn slowest) → (1 ≤ rate .0) × (rate .0 ≤ 65_535)
 rate-within e within = subst (λ (slowest : LeastRate). RateWithin (slowestIn slowest)) e within
+
+pub burst-kept : {slowest : LeastRate} {rate : Rate} {burst : Units} (c : Class) → slowest ≡ Least rate burst → BurstKept c slowest → burst .0 ≡ burstAt c (rate .0)
+burst-kept c e kept = subst (BurstKept c) e kept
+
+pub fits-within : {slowest : LeastRate} {rate : Rate} {burst : Units} → slowest ≡ Least rate burst → BurstFits slowest → (1 ≤ rate .0) × (rate .0 ≤ 65_535) × (burst .0 ≤ 134_217_726)
+fits-within e fits = subst BurstFits e fits
 
 -- burst + e·P, as units added to units
 pub part-units : (burst over : Units) (rate : Rate) (e : Slots) → over ≡ unitsOver rate e → burst .0 ≤ 134_217_726 → e .0 ≤ mostWith → rate .0 ≤ 65_535 → unitsSum burst over .0 ≡ burst .0 + e .0 * rate .0
@@ -69,8 +68,8 @@ slower-within (filtered P) R within inside =
     (le-min (within .0) least, le-trans (min-le-left P R) (within .1))
 
 -- behind an operator that refusal 7 lets pass
-pub behind-within : (longest : ℕ) (p : Progress) (op : Operator) → Within longest p → numberInRange op ≡ true → changedQuota p op ≤ largestChangedQuota → Within (longest + 64) (behind p op)
-unfolding numberInRange changedQuota behind
+pub behind-within : (longest : ℕ) (p : Progress) (op : Operator) → Within longest p → numberInRange op ≡ true → quotaBehind p op ≤ largestChangedQuota → Within (longest + 64) (behind p op)
+unfolding numberInRange quotaBehind behind
 behind-within longest p (Limiter R) within inside small =
     let (least, largest) = in-range rateRange (R .0) inside in
     record { class = record { least = omega arith; most = omega arith; quota = omega arith }; e = omega arith; slowest = tt }
@@ -89,8 +88,17 @@ behind-within longest p (Delayer d) within inside small =
     record { class = within .class; e = omega arith; slowest = within .slowest }
 
 -- with the sixteenth of sixteen operators
-pub with-within : (p : Progress) (op : Operator) → Within mostBefore p → numberInRange op ≡ true → changedQuota p op ≤ largestChangedQuota → Within mostWith (behind p op)
+pub with-within : (p : Progress) (op : Operator) → Within mostBefore p → numberInRange op ≡ true → quotaBehind p op ≤ largestChangedQuota → Within mostWith (behind p op)
 with-within p op = behind-within mostBefore p op
+
+-- so behind a filter and behind a delayer, which change no quota
+pub filter-within : (p : Progress) (R : Rate) → Within mostBefore p → numberInRange (Filter R) ≡ true → Within mostWith (behind p (Filter R))
+unfolding quotaBehind
+filter-within p R within inside = with-within p (Filter R) within inside (omega arith)
+
+pub delayer-within : (p : Progress) (d : Delay) → Within mostBefore p → numberInRange (Delayer d) ≡ true → Within mostWith (behind p (Delayer d))
+unfolding quotaBehind
+delayer-within p d within inside = with-within p (Delayer d) within inside (omega arith)
 
 pub within-le : {p : Progress} {shorter longer : ℕ} → shorter ≤ longer → Within shorter p → Within longer p
 within-le h within = record { class = within .class; e = le-trans (within .e) h; slowest = within .slowest }
@@ -98,16 +106,10 @@ within-le h within = record { class = within .class; e = le-trans (within .e) h;
 part-delay-of : (c : Class) (e longest : ℕ) (P : Slowest) → ClassWithin c → e ≤ longest → RateWithin P → partDelay c e P ≤ 134_217_726 + longest
 unfolding partDelay
 part-delay-of c e longest unfiltered within short rate = omega arith
-part-delay-of c e longest (filtered P) within short rate = omega (arith, round-up-at-most (burst c) P (rate .0), burst-bound c within)
+part-delay-of c e longest (filtered P) within short rate = omega (arith, round-up-at-most (burstAt c P) P (rate .0), burst-bound c P within)
 
 pub part-delay-bound : (longest : ℕ) (p : Progress) → Within longest p → delayOfPart p ≤ 134_217_726 + longest
 part-delay-bound longest p within = part-delay-of (p .class) (p .e) longest (p .slowest) (within .class) (within .e) (within .slowest)
-
-filter-delay-of : (c : Class) (e R : ℕ) (P : Slowest) → RateWithin P → 1 ≤ R → partDelay c e P ≤ partDelay c e (slower P R)
-unfolding partDelay slower
-filter-delay-of c e R unfiltered rate positive = omega arith
-filter-delay-of c e R (filtered P) rate positive =
-    omega (arith, round-up-falls (burst c) (min P R) P (le-min (rate .0) positive) (min-le-left P R))
 
 delayer-adds-of : (c : Class) (e d : ℕ) (P : Slowest) → partDelay c (e + d) P - partDelay c e P ≡ d
 unfolding partDelay
@@ -119,17 +121,11 @@ pub delayer-delay : (p : Progress) (d : Delay) → delayOfPart (behind p (Delaye
 unfolding behind
 delayer-delay p d = delayer-adds-of (p .class) (p .e) (d .0) (p .slowest)
 
--- no filter takes from the delay of its part
-filter-delays : (longest : ℕ) (p : Progress) (R : Rate) → Within longest p → numberInRange (Filter R) ≡ true → delayOfPart p ≤ delayOfPart (behind p (Filter R))
+-- no filter whose rate carries the class takes from the delay of its part
+pub filter-delays : (longest : ℕ) (p : Progress) (R : Rate) → Within longest p → numberInRange (Filter R) ≡ true → carries (p .class) (R .0) ≡ true → delayOfPart p ≤ delayOfPart (behind p (Filter R))
 unfolding numberInRange behind
-filter-delays longest p R within inside = filter-delay-of (p .class) (p .e) (R .0) (p .slowest) (within .slowest) (in-range rateRange (R .0) inside .0)
-
--- what is known of a progress and of what it becomes behind a filter
-pub filter-adds : (p : Progress) {after : Progress} (R : Rate) → after ≡ behind p (Filter R) → Within mostBefore p → numberInRange (Filter R) ≡ true → Within mostWith p × (Within mostWith after × (delayOfPart p ≤ delayOfPart after))
-unfolding changedQuota
-filter-adds p R e within inside =
-    subst (λ (q : Progress). Within mostWith p × (Within mostWith q × (delayOfPart p ≤ delayOfPart q))) (sym e)
-    (within-le {shorter = mostBefore} (omega arith) within, (with-within _ _ within inside (omega arith), filter-delays mostBefore p _ within inside))
+filter-delays longest p R within inside enough =
+    delay-le-slower (p .class) (p .e) (p .slowest) (R .0) (within-positive (p .class) (within .class)) (in-range rateRange (R .0) inside .0) enough
 
 paired-delay : (paired : Bool) (n : ℕ) → n ≤ 1024 → pick paired 0 n ≤ 1024
 paired-delay true n small = omega arith
@@ -138,8 +134,43 @@ paired-delay false n small = small
 pub own-delay-bound : (p : Progress) (op : Operator) (paired : Bool) → Within mostBefore p → numberInRange op ≡ true → ownDelay p op paired ≤ 134_218_750
 unfolding numberInRange ownDelay
 own-delay-bound p (Limiter R) paired within inside =
-    omega (arith, round-up-at-most (burst (p .class)) (R .0) (in-range rateRange (R .0) inside .0), burst-bound (p .class) (within .class))
+    omega (arith, round-up-at-most (burstAt (p .class) (R .0)) (R .0) (in-range rateRange (R .0) inside .0), burst-bound (p .class) (R .0) (within .class))
 own-delay-bound p (Compactor n) paired within inside = omega (arith, in-range intervalRange (n .0) inside .1)
 own-delay-bound p (Expander n) paired within inside = omega (arith, paired-delay paired (n .0) (in-range intervalRange (n .0) inside .1))
-own-delay-bound p (Filter R) paired within inside = omega (arith, part-delay-bound 1024 (behind p (Filter R)) (with-within p (Filter R) within inside (unfold changedQuota in omega arith)))
-own-delay-bound p (Delayer d) paired within inside = omega (arith, part-delay-bound 1024 (behind p (Delayer d)) (with-within p (Delayer d) within inside (unfold changedQuota in omega arith)))
+own-delay-bound p (Filter R) paired within inside = omega (arith, part-delay-bound 1024 (behind p (Filter R)) (with-within p (Filter R) within inside (unfold quotaBehind in omega arith)))
+own-delay-bound p (Delayer d) paired within inside = omega (arith, part-delay-bound 1024 (behind p (Delayer d)) (with-within p (Delayer d) within inside (unfold quotaBehind in omega arith)))
+
+-- What the code keeps of a part is what the definitions say.
+
+kept-fits : (c : Class) (slowest : LeastRate) → ClassWithin c → RateWithin (slowestIn slowest) → BurstKept c slowest → BurstFits slowest
+kept-fits c NoFilter within rate kept = tt
+kept-fits c (Least rate burst) within (positive, small) kept = (positive, small, omega (arith, kept, burst-bound c (rate .0) within))
+
+kept-delay : (c : Class) (e : ℕ) (slowest : LeastRate) → BurstKept c slowest → delayKept slowest e ≡ partDelay c e (slowestIn slowest)
+unfolding partDelay
+kept-delay c e NoFilter kept = refl
+kept-delay c e (Least rate burst) kept = rw kept
+
+module _ {longest : ℕ} {declared : Declaration} {bound : List ℕ} {carried : Carried} (ready : Ready longest declared bound carried) where
+  pub burst-fits : BurstFits (carried .slowest)
+  burst-fits = kept-fits (classIn declared (carried .class)) (carried .slowest) (ready .within .class) (ready .within .slowest) (ready .burst)
+
+  pub delay-kept : delayKept (carried .slowest) (carried .e .0) ≡ delayOfPart (progressIn declared carried)
+  delay-kept = kept-delay (classIn declared (carried .class)) (carried .e .0) (carried .slowest) (ready .burst)
+
+  pub ready-longer : {longer : ℕ} → longest ≤ longer → Ready longer declared bound carried
+  ready-longer h = record { within = within-le h (ready .within); lent = ready .lent; burst = ready .burst }
+
+-- behind a delayer
+pub delayer-ready : {declared : Declaration} {bound : List ℕ} (carried : Carried) (d : Delay) → Ready mostBefore declared bound carried → numberInRange (Delayer d) ≡ true
+    → Ready mostWith declared bound (record { class = carried .class; filtering = true; e = record { 0 = carried .e .0 + d .0 }; slowest = carried .slowest })
+unfolding behind
+delayer-ready {declared} carried d ready inside =
+    record { within = delayer-within (progressIn declared carried) d (ready .within) inside; lent = ready .lent; burst = ready .burst }
+
+-- a filter whose rate carries the class takes nothing from the delay that is kept
+pub filter-adds : {declared : Declaration} {bound : List ℕ} (before after : Carried) (R : Rate) → Ready mostBefore declared bound before → Ready mostWith declared bound after
+    → progressIn declared after ≡ behind (progressIn declared before) (Filter R) → numberInRange (Filter R) ≡ true → carries (classIn declared (before .class)) (R .0) ≡ true
+    → delayKept (before .slowest) (before .e .0) ≤ delayKept (after .slowest) (after .e .0)
+filter-adds {declared} before after R ready later same inside enough =
+    omega (arith, delay-kept ready, delay-kept later, ap delayOfPart same, filter-delays mostBefore (progressIn declared before) R (ready .within) inside enough)

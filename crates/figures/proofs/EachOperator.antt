@@ -12,7 +12,7 @@ use lib.ListN.{length, getD, set, replicate, length-set, getD-replicate}
 use lib.Seq.{getD-take, length-take-le, getD-set-same, getD-set-other}
 use Rattle.quantity.specs.Limits.{largest32}
 use Rattle.quantity.specs.Choice.{pick, both, either}
-use Rattle.quantity.specs.Ranges.{inRange, intervalRange, quotaRange, wantedDelayRange}
+use Rattle.quantity.specs.Ranges.{inRange, wantedDelayRange}
 use Rattle.quantity.specs.Quantities.{slotsSum}
 use Rattle.quantity.specs.Sums.{total, listOf}
 use Rattle.quantity.specs.Refusals.{Case, firstOf}
@@ -25,11 +25,13 @@ use Rattle.quantity.proofs.Laws.{pick-true, pick-false}
 use Rattle.quantity.proofs.Sums.{both-true, total-zero, total-suc, total-next, listOf-ext}
 use Rattle.operator.specs.Operators.{numberInRange}
 use Rattle.flow.specs.Declarations.{declarationInRange, classOf}
+use Rattle.flow.specs.declared.Declaration.{Declaration}
+use Rattle.flow.proofs.ClassBounds.{class-within}
 use Rattle.operator.specs.declared.Operator.{Operator}
 use Rattle.sheet.specs.Paths.{Path, noLinkedOperator}
 use Rattle.sheet.specs.Forms.{inFull}
 use Rattle.sheet.specs.Bodies.{operatorInRange}
-use Rattle.sheet.specs.Sheets.{pathInRange, operatorsInRange}
+use Rattle.sheet.specs.Sheets.{restInRange, pathInRange, operatorsInRange}
 use Rattle.sheet.specs.declared.LinkedOperator.{LinkedOperator}
 use Rattle.sheet.specs.declared.PathValue.{PathValue}
 use Rattle.sheet.specs.declared.read.Verdict.{Verdict}
@@ -38,18 +40,21 @@ use Rattle.figures.specs.declared.PathFigures.{PathFigures}
 use Rattle.figures.specs.declared.carried.Carried.{Carried}
 use Rattle.figures.specs.declared.each.Planned.{Planned}
 use Rattle.figures.specs.Progress.{Progress, start, behind, progressAt}
-use Rattle.figures.specs.Figures.{capacity, pairs, changedQuota, figureTooLarge, largestChangedQuota}
-use Rattle.figures.specs.Answers.{operatorAt, before, pairedAt, capacityAt, delayAt, operatorCases, operatorsCases, pathCases, figureAt, noFigure, figureIn, pathDelay, refusedFigures}
-use Rattle.figures.specs.Carried.{progressIn, Within, mostBefore, plannedOf}
-use Rattle.figures.proofs.Bounds.{in-range, within-le, behind-within, own-delay-bound}
+use Rattle.figures.specs.Figures.{capacity, pairs, quotaBehind, figureTooLarge, largestChangedQuota}
+use Rattle.figures.specs.Answers.{operatorAt, before, pairedAt, capacityAt, delayAt, operatorCases, operatorsCases, pathCases, figureAt, noFigure, figureIn, pathDelay, refusedFigures, acceptedFigures}
+use Rattle.figures.specs.declared.carried.LeastRate.the-variants.{NoFilter}
+use Rattle.figures.specs.Carried.{classIn, progressIn, Within, Lent, BurstKept, Ready, mostBefore, plannedOf, PathWithin, figuresOfValue}
+use Rattle.figures.proofs.Bounds.{within-le, behind-within, own-delay-bound}
 
 -- the figure at each place, once the first k operators are done
 unfoldable pub figureUpTo : Path → ℕ → ℕ → Figure
 figureUpTo path k j = pick (ltb j k) (figureAt path j) noFigure
 
 -- what holds before operator k
-pub record Walked (path : Path) (k : ℕ) (carried : Carried) (figures : List Figure) (delay : Slots) : Type 0 where
-  pub carries : progressIn carried ≡ before path k
+pub record Walked (declared : Declaration) (bound : List ℕ) (path : Path) (k : ℕ) (carried : Carried) (figures : List Figure) (delay : Slots) : Type 0 where
+  pub carries : progressIn declared carried ≡ before path k
+  pub lent : Lent (carried .class .kind) declared bound
+  pub burst : BurstKept (classIn declared (carried .class)) (carried .slowest)
   pub passed : NoneStands (operatorsCases path k)
   pub long : length figures ≡ 16
   pub written : (j : ℕ) → j < 16 → getD figures j noFigure ≡ figureUpTo path k j
@@ -70,9 +75,9 @@ linked-number [] k e h = absurd (not-suc-le-zero h)
 linked-number (linked ∷ operators) zero e h = both-true _ _ (both-true (operatorInRange linked) (operatorsInRange operators) e .0) .0
 linked-number (linked ∷ operators) (suc k) e h = linked-number operators k (both-true (operatorInRange linked) (operatorsInRange operators) e .1) (le-of-suc-le-suc h)
 
-quota-passed : (p : Progress) (op : Operator) → figureTooLarge p op ≡ false → changedQuota p op ≤ largestChangedQuota
+quota-passed : (p : Progress) (op : Operator) → figureTooLarge p op ≡ false → quotaBehind p op ≤ largestChangedQuota
 unfolding figureTooLarge
-quota-passed p op e = ltb-false largestChangedQuota (changedQuota p op) (first-false _ _ e)
+quota-passed p op e = ltb-false largestChangedQuota (quotaBehind p op) (first-false _ _ e)
   where
     first-false : (a b : Bool) → either a b ≡ false → a ≡ false
     first-false true b e = e
@@ -80,19 +85,16 @@ quota-passed p op e = ltb-false largestChangedQuota (changedQuota p op) (first-f
 
 module _ (path : Path) (few : length (path .operators) ≤ 16) (inside : pathInRange path ≡ true) where
   pub number-inside : (k : ℕ) → k < length (path .operators) → numberInRange (operatorAt path k) ≡ true
-  unfolding pathInRange operatorAt
+  unfolding pathInRange restInRange operatorAt
   number-inside k h =
-      let (declaration, others) = both-true (declarationInRange (path .declaration)) (both (inRange wantedDelayRange (path .wanted)) (operatorsInRange (path .operators))) inside in
+      let (declaration, others) = both-true (declarationInRange (path .declaration)) (restInRange path) inside in
       linked-number (path .operators) k (both-true (inRange wantedDelayRange (path .wanted)) (operatorsInRange (path .operators)) others .1) h
 
   before-within : (k : ℕ) → k ≤ length (path .operators) → NoneStands (operatorsCases path k) → Within (64 * k) (before path k)
-  unfolding pathInRange declarationInRange before progressAt operatorsCases
+  unfolding pathInRange before progressAt operatorsCases
   before-within zero h passed =
-      let (declaration, others) = both-true (declarationInRange (path .declaration)) (both (inRange wantedDelayRange (path .wanted)) (operatorsInRange (path .operators))) inside in
-      let (m, Q) = both-true _ _ declaration in
-      let interval = in-range intervalRange _ m in
-      let quota = in-range quotaRange _ Q in
-      record { class = record { least = interval .0; most = interval .1; quota = omega arith }; e = omega arith; slowest = tt }
+      let (declaration, others) = both-true (declarationInRange (path .declaration)) (restInRange path) inside in
+      record { class = class-within (path .declaration) declaration; e = omega arith; slowest = tt }
   before-within (suc k) h passed =
       let (earlier, here) = none-of-each (operatorsCases path k) (operatorCases path k) passed in
       within-le (omega arith) (behind-within (64 * k) (before path k) (operatorAt path k) (before-within k (omega arith) earlier) (number-inside k h) (quota-passed _ _ (here .1 .0)))
@@ -114,11 +116,14 @@ module _ (path : Path) (few : length (path .operators) ≤ 16) (inside : pathInR
       omega (arith, total-suc (delayAt path) k, delays-bound k (omega arith) earlier, delay-bound k h earlier)
 
 -- before operator 0
-pub walked-start : (path : Path) (carried : Carried) (figure : Figure) → progressIn carried ≡ start (classOf (path .declaration)) → figure ≡ noFigure → Walked path 0 carried (replicate 16 figure) (record { 0 = 0 })
+pub walked-start : (declared : Declaration) (bound : List ℕ) (path : Path) (carried : Carried) (figure : Figure) → progressIn declared carried ≡ start (classOf (path .declaration))
+    → Lent (carried .class .kind) declared bound → carried .slowest ≡ NoFilter → figure ≡ noFigure → Walked declared bound path 0 carried (replicate 16 figure) (record { 0 = 0 })
 unfolding before progressAt operatorsCases figureUpTo
-walked-start path carried figure e f =
+walked-start declared bound path carried figure e lent none f =
     record {
       carries = e;
+      lent = lent;
+      burst = rw none tt;
       passed = tt;
       long = refl;
       written = λ j h. getD-replicate 16 j figure noFigure h ∙ f ∙ sym (pick-false _ _ _ (le-ltb j 0 (omega arith)));
@@ -181,16 +186,16 @@ ltb-next : (j k : ℕ) (t : Bool) → ltb j k ≡ t → (j ≡ k → ⊥) → t 
 ltb-next j k true e other = let less = ltb-true j k e in sym (lt-ltb j (k + 1) (omega arith))
 ltb-next j k false e other = let more = ltb-false j k e in sym (le-ltb j (k + 1) (omega arith))
 
-module _ {path : Path} {k : ℕ} {carried : Carried} {figures : List Figure} {delay : Slots} (walked : Walked path k carried figures delay) where
+module _ {declared : Declaration} {bound : List ℕ} {path : Path} {k : ℕ} {carried : Carried} {figures : List Figure} {delay : Slots} (walked : Walked declared bound path k carried figures delay) where
   -- what was planned of what is carried is planned of operator k
-  pub walked-planned : {op : Operator} {paired : Bool} {planned : Planned} → op ≡ operatorAt path k → paired ≡ pairedAt path k → planned ≡ plannedOf (progressIn carried) op paired k → planned ≡ plannedAt path k
+  pub walked-planned : {op : Operator} {paired : Bool} {planned : Planned} → op ≡ operatorAt path k → paired ≡ pairedAt path k → planned ≡ plannedOf (progressIn declared carried) op paired k → planned ≡ plannedAt path k
   walked-planned {op} {paired} e f g =
       g
       ∙ ap (λ (p : Progress). plannedOf p op paired k) (walked .carries)
       ∙ ap₂ (λ (op : Operator) (paired : Bool). plannedOf (before path k) op paired k) e f
 
   -- and its capacity is that of what is carried
-  pub walked-capacity : {op : Operator} {figure : Figure} → op ≡ operatorAt path k → Planned.Fits figure ≡ plannedAt path k → figure .capacity .0 ≡ capacity (progressIn carried) op
+  pub walked-capacity : {op : Operator} {figure : Figure} → op ≡ operatorAt path k → Planned.Fits figure ≡ plannedAt path k → figure .capacity .0 ≡ capacity (progressIn declared carried) op
   unfolding figureAt capacityAt
   walked-capacity e planned = ap (λ (f : Figure). f .capacity .0) (fits-figure path k planned) ∙ ap₂ capacity (sym (walked .carries)) (sym e)
 
@@ -205,12 +210,16 @@ module _ {path : Path} {k : ℕ} {carried : Carried} {figures : List Figure} {de
       ∙ ap (λ (t : Bool). pick t (figureAt path j) noFigure) (ltb-next j k (ltb j k) refl (eqb-false j k other))
 
   -- one operator on
-  pub walked-next : {figure : Figure} {next : Carried} {op : Operator} {later : Slots} → k < 16 → op ≡ operatorAt path k → Planned.Fits figure ≡ plannedAt path k → progressIn next ≡ behind (progressIn carried) op → later .0 ≡ delay .0 + figure .delay .0 → Walked path (k + 1) next (set figures k figure) later
+  pub walked-next : {figure : Figure} {next : Carried} {op : Operator} {later : Slots} → k < 16 → op ≡ operatorAt path k → Planned.Fits figure ≡ plannedAt path k
+      → progressIn declared next ≡ behind (progressIn declared carried) op → Lent (next .class .kind) declared bound → BurstKept (classIn declared (next .class)) (next .slowest)
+      → later .0 ≡ delay .0 + figure .delay .0 → Walked declared bound path (k + 1) next (set figures k figure) later
   unfolding figureAt
-  walked-next {figure} inside e planned f counted =
+  walked-next {figure} inside e planned f lent burst counted =
       let own = fits-figure path k planned in
       record {
         carries = f ∙ ap₂ behind (walked .carries) e ∙ sym (before-next path k);
+        lent = lent;
+        burst = burst;
         passed = passed-next path k (walked .passed) (fits-passed path k planned);
         long = length-set figures k figure ∙ walked .long;
         written = λ j h. figure-next own inside j h (eqb j k) refl;
@@ -218,7 +227,7 @@ module _ {path : Path} {k : ℕ} {carried : Carried} {figures : List Figure} {de
       }
 
 -- behind the last operator
-module _ {path : Path} {carried : Carried} {figures : List Figure} {delay : Slots} (walked : Walked path (length (path .operators)) carried figures delay) where
+module _ {declared : Declaration} {bound : List ℕ} {path : Path} {carried : Carried} {figures : List Figure} {delay : Slots} (walked : Walked declared bound path (length (path .operators)) carried figures delay) where
   pub walked-figures : figures ≡ listOf (figureIn path) 16
   unfolding figureUpTo figureIn
   walked-figures = listOf-ext noFigure (figureIn path) 16 figures (walked .long) (walked .written)
@@ -244,16 +253,6 @@ module _ {path : Path} {carried : Carried} {figures : List Figure} {delay : Slot
 abbrev acceptedPath : PathValue → List Figure → ℕ → PathFigures
 acceptedPath value figures delay = record { verdict = Verdict.Accepted; path = value; figures = figures; delay = record { 0 = delay } }
 
--- the figures of a path value: 6 to 9 of the path that it stands for
-unfoldable pub figuresOfValue : PathValue → PathFigures
-figuresOfValue value = firstOf (pathCases (inFull value)) refusedFigures (acceptedPath value (listOf (figureIn (inFull value)) 16) (pathDelay (inFull value)))
-
--- a path value of at most sixteen operators, its numbers in their ranges
-pub record PathWithin (value : PathValue) : Type 0 where
-  pub few : value .count ≤ 16
-  pub full : length (value .operators) ≡ 16
-  pub inside : pathInRange (inFull value) ≡ true
-
 -- the same of such a path value
 module _ {value : PathValue} (within : PathWithin value) where
   path-size : length (inFull value .operators) ≡ value .count
@@ -262,13 +261,13 @@ module _ {value : PathValue} (within : PathWithin value) where
   path-few : length (inFull value .operators) ≤ 16
   path-few = rw path-size (within .few)
 
-  module _ {k : ℕ} {carried : Carried} {figures : List Figure} {delay : Slots} (walked : Walked (inFull value) k carried figures delay) (here : k < value .count) where
+  module _ {bound : List ℕ} {k : ℕ} {carried : Carried} {figures : List Figure} {delay : Slots} (walked : Walked (value .declaration) bound (inFull value) k carried figures delay) (here : k < value .count) where
     before-end : k < length (inFull value .operators)
     before-end = rw path-size here
 
-    pub operator-ready : Within mostBefore (progressIn carried) × (numberInRange (getD (value .operators) k noLinkedOperator .operator) ≡ true)
+    pub operator-ready : Ready mostBefore (value .declaration) bound carried × (numberInRange (getD (value .operators) k noLinkedOperator .operator) ≡ true)
     operator-ready = (
-      rw (walked .carries) (before-operator (inFull value) path-few (within .inside) k before-end (walked .passed)),
+      record { within = rw (walked .carries) (before-operator (inFull value) path-few (within .inside) k before-end (walked .passed)); lent = walked .lent; burst = walked .burst },
       rw (← path-operator value k here) (number-inside (inFull value) path-few (within .inside) k before-end),
     )
 
@@ -305,8 +304,8 @@ module _ {value : PathValue} (within : PathWithin value) where
     unfolding figuresOfValue
     refused-path planned = refused-answer (inFull value) k refusedFigures _ (length (inFull value .operators)) _ before-end (walked .passed) planned
 
-  module _ {carried : Carried} {figures : List Figure} {delay : Slots} (walked : Walked (inFull value) (value .count) carried figures delay) where
-    walked-end : Walked (inFull value) (length (inFull value .operators)) carried figures delay
+  module _ {bound : List ℕ} {carried : Carried} {figures : List Figure} {delay : Slots} (walked : Walked (value .declaration) bound (inFull value) (value .count) carried figures delay) where
+    walked-end : Walked (value .declaration) bound (inFull value) (length (inFull value .operators)) carried figures delay
     walked-end = rw path-size walked
 
     pub late-path : value .wanted .0 < delay .0 → refusedFigures DelayAboveWanted ≡ figuresOfValue value
@@ -314,7 +313,7 @@ module _ {value : PathValue} (within : PathWithin value) where
     late-path late = late-answer walked-end refusedFigures _ late
 
     pub accepted-path : delay .0 ≤ value .wanted .0 → acceptedPath value figures (delay .0) ≡ figuresOfValue value
-    unfolding figuresOfValue inFull
+    unfolding figuresOfValue acceptedFigures inFull
     accepted-path soon =
         let answer = accepted-answer walked-end refusedFigures (acceptedPath value (listOf (figureIn (inFull value)) 16) (pathDelay (inFull value))) soon in
         ap₂ (acceptedPath value) (walked-figures walked-end) (walked-delay walked-end) ∙ answer

@@ -4,6 +4,8 @@ mod Steps
 mod Reached
 pub mod Promise
 mod Bounds
+mod ClassLaws
+pub mod RowsNeverTooLarge
 mod Tests
 mod EachOperator
 mod SheetAnswer

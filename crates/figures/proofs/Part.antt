@@ -1,52 +1,60 @@
 -- The filter part's figures hold of its flows: each law by whether a filter has come, from the operators' laws of the part.
-use mathlib.Core.Path.{refl}
+use mathlib.Core.Path.{_≡_, refl}
+use mathlib.Core.Bool.{true}
 use Prim.Native.Nat.{ℕ, _+_, _*_, _≤_, min}
-use native.Mathlib.Nat.{le-trans, le-of-lt, lt-of-not-le, min-le-left, min-eq-left, min-eq-right, mul-le-mul-left}
+use native.Mathlib.Nat.{le-refl, le-trans, le-of-lt, lt-of-not-le, min-eq-left, min-eq-right, mul-le-mul-left}
 use native.Mathlib.Decide.{decLe}
 use native.Mathlib.Omega.{arith}
 use Rattle.quantity.specs.Rounding.{roundUp}
 use Rattle.quantity.proofs.Rounding.{round-up-enough, round-up-least}
 use Rattle.flow.specs.Flows.{Flow, InTime, Behind}
 use Rattle.operator.specs.OnFlows.{heldOn, outputOn, Fitting}
-use Rattle.flow.specs.Classes.{Class, Keeps, burst}
+use Rattle.flow.specs.Classes.{Class, Positive, Keeps, carries, burstAt}
 use Rattle.operator.specs.FilterPart.{Slowest, unfiltered, filtered, slower, Served}
 use Rattle.operator.specs.Operators.{filter}
 use Rattle.operator.specs.declared.Operator.{Operator}
-use Rattle.flow.proofs.Laws.{window, envelope}
+use Rattle.flow.proofs.Laws.{window, envelope, burst-falls}
 use Rattle.operator.proofs.Laws.{filtered-in-time, unfiltered-in-time, filtered-held, unfiltered-held, filter-beside}
 use Rattle.figures.specs.Figures.{partCapacity, partDelay}
 
 -- the slowest filter carries the class, as refusal 8 asks of each
 abbrev pub Carries : Slowest → Class → Type 0
 Carries unfiltered c = Unit {0}
-Carries (filtered P) c = (1 ≤ P) × (c .quota ≤ c .interval * P)
+Carries (filtered P) c = (1 ≤ P) × (carries c P ≡ true)
 
-pub slower-carries : (P : Slowest) (R : ℕ) (c : Class) → Carries P c → 1 ≤ R → c .quota ≤ c .interval * R → Carries (slower P R) c
+pub slower-carries : (P : Slowest) (R : ℕ) (c : Class) → Carries P c → 1 ≤ R → carries c R ≡ true → Carries (slower P R) c
 unfolding slower
 slower-carries unfiltered R c carries large enough = (large, enough)
 slower-carries (filtered P) R c carries large enough =
     elim (decLe P R) [ yes less ↦ rw (min-eq-left less) carries | no more ↦ rw (min-eq-right (le-of-lt (lt-of-not-le more))) (large, enough) ]
 
--- ⌈x/y⌉ grows as y falls
-round-up-le-slower : (x y z : ℕ) → 1 ≤ y → y ≤ z → roundUp x z ≤ roundUp x y
-round-up-le-slower x y z large less = round-up-least x z (roundUp x y) (omega arith) (le-trans (round-up-enough x y large) (mul-le-mul-left (roundUp x y) less))
+-- ⌈x/y⌉ grows as y falls and x grows
+round-up-le-slower : (x x' y z : ℕ) → x' ≤ x → 1 ≤ y → y ≤ z → roundUp x' z ≤ roundUp x y
+round-up-le-slower x x' y z fewer large less =
+    round-up-least x' z (roundUp x y) (omega arith) (le-trans fewer (le-trans (round-up-enough x y large) (mul-le-mul-left (roundUp x y) less)))
 
--- so no operator of the part makes its delay less
-pub delay-le-slower : (c : Class) (e : ℕ) (P : Slowest) (R : ℕ) → Carries (slower P R) c → partDelay c e P ≤ partDelay c e (slower P R)
+-- so no operator of the part makes its delay less: where a filter is the slowest, its rate carries the class, and the burst does not fall as the rate falls
+pub delay-le-slower : (c : Class) (e : ℕ) (P : Slowest) (R : ℕ) → Positive c → 1 ≤ R → carries c R ≡ true → partDelay c e P ≤ partDelay c e (slower P R)
 unfolding partDelay slower
-delay-le-slower c e unfiltered R carries = omega arith
-delay-le-slower c e (filtered P) R carries = omega (arith, round-up-le-slower (burst c) _ P (carries .0) (min-le-left P R))
+delay-le-slower c e unfiltered R positive large enough = omega arith
+delay-le-slower c e (filtered P) R positive large enough =
+    elim (decLe P R) [
+      | yes less ↦ rw (min-eq-left less) (le-refl _)
+      | no more ↦
+          let less = le-of-lt (lt-of-not-le more) in
+          rw (min-eq-right less) (omega (arith, round-up-le-slower (burstAt c R) (burstAt c P) R P (burst-falls c R P positive less enough) large less))
+    ]
 
 pub delay-le-longer : (c : Class) (e d : ℕ) (P : Slowest) → partDelay c e P ≤ partDelay c (e + d) P
 unfolding partDelay
 delay-le-longer c e d unfiltered = omega arith
 delay-le-longer c e d (filtered P) = omega arith
 
-module _ (c : Class) (g : Flow) (large : 1 ≤ c .interval) (keeps : Keeps c g) where
+module _ (c : Class) (g : Flow) (large : Positive c) (keeps : Keeps c g) where
   pub part-in-time : (P : Slowest) (e : ℕ) (s : Flow) → Carries P c → Served P e g s → InTime (partDelay c e P) g s
   unfolding partDelay
   part-in-time unfiltered e s carries served = unfiltered-in-time e g s served
-  part-in-time (filtered P) e s carries served = filtered-in-time P e (burst c) g s (carries .0) (envelope c g P large (carries .1) keeps) served
+  part-in-time (filtered P) e s carries served = filtered-in-time P e (burstAt c P) g s (carries .0) (envelope c g P large (carries .1) keeps) served
 
   module _ (f choices : Flow) (entered : Behind g f) where
     pub part-held : (op : Operator) (P : Slowest) (e : ℕ) → Carries P c → Fitting op f choices → Served P e g (outputOn op f choices)
@@ -54,11 +62,11 @@ module _ (c : Class) (g : Flow) (large : 1 ≤ c .interval) (keeps : Keeps c g) 
     unfolding partCapacity
     part-held op unfiltered e carries fits served = unfiltered-held op e _ g f choices fits entered (λ a. window c g large keeps a e) served
     part-held op (filtered P) e carries fits served =
-        filtered-held op P e (burst c) g f choices fits entered (envelope c g P large (carries .1) keeps) served
+        filtered-held op P e (burstAt c P) g f choices fits entered (envelope c g P large (carries .1) keeps) served
 
     pub part-beside : (R : ℕ) (P : Slowest) (e : ℕ) → Carries (slower P R) c → Served P e g f
         → (n : ℕ) → heldOn (filter R) f choices n .h ≤ partCapacity c e (slower P R)
     unfolding partCapacity slower
-    part-beside R unfiltered e carries served = filter-beside R R e (burst c) unfiltered g f choices refl entered (envelope c g R large (carries .1) keeps) served
+    part-beside R unfiltered e carries served = filter-beside R R e (burstAt c R) unfiltered g f choices refl entered (envelope c g R large (carries .1) keeps) served
     part-beside R (filtered P) e carries served =
-        filter-beside R (min P R) e (burst c) (filtered P) g f choices refl entered (envelope c g (min P R) large (carries .1) keeps) served
+        filter-beside R (min P R) e (burstAt c (min P R)) (filtered P) g f choices refl entered (envelope c g (min P R) large (carries .1) keeps) served

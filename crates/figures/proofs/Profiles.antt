@@ -1,14 +1,14 @@
 -- Document 02, item 2: the figures of the paths that house profiles stand for. Hop by hop the progress before each operator is known, so its own delay and its tests of 6 to 8 are; by induction over the hops.
 use Prim.Native.Nat.{ℕ, zero, suc, _+_, _-_, _*_, _%_, _≤_, _<_}
 use mathlib.Core.Path.{_≡_, refl, sym, ap, _∙_}
-use mathlib.Core.Bool.{Bool, true, false}
+use mathlib.Core.Bool.{Bool, true, false, not}
 use mathlib.Core.Logic.{_⊎_, inl, inr, ⊎-elim}
 use native.Mathlib.Nat.{le-refl, le-of-lt, le-of-suc-le-suc, not-suc-le-zero, eq-or-lt-of-le, zero-mul, suc-mul, mul-le-mul, mul-le-mul-right, mul-add-mod-self-right, mul-mod-left, mod-eq-of-lt, div-eq-of-lt-le, div-self, min-eq-left}
 use native.Mathlib.Numerals.{add-one, add-two, add-three}
 use native.Mathlib.Omega.{arith}
 use lib.ListN.{length}
-use lib.Dec.{ltb, eqb}
-use borrow.Author.Tests.{ltb-false, lt-ltb, le-ltb, eq-eqb, ne-eqb}
+use lib.Dec.{leb, ltb, eqb}
+use borrow.Author.Tests.{leb-true, le-leb, not-false, lt-ltb, le-ltb, eq-eqb, ne-eqb}
 use Rattle.quantity.specs.Choice.{pick}
 use Rattle.quantity.specs.Limits.{largestAmount}
 use Rattle.quantity.specs.Rounding.{roundUp}
@@ -16,7 +16,7 @@ use Rattle.quantity.specs.Sums.{total}
 use Rattle.quantity.proofs.Laws.{either-none}
 use Rattle.quantity.proofs.Refusals.{NoneStands, none-of-both}
 use Rattle.quantity.proofs.Sums.{getD-listOf}
-use Rattle.flow.specs.Classes.{Class, smooth, uniform, burst, changedTo}
+use Rattle.flow.specs.Classes.{Class, smooth, uniform, changedQuota, carries, burstAt}
 use Rattle.operator.specs.FilterPart.{filtered, slower}
 use Rattle.flow.specs.Declarations.{classOf}
 use Rattle.operator.specs.Operators.{limiter, compactor, expander, filter, delayer}
@@ -28,7 +28,7 @@ use Rattle.sheet.specs.House.{delayerSlots, houseInRange, hopLength, hopOperato
 use Rattle.sheet.specs.Paths.{Path, noLinkedOperator}
 use Rattle.sheet.proofs.HouseLaws.{HouseWithin, house-within, which-profile, length-houseOperators, house-some}
 use Rattle.figures.specs.Progress.{Progress, start, behind, progressAt}
-use Rattle.figures.specs.Figures.{partCapacity, partDelay, capacity, ownDelay, pairs, isFramed, framedAfterFilter, largestChangedQuota, changedQuota, figureTooLarge, rateTooLow}
+use Rattle.figures.specs.Figures.{partCapacity, partDelay, capacity, ownDelay, pairs, isFramed, framedAfterFilter, largestChangedQuota, quotaBehind, figureTooLarge, rateTooLow}
 use Rattle.figures.specs.Answers.{operatorAt, before, pairedAt, delayAt, pathDelay, operatorCases, operatorsCases}
 use Rattle.figures.proofs.Reached.{none-at}
 use Rattle.figures.proofs.Tests.{neither}
@@ -46,14 +46,14 @@ record Makes (p : Progress) (op : Operator) (paired : Bool) (q : Progress) (dela
   next : behind p op ≡ q
   own : ownDelay p op paired ≡ delay
   placed : framedAfterFilter p op ≡ false
-  quota : changedQuota p op ≤ largestChangedQuota
+  quota : quotaBehind p op ≤ largestChangedQuota
   most : capacity p op ≤ largestAmount
   rated : rateTooLow p op ≡ low
 
 stands : {p q : Progress} {op : Operator} {paired low : Bool} {delay : ℕ} → Makes p op paired q delay low → Stands p op low
 unfolding figureTooLarge
 stands {p} {op = op} made =
-    let sized = either-none (ltb largestChangedQuota (changedQuota p op)) (ltb largestAmount (capacity p op)) (le-ltb _ _ (made .quota)) (le-ltb _ _ (made .most)) in
+    let sized = either-none (ltb largestChangedQuota (quotaBehind p op)) (ltb largestAmount (capacity p op)) (le-ltb _ _ (made .quota)) (le-ltb _ _ (made .most)) in
     record { placed = made .placed; sized = sized; rated = made .rated }
 
 -- ⌈k·y/y⌉ is k
@@ -63,29 +63,29 @@ round-up-multiple x k y large e = div-eq-of-lt-le y (omega arith) (omega arith)
 
 -- a change to the interval that a class has keeps its quota; uniform (1, R) carries m·R in m slots
 module _ (m Q : ℕ) (large : 1 ≤ m) where
-  smooth-same : changedTo m (smooth m Q) .quota ≡ Q
-  unfolding changedTo
+  smooth-same : changedQuota m (smooth m Q) ≡ Q
+  unfolding changedQuota
   smooth-same = rw (blocks-met-whole m m large large (1, omega arith), div-self large) (omega arith)
 
-  uniform-same : changedTo m (uniform m Q) .quota ≡ Q
-  unfolding changedTo
+  uniform-same : changedQuota m (uniform m Q) ≡ Q
+  unfolding changedQuota
   uniform-same = rw (round-up-multiple m 1 m large (omega arith)) (omega arith)
 
-uniform-one : (m R : ℕ) → changedTo m (uniform 1 R) .quota ≡ m * R
-unfolding changedTo
+uniform-one : (m R : ℕ) → changedQuota m (uniform 1 R) ≡ m * R
+unfolding changedQuota
 uniform-one m R = rw (round-up-multiple m m 1 (le-refl 1) (omega arith))
 
-makes-limiter : (m Q R : ℕ) (paired : Bool) → Q ≤ largestChangedQuota → Makes (start (smooth m Q)) (limiter R) paired (start (uniform 1 R)) (roundUp (2 * Q) R) (ltb (m * R) Q)
-unfolding behind ownDelay framedAfterFilter rateTooLow changedQuota capacity burst
+makes-limiter : (m Q R : ℕ) (paired : Bool) → Q ≤ largestChangedQuota → Makes (start (smooth m Q)) (limiter R) paired (start (uniform 1 R)) (roundUp (2 * Q) R) (not (leb Q (m * R)))
+unfolding behind ownDelay framedAfterFilter rateTooLow quotaBehind capacity carries burstAt
 makes-limiter m Q R paired small = record { next = refl; own = refl; placed = refl; quota = omega arith; most = omega arith; rated = refl }
 
-module _ (c : Class) (m q : ℕ) (paired : Bool) (change : changedTo m c .quota ≡ q) (small : q ≤ largestChangedQuota) where
+module _ (c : Class) (m q : ℕ) (paired : Bool) (change : changedQuota m c ≡ q) (small : q ≤ largestChangedQuota) where
   makes-compactor : Makes (start c) (compactor m) paired (start (uniform m q)) m false
-  unfolding behind ownDelay framedAfterFilter rateTooLow changedQuota capacity
+  unfolding behind ownDelay framedAfterFilter rateTooLow quotaBehind capacity
   makes-compactor = record { next = rw change; own = refl; placed = refl; quota = omega arith; most = omega arith; rated = refl }
 
   makes-expander : Makes (start c) (expander m) paired (start (smooth m q)) (pick paired 0 m) false
-  unfolding behind ownDelay framedAfterFilter rateTooLow changedQuota capacity
+  unfolding behind ownDelay framedAfterFilter rateTooLow quotaBehind capacity
   makes-expander = record { next = rw change; own = refl; placed = refl; quota = omega arith; most = omega arith; rated = refl }
 
 -- in the filter part, behind a filter R
@@ -93,22 +93,22 @@ abbrev inPart : ℕ → ℕ → ℕ → ℕ → Progress
 inPart m Q R e = record { class = smooth m Q; inFilterPart = true; e = e; slowest = filtered R }
 
 module _ (m Q R e : ℕ) (small : Q ≤ 65535) (slow : R ≤ 65535) (paired : Bool) where
-  burst-fits : (d : ℕ) → d ≤ 320 → burst (smooth m Q) + d * R ≤ largestAmount
-  unfolding burst
+  burst-fits : (d : ℕ) → d ≤ 320 → burstAt (smooth m Q) R + d * R ≤ largestAmount
+  unfolding burstAt
   burst-fits d short = omega (arith, mul-le-mul {n₁ = d} {m₁ = R} {n₂ = 320} {m₂ = 65535} short slow)
 
-  first-filter : e ≡ 0 → Makes (start (smooth m Q)) (filter R) paired (inPart m Q R e) (roundUp (2 * Q) R) (ltb (m * R) Q)
-  unfolding behind slower ownDelay partDelay framedAfterFilter isFramed rateTooLow changedQuota capacity partCapacity burst
+  first-filter : e ≡ 0 → Makes (start (smooth m Q)) (filter R) paired (inPart m Q R e) (roundUp (2 * Q) R) (not (leb Q (m * R)))
+  unfolding behind slower ownDelay partDelay framedAfterFilter isFramed rateTooLow quotaBehind capacity partCapacity carries burstAt
   first-filter none = record { next = rw none; own = omega arith; placed = refl; quota = omega arith; most = burst-fits 0 (omega arith); rated = refl }
 
-  later-filter : e ≤ 320 → Makes (inPart m Q R e) (filter R) paired (inPart m Q R e) 0 (ltb (m * R) Q)
-  unfolding behind slower ownDelay partDelay framedAfterFilter isFramed rateTooLow changedQuota capacity partCapacity
+  later-filter : e ≤ 320 → Makes (inPart m Q R e) (filter R) paired (inPart m Q R e) 0 (not (leb Q (m * R)))
+  unfolding behind slower ownDelay partDelay framedAfterFilter isFramed rateTooLow quotaBehind capacity partCapacity carries
   later-filter short =
       let same = min-eq-left (le-refl R) in
       record { next = rw same; own = rw same (omega arith); placed = refl; quota = omega arith; most = rw same (burst-fits e short); rated = refl }
 
   makes-delayer : (d : ℕ) → e + d ≤ 320 → Makes (inPart m Q R e) (delayer d) paired (inPart m Q R (e + d)) d false
-  unfolding behind ownDelay partDelay framedAfterFilter isFramed rateTooLow changedQuota capacity partCapacity
+  unfolding behind ownDelay partDelay framedAfterFilter isFramed rateTooLow quotaBehind capacity partCapacity
   makes-delayer d short = record { next = refl; own = omega arith; placed = refl; quota = omega arith; most = burst-fits (e + d) short; rated = refl }
 
 -- Along a path.
@@ -160,7 +160,7 @@ some-hop h within = omega arith
 
 -- Q is above m·R: the rate is too low for the declared class
 abbrev pub rateLow : House → Bool
-rateLow h = ltb (h .interval .0 * h .rate .0) (h .quota .0)
+rateLow h = not (leb (h .quota .0) (h .interval .0 * h .rate .0))
 
 -- Profile 0: a compactor and an expander of m.
 
@@ -201,7 +201,7 @@ module _ (h : House) (within : HouseWithin h) (first : h .profile ≡ 0) where
       (reached-next compacted (framed-at (suc (j * 2)) j 1 (omega arith) hop (omega arith)) (makes-expander (uniform m Q) m Q _ (uniform-same m Q large) small) refl sums)
 
   framed-hops : (j : ℕ) → j < h .hops .0 → Framed h (j * 2) (j * h .interval .0)
-  unfolding housePath
+  unfolding housePath classOf
   framed-hops zero hop = rw (zero-mul (h .interval .0)) (reached-start (housePath h) (λ i. false))
   framed-hops (suc j) hop = framed-hop j (le-of-lt hop) (framed-hops j (le-of-lt hop)) (rw (paired j hop) (omega arith))
 
@@ -247,7 +247,7 @@ module _ (h : House) (within : HouseWithin h) (second : h .profile ≡ 1) where
   later-passes k = rw (ne-eqb (suc k) 0 (λ e. omega arith))
 
   limited-hop : (j q : ℕ) {delay sum : ℕ} → j < h .hops .0 → Limited h (j * 3) q delay
-      → q ≤ largestChangedQuota → pick (eqb (j * 3) 0) (rateLow h) false ≡ ltb (h .interval .0 * h .rate .0) q
+      → q ≤ largestChangedQuota → pick (eqb (j * 3) 0) (rateLow h) false ≡ not (leb q (h .interval .0 * h .rate .0))
       → delay + roundUp (2 * q) (h .rate .0) + h .interval .0 + h .interval .0 ≡ sum → Limited h (suc j * 3) (h .interval .0 * h .rate .0) sum
   limited-hop j q hop reached small low sums =
       let m = h .interval .0 in
@@ -259,14 +259,14 @@ module _ (h : House) (within : HouseWithin h) (second : h .profile ≡ 1) where
       (reached-next compacted (limited-at (suc (suc (j * 3))) j 2 (omega arith) hop (omega arith)) (makes-expander (uniform m (m * R)) m (m * R) _ (uniform-same m (m * R) large) few) (later-passes (suc (j * 3))) (rw (never-paired j hop) sums))
 
   limited-hops : (j : ℕ) → j < h .hops .0 → Limited h (suc j * 3) (h .interval .0 * h .rate .0) (roundUp (2 * h .quota .0) (h .rate .0) + (4 * j + 2) * h .interval .0)
-  unfolding housePath
+  unfolding housePath classOf
   limited-hops zero hop = limited-hop 0 (h .quota .0) hop (reached-start (housePath h) _) (omega arith) refl (omega arith)
   limited-hops (suc j) hop =
       let m = h .interval .0 in
       let R = h .rate .0 in
       let large = within .rate (λ first. omega arith) .0 in
       limited-hop (suc j) (m * R) hop (limited-hops j (le-of-lt hop)) few
-      (rw (ne-eqb (suc j * 3) 0 (λ e. omega arith), le-ltb (m * R) (m * R) (le-refl (m * R))))
+      (rw (ne-eqb (suc j * 3) 0 (λ e. omega arith), le-leb (m * R) (m * R) (le-refl (m * R))))
       (rw (round-up-multiple (2 * (m * R)) (2 * m) R large (omega arith)) (omega arith))
 
   limited-path : Limited h (h .hops .0 * 3) (h .interval .0 * h .rate .0) (roundUp (2 * h .quota .0) (h .rate .0) + (4 * h .hops .0 - 2) * h .interval .0)
@@ -312,7 +312,7 @@ module _ (h : House) (within : HouseWithin h) (third : h .profile ≡ 2) where
 
   filtered-hops : (j : ℕ) → j < h .hops .0
       → Filtered h (suc j * 2) (inPart (h .interval .0) (h .quota .0) (h .rate .0) (suc j * delayerSlots h)) (roundUp (2 * h .quota .0) (h .rate .0) + suc j * delayerSlots h)
-  unfolding housePath
+  unfolding housePath classOf
   filtered-hops zero hop =
       filtered-hop 0 hop (reached-start (housePath h) _)
       (first-filter (h .interval .0) (h .quota .0) (h .rate .0) (0 * delayerSlots h) (within .quota .1) slow _ (zero-mul (delayerSlots h)))
@@ -370,7 +370,7 @@ module _ (h : House) (inside : houseInRange h ≡ true) where
   pub profile-passes : (h .profile ≡ 0) ⊎ (h .quota .0 ≤ h .interval .0 * h .rate .0) → NoneStands (operatorsCases (housePath h) (length (housePath h .operators)))
   profile-passes (inl first) = passes (profile-0-refusals first) (λ k. refl)
   profile-passes (inr enough) =
-      let rated = le-ltb (h .interval .0 * h .rate .0) (h .quota .0) enough in
+      let rated = ap not (le-leb (h .quota .0) (h .interval .0 * h .rate .0) enough) in
       ⊎-elim (λ first. passes (profile-0-refusals first) (λ k. refl))
       (⊎-elim (λ second. passes (profile-1-refusals second) (λ k. neither (eqb k 0) rated)) (λ third. passes (profile-2-refusals third) (λ k. neither (eqb (k % 2) 0) rated)))
       (which-profile h (within .profile))
@@ -379,7 +379,7 @@ module _ (h : House) (inside : houseInRange h ≡ true) where
   passing-profile none =
       let some = house-some h inside in
       let rated = none-at (housePath h) (length (housePath h .operators)) none 0 some .1 .1 .0 in
-      let enough : rateTooLow (before (housePath h) 0) (operatorAt (housePath h) 0) ≡ rateLow h → h .quota .0 ≤ h .interval .0 * h .rate .0 = λ e. ltb-false _ _ (sym e ∙ rated) in
+      let enough : rateTooLow (before (housePath h) 0) (operatorAt (housePath h) 0) ≡ rateLow h → h .quota .0 ≤ h .interval .0 * h .rate .0 = λ e. leb-true _ _ (not-false _ (sym e ∙ rated)) in
       ⊎-elim inl
       (⊎-elim (λ second. inr (enough (profile-1-refusals second 0 some .rated))) (λ third. inr (enough (profile-2-refusals third 0 some .rated))))
       (which-profile h (within .profile))

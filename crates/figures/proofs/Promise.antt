@@ -13,7 +13,7 @@ use Rattle.quantity.specs.declared.refusal.Refusal.{Refusal}
 use Rattle.quantity.proofs.Laws.{either-false}
 use Rattle.quantity.proofs.Refusals.{NoneStands, none-of-each, none-where-result, firstOf-none}
 use Rattle.flow.specs.Flows.{Flow}
-use Rattle.flow.specs.Classes.{Keeps}
+use Rattle.flow.specs.Classes.{Positive, Keeps}
 use Rattle.flow.specs.Declarations.{classOf}
 use Rattle.operator.specs.Operators.{numberInRange}
 use Rattle.sheet.specs.declared.read.Verdict.{Verdict}
@@ -23,9 +23,10 @@ use Rattle.sheet.specs.Sheets.{sheetCases, valueIn, pathIn, pathInRange}
 use Rattle.sheet.proofs.Accepted.{sheet-path, never-accepted}
 use Rattle.figures.specs.declared.PathFigures.{PathFigures}
 use Rattle.figures.specs.Answers.{operatorAt, before, capacityAt, pathDelay, operatorsCases, pathCases, figureIn, figuresOf}
-use Rattle.figures.specs.Figures.{capacity, changedQuota, largestChangedQuota, figureTooLarge}
+use Rattle.figures.specs.Figures.{capacity, quotaBehind, largestChangedQuota, figureTooLarge}
 use Rattle.figures.specs.Along.{AllFit, Promised}
-use Rattle.figures.proofs.Reached.{none-at, large-interval, reached-end, reached, passed-at, stepped}
+use Rattle.figures.proofs.Reached.{none-at, reached-end, reached, passed-at, stepped}
+use Rattle.figures.proofs.Reached as Reached
 
 -- a path of numbers in their ranges that refusals 6 to 9 let pass
 pub promised : (path : Path) → pathInRange path ≡ true → NoneStands (pathCases path)
@@ -70,9 +71,9 @@ pub accepted-figures : (sheet : List ℕ) → figuresOf sheet .verdict ≡ Verdi
     → (figuresOf sheet .path ≡ valueIn sheet) × (figuresOf sheet .delay .0 ≡ pathDelay (pathIn sheet)) × (figuresOf sheet .figures ≡ listOf (figureIn (pathIn sheet)) 16)
 accepted-figures sheet accepted = rw (accepted-answer sheet accepted) (refl, refl, refl)
 
--- a declaration in range counts over at least one slot
-pub interval-large : (path : Path) → pathInRange path ≡ true → 1 ≤ path .declaration .interval .0
-interval-large = large-interval
+-- a declaration in range has rows, and counts over at least one slot in each
+pub declared-positive : (path : Path) → pathInRange path ≡ true → Positive (classOf (path .declaration))
+declared-positive = Reached.declared-positive
 
 -- a path of numbers in their ranges that refusals 6 to 9 let pass: each operator's number is in its range, and its capacity at most the largest amount
 module _ (path : Path) (inside : pathInRange path ≡ true) (none : NoneStands (pathCases path)) (k : ℕ) (less : k < length (path .operators)) where
@@ -85,7 +86,7 @@ module _ (path : Path) (inside : pathInRange path ≡ true) (none : NoneStands (
       let (operators, wanted) = none-of-each (operatorsCases path (length (path .operators))) _ none in
       let stands = none-at path (length (path .operators)) operators k less in
       ltb-false largestAmount (capacity (before path k) (operatorAt path k))
-      (either-false (ltb largestChangedQuota (changedQuota (before path k) (operatorAt path k))) (ltb largestAmount (capacity (before path k) (operatorAt path k))) (stands .1 .0) .1)
+      (either-false (ltb largestChangedQuota (quotaBehind (before path k) (operatorAt path k))) (ltb largestAmount (capacity (before path k) (operatorAt path k))) (stands .1 .0) .1)
 
 -- no refusal stands against an accepted sheet's fields, nor against its path
 pub accepted-none : (sheet : List ℕ) → figuresOf sheet .verdict ≡ Verdict.Accepted → NoneStands (sheetCases sheet) × NoneStands (pathCases (pathIn sheet))

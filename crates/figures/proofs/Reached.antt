@@ -9,13 +9,14 @@ use native.Mathlib.Numerals.{add-one}
 use lib.ListN.{length, getD, List·getD-eq-default}
 use lib.Dec.{ltb}
 use Rattle.quantity.specs.Choice.{pick}
-use Rattle.quantity.specs.Ranges.{inRange, intervalRange, quotaRange, linkRange}
+use Rattle.quantity.specs.Ranges.{inRange, linkRange}
 use Rattle.quantity.specs.Sums.{total}
 use Rattle.quantity.proofs.Refusals.{NoneStands, none-of-each}
 use Rattle.quantity.proofs.Sums.{both-true}
 use Rattle.flow.specs.Flows.{Flow, InTime}
-use Rattle.flow.specs.Classes.{Keeps}
-use Rattle.flow.specs.Declarations.{declarationInRange, classOf}
+use Rattle.flow.specs.Classes.{Positive, Keeps}
+use Rattle.flow.specs.Declarations.{classOf}
+use Rattle.flow.proofs.Declarations.{class-positive}
 use Rattle.operator.specs.Operators.{numberInRange, expander}
 use Rattle.flow.proofs.Laws.{in-time-add}
 use Rattle.sheet.specs.declared.LinkedOperator.{LinkedOperator}
@@ -28,7 +29,7 @@ use Rattle.sheet.proofs.InRange.{operators-at, declaration-of-path, operators-o
 use Rattle.figures.specs.Answers.{operatorAt, before, pairedAt, delayAt, pathDelay, operatorCases, operatorsCases, pathCases}
 use Rattle.figures.specs.Along.{flowInto, flowOfClass, AllFit}
 use Rattle.figures.proofs.Part.{part-in-time}
-use Rattle.figures.proofs.Steps.{Known, Timed, Passed, Step, known-start, timed-start, timed-counted, above-least, step}
+use Rattle.figures.proofs.Steps.{Known, Timed, Passed, Step, known-start, timed-start, timed-counted, step}
 
 -- each operator's number is in its range
 number-in-range : (operators : List LinkedOperator) → operatorsInRange operators ≡ true → (k : ℕ) → k < length operators → numberInRange (getD operators k noLinkedOperator .operator) ≡ true
@@ -66,7 +67,7 @@ module _ (path : Path) (r : Flow) (choices : ℕ → Flow) where
     pub known : Known (before path k) (classed k) (into k)
     pub timed : Timed r (before path k) (operatorAt path k) (classed k) (into k) (total (delayAt path) k)
 
-  reached-start : 1 ≤ path .declaration .interval .0 → Keeps (classOf (path .declaration)) r → Reached zero
+  reached-start : Positive (classOf (path .declaration)) → Keeps (classOf (path .declaration)) r → Reached zero
   unfolding before progressAt flowInto flowOfClass total
   reached-start large kept =
       record { known = known-start (classOf (path .declaration)) r large kept; timed = timed-start r (classOf (path .declaration)) (operatorAt path 0) r 0 (λ n. rw add-zero (le-refl _)) }
@@ -92,12 +93,9 @@ module _ (path : Path) (r : Flow) (choices : ℕ → Flow) where
       let (E, sum, late) = timed-counted r p _ g f (total (delayAt path) (length (path .operators))) (λ n. ap (pairs (expander n)) ended) (here .timed) in
       rw (← sum) (in-time-add E (delayOfPart p) r g f late (part-in-time (p .class) g (known .large) (known .kept) (p .slowest) (p .e) f (known .carries) (known .served)))
 
--- a declaration in range counts over at least one slot
-pub large-interval : (path : Path) → pathInRange path ≡ true → 1 ≤ path .declaration .interval .0
-unfolding declarationInRange
-large-interval path inside =
-    above-least intervalRange (path .declaration .interval .0)
-    (both-true (inRange intervalRange (path .declaration .interval .0)) (inRange quotaRange (path .declaration .quota .0)) (declaration-of-path path inside) .0)
+-- a declaration in range has rows, and counts over at least one slot in each
+pub declared-positive : (path : Path) → pathInRange path ≡ true → Positive (classOf (path .declaration))
+declared-positive path inside = class-positive (path .declaration) (declaration-of-path path inside)
 
 module _ (path : Path) (inside : pathInRange path ≡ true) (none : NoneStands (pathCases path)) where
   pub passed-at : (k : ℕ) → k < length (path .operators) → Passed (before path k) (operatorAt path k)
@@ -112,7 +110,7 @@ module _ (path : Path) (inside : pathInRange path ≡ true) (none : NoneStands (
     step-at k less here = step (before path k) _ _ (choices k) (here .known) (operatorAt path k) (passed-at k less) (fits k less)
 
     pub reached : (k : ℕ) → k ≤ length (path .operators) → Reached path r choices k
-    reached zero h = reached-start path r choices (large-interval path inside) kept
+    reached zero h = reached-start path r choices (declared-positive path inside) kept
     reached (suc k) h = let here = reached k (le-of-lt h) in reached-next path r choices k here (step-at k h here)
 
     pub stepped : (k : ℕ) → k < length (path .operators) → Step (before path k) (operatorAt path k) (classed path r choices k) (into path r choices k) (choices k)

@@ -2,7 +2,7 @@
 use mathlib.Core.Path.{_≡_, refl}
 use mathlib.Core.List.{List, [], _∷_, map}
 use Prim.Native.Nat.{ℕ}
-use lib.ListN.{length, replicate}
+use lib.ListN.{length, getD, replicate}
 use Rattle.quantity.specs.Ranges.{inRange}
 use Rattle.quantity.specs.Rounding.{roundUp}
 use Rattle.quantity.specs.Divisors.{euclid, gcd}
@@ -15,7 +15,10 @@ use Rattle.operator.specs.Delayer.{ofAge, olderThan, staysOf, delayerLeast, del
 use Rattle.operator.specs.Operators.{leastOutput, greatestOutput, heldAfter, numberInRange, limiter, compactor, expander, filter, delayer}
 use Rattle.flow.specs.Flows.{flowOf}
 use Rattle.operator.specs.OnFlows.{outputOn, heldOn, none}
-use Rattle.flow.specs.Classes.{burst, mostIn, blocksMet, changedTo}
+use Rattle.flow.specs.Rows.{smaller, withUnits, leastOf, noRows, behindRows, mostOfRows, unitsIn, rowsMost, rowCarried, rowsCarried, reach, greatestOf, rowsBurst}
+use Rattle.flow.specs.Classes.{mostIn, blocksMet, changedQuota, carries, burstAt}
+use Rattle.flow.specs.Declarations.{emptyRow, ofOneRow, ofSeveral, classOf}
+use Rattle.flow.specs.declared.DeclaredRow.{DeclaredRow}
 use Rattle.operator.specs.FilterPart.{slower}
 use Rattle.words.specs.Stored.{storedFits, wordFits}
 use Rattle.operator.specs.Single
@@ -24,20 +27,39 @@ use Rattle.operator.specs.declared.Operator.{Operator}
 use Rattle.operator.specs.declared.single.Stepped.{Stepped}
 use Rattle.sheet.specs.Paths.{Path}
 use Rattle.figures.specs.Progress.{behind, progressAt}
-use Rattle.figures.specs.Figures.{partCapacity, partDelay, capacity, ownDelay, pairs, isFramed, framedAfterFilter, changedQuota, figureTooLarge, rateTooLow}
+use Rattle.figures.specs.Figures.{partCapacity, partDelay, capacity, ownDelay, pairs, isFramed, framedAfterFilter, quotaBehind, figureTooLarge, rateTooLow}
 use Rattle.figures.specs.Answers.{operatorAt, before, pairedAt, capacityAt, delayAt, pathDelay, operatorsCases, pathCases}
 
 -- a path of a kind's (m, Q), its delay wanted and its operators, all on link 0
 abbrev pub pathOf : Kind → ℕ → ℕ → ℕ → List Operator → Path
 pathOf kind m Q wanted operators =
     record {
-      declaration = record { kind = kind; interval = record { 0 = m }; quota = record { 0 = Q } };
+      declaration = ofOneRow kind m Q;
       wanted = wanted;
       operators = map (λ operator. record { operator = operator; link = record { 0 = 0 } }) operators;
     }
 
 abbrev pub path : ℕ → ℕ → ℕ → List Operator → Path
 path = pathOf Kind.Smooth
+
+-- a row, and a path of rows
+abbrev pub row : ℕ → ℕ → DeclaredRow
+row m Q = record { interval = record { 0 = m }; quota = record { 0 = Q } }
+
+abbrev pub rowsPath : List DeclaredRow → ℕ → List Operator → Path
+rowsPath rows wanted operators =
+    record {
+      declaration = ofSeveral (length rows) (λ i. getD rows i emptyRow);
+      wanted = wanted;
+      operators = map (λ operator. record { operator = operator; link = record { 0 = 0 } }) operators;
+    }
+
+-- document 02, item 6: the camera of its example, and two rows of which either can be the one that suffices
+unfoldable pub camera : List DeclaredRow
+camera = row 1 9 ∷ row 3 15 ∷ row 12 48 ∷ []
+
+pub twoRows : List DeclaredRow
+twoRows = row 2 10 ∷ row 5 12 ∷ []
 
 -- what a row of the table says: a refusal's number and place; the capacities and the delays, and the sums of both; or a unit's output
 pub data Outcome : Type 0 where
@@ -80,6 +102,16 @@ computed =
     ∷ outcome (pathOf Kind.Uniform 10 30 30 (delayer 7 ∷ delayer 5 ∷ []))
     ∷ outcome (path 10 30 30 (delayer 7 ∷ delayer 5 ∷ []))
     ∷ outcome (pathOf Kind.Uniform 10 30 30 (delayer 7 ∷ filter 4 ∷ delayer 5 ∷ filter 3 ∷ []))
+    ∷ outcome (rowsPath camera 30 (limiter 4 ∷ []))
+    ∷ outcome (rowsPath camera 30 (limiter 3 ∷ []))
+    ∷ outcome (rowsPath camera 30 (limiter 9 ∷ []))
+    ∷ outcome (rowsPath camera 30 (limiter 5 ∷ compactor 10 ∷ []))
+    ∷ outcome (rowsPath camera 30 (compactor 8 ∷ expander 4 ∷ []))
+    ∷ outcome (rowsPath camera 30 (expander 8 ∷ compactor 8 ∷ []))
+    ∷ outcome (rowsPath camera 30 (delayer 7 ∷ filter 6 ∷ delayer 5 ∷ filter 4 ∷ []))
+    ∷ outcome (rowsPath twoRows 30 (limiter 5 ∷ []))
+    ∷ outcome (rowsPath twoRows 30 (limiter 3 ∷ []))
+    ∷ outcome (rowsPath twoRows 30 (limiter 2 ∷ []))
     ∷ []
 
 pub expected : List Outcome
@@ -100,8 +132,18 @@ expected =
     ∷ figures (30 ∷ 60 ∷ []) (7 ∷ 5 ∷ []) 90 12
     ∷ figures (60 ∷ 90 ∷ []) (7 ∷ 5 ∷ []) 150 12
     ∷ figures (30 ∷ 58 ∷ 78 ∷ 66 ∷ []) (7 ∷ 8 ∷ 5 ∷ 2 ∷ []) 232 22
+    ∷ figures (13 ∷ []) (4 ∷ []) 13 4
+    ∷ refused 8 0
+    ∷ figures (0 ∷ []) (0 ∷ []) 0 0
+    ∷ figures (5 ∷ 50 ∷ []) (1 ∷ 10 ∷ []) 55 11
+    ∷ figures (45 ∷ 45 ∷ []) (8 ∷ 4 ∷ []) 90 12
+    ∷ figures (45 ∷ 45 ∷ []) (0 ∷ 8 ∷ []) 90 8
+    ∷ figures (39 ∷ 45 ∷ 75 ∷ 61 ∷ []) (7 ∷ 1 ∷ 5 ∷ 3 ∷ []) 220 16
+    ∷ figures (5 ∷ []) (1 ∷ []) 5 1
+    ∷ figures (7 ∷ []) (3 ∷ []) 7 3
+    ∷ refused 8 0
     ∷ []
 
 pub reference-paths : computed ≡ expected
-unfolding computed expected frames roundUp total every listOf inRange keeps compactorLeast compactorAfter besideAfter filterLeast filterGreatest filterAfter ofAge olderThan staysOf delayerLeast delayerAfter leastOutput greatestOutput heldAfter numberInRange outputOn heldOn burst mostIn euclid gcd blocksMet changedTo slower Single.stepOf Single.sent Single.holdsNext Single.choiceAbove Single.leavesTooMuch Single.stateNext Single.holds Single.usesHeld Single.usesBeside Single.wordsUsed storedFits wordFits Single.storedUnusable Single.unusable behind progressAt partCapacity partDelay capacity ownDelay pairs isFramed framedAfterFilter changedQuota figureTooLarge rateTooLow operatorAt before pairedAt capacityAt delayAt pathDelay operatorsCases
+unfolding computed expected frames camera twoRows smaller withUnits leastOf noRows behindRows mostOfRows unitsIn rowsMost rowCarried rowsCarried reach greatestOf rowsBurst classOf carries burstAt changedQuota roundUp total every listOf inRange keeps compactorLeast compactorAfter besideAfter filterLeast filterGreatest filterAfter ofAge olderThan staysOf delayerLeast delayerAfter leastOutput greatestOutput heldAfter numberInRange outputOn heldOn mostIn euclid gcd blocksMet slower Single.stepOf Single.sent Single.holdsNext Single.choiceAbove Single.leavesTooMuch Single.stateNext Single.holds Single.usesHeld Single.usesBeside Single.wordsUsed storedFits wordFits Single.storedUnusable Single.unusable behind progressAt partCapacity partDelay capacity ownDelay pairs isFramed framedAfterFilter quotaBehind figureTooLarge rateTooLow operatorAt before pairedAt capacityAt delayAt pathDelay operatorsCases
 reference-paths = refl

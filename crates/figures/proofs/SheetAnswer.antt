@@ -1,14 +1,22 @@
 -- The figures of a sheet from what reading it answered: a refusal of the reader is theirs, and an accepted sheet's path has its numbers in their ranges.
 use Prim.Native.Nat.{ℕ}
-use mathlib.Core.Path.{_≡_, sym, ap, subst, subst⁻¹, _∙_}
-use mathlib.Core.List.{List, _++_}
+use mathlib.Core.Path.{_≡_, refl, sym, ap, subst, subst⁻¹, _∙_}
+use mathlib.Core.Bool.{Bool, true, false, true≢false}
+use mathlib.Core.List.{List, [], _∷_, _++_}
 use native.Mathlib.Omega.{arith}
 use lib.ListN.{length, replicate, length-append, length-replicate}
 use lib.Seq.{length-take-le}
 use Rattle.quantity.specs.Sums.{listOf}
-use Rattle.quantity.specs.Refusals.{firstOf}
+use Rattle.quantity.specs.Choice.{pick}
+use Rattle.quantity.specs.Refusals.{Case, firstOf}
 use Rattle.quantity.specs.declared.refusal.Refusal.{Refusal}
 use Rattle.quantity.proofs.Refusals.{NoneStands, firstOf-none, firstOf-append, firstOf-map, none-where-result}
+use borrow.Author.Tests.{eq-eqb}
+use Rattle.flow.specs.Declarations.{hasRows, declarationInRange}
+use Rattle.flow.specs.Bounds.{boundLength, boundable, boundFilled}
+use Rattle.flow.specs.declared.Kind.{Kind}
+use Rattle.flow.proofs.Declarations.{kind-of-rows}
+use Rattle.flow.specs.declared.Declaration.{Declaration}
 use Rattle.sheet.specs.Paths.{Path, noLinkedOperator}
 use Rattle.sheet.specs.Forms.{inFull, valueOfPath, noPath}
 use Rattle.sheet.specs.Sheets.{sheetCases, valueIn, pathIn, readSheet}
@@ -17,25 +25,35 @@ use Rattle.sheet.specs.declared.PathValue.{PathValue}
 use Rattle.sheet.specs.declared.read.Verdict.{Verdict}
 use Rattle.sheet.specs.declared.read.ReadSheet.{ReadSheet}
 use Rattle.sheet.proofs.Accepted.{sheet-path, sheet-full}
+use Rattle.sheet.proofs.InRange.{declaration-of-path}
 use Rattle.figures.specs.declared.PathFigures.{PathFigures}
 use Rattle.figures.specs.Answers.{pathCases, figureIn, noFigure, pathDelay, refusedFigures, acceptedFigures, figuresOf}
-use Rattle.figures.proofs.EachOperator.{PathWithin, figuresOfValue}
+use Rattle.figures.specs.Carried.{Lent, Readable, PathWithin, figuresOfValue, figuresOfRead}
 
 -- the figures of a path: 6 to 9
 figuresOfPath : PathValue → Path → PathFigures
 figuresOfPath value path = firstOf (pathCases path) refusedFigures (acceptedFigures value path)
 
--- what the answer starts as: the verdict and the path that were read, and no figure
-abbrev pub unplanned : ReadSheet → PathFigures
-unplanned read = record { verdict = read .verdict; path = read .path; figures = replicate 16 noFigure; delay = record { 0 = 0 } }
-
-abbrev answerTo : PathFigures → PathFigures → Verdict → PathFigures
-answerTo accepted refused Verdict.Accepted = accepted
-answerTo accepted refused (Verdict.Refused why) = refused
+abbrev answerTo : PathFigures → Verdict → PathFigures
+answerTo accepted Verdict.Accepted = accepted
+answerTo accepted (Verdict.Refused why) = refusedFigures why
 
 abbrev IsAccepted : Verdict → Type 0
 IsAccepted Verdict.Accepted = Unit {0}
 IsAccepted (Verdict.Refused why) = ⊥
+
+abbrev IsRefused : Verdict → Type 0
+IsRefused Verdict.Accepted = ⊥
+IsRefused (Verdict.Refused why) = Unit {0}
+
+-- what holds of each answer holds of the one that is given
+firstOf-all : {A : Type 0} (P : A → Type 0) (refused : Refusal → A) (result : A) → ((why : Refusal) → P (refused why)) → P result → (cs : List Case) → P (firstOf cs refused result)
+firstOf-all P refused result each last [] = last
+firstOf-all P refused result each last (c ∷ cs) = by-test (c .stands) (firstOf-all P refused result each last cs)
+  where
+    by-test : (t : Bool) → P (firstOf cs refused result) → P (pick t (refused (c .refusal)) (firstOf cs refused result))
+    by-test true rest = each (c .refusal)
+    by-test false rest = rest
 
 -- the value of a path has sixteen places
 value-operators : (form : Form) (path : Path) → length (valueOfPath form path .operators) ≡ 16
@@ -43,16 +61,22 @@ unfolding valueOfPath
 value-operators form path = length-take-le 16 (path .operators ++ replicate 16 noLinkedOperator) (simp (length-append, length-replicate) (omega arith))
 
 module _ {read : ReadSheet} (sheet : List ℕ) (answered : read ≡ readSheet sheet) where
-  answer-figures : answerTo (figuresOfPath (valueIn sheet) (pathIn sheet)) (unplanned read) (read .verdict) ≡ figuresOf sheet
+  answer-figures : answerTo (figuresOfPath (valueIn sheet) (pathIn sheet)) (read .verdict) ≡ figuresOf sheet
   unfolding figuresOfPath readSheet figuresOf
   answer-figures =
-      let answer : ReadSheet → PathFigures = λ r. answerTo (figuresOfPath (valueIn sheet) (pathIn sheet)) (unplanned r) (r .verdict) in
+      let answer : ReadSheet → PathFigures = λ r. answerTo (figuresOfPath (valueIn sheet) (pathIn sheet)) (r .verdict) in
       ap answer answered
       ∙ firstOf-map answer (λ why. record { verdict = Verdict.Refused why; path = noPath }) (record { verdict = Verdict.Accepted; path = valueIn sheet }) (sheetCases sheet)
       ∙ sym (firstOf-append refusedFigures (acceptedFigures (valueIn sheet) (pathIn sheet)) (sheetCases sheet) (pathCases (pathIn sheet)))
 
-  pub refused-figures : {why : Refusal} → read .verdict ≡ Verdict.Refused why → unplanned read ≡ figuresOf sheet
-  refused-figures verdict = sym (ap (answerTo (figuresOfPath (valueIn sheet) (pathIn sheet)) (unplanned read)) verdict) ∙ answer-figures
+  -- beside a refusal the empty path is handed back
+  refused-path : {why : Refusal} → read .verdict ≡ Verdict.Refused why → read .path ≡ noPath
+  unfolding readSheet
+  refused-path {why} verdict =
+      let kept : ReadSheet → Type 0 = λ r. IsRefused (r .verdict) → r .path ≡ noPath in
+      subst kept (sym answered)
+      (firstOf-all kept (λ why. record { verdict = Verdict.Refused why; path = noPath }) (record { verdict = Verdict.Accepted; path = valueIn sheet }) (λ why h. refl) (λ h. absurd h) (sheetCases sheet))
+      (subst⁻¹ IsRefused verdict tt)
 
   module _ (accepted : read .verdict ≡ Verdict.Accepted) where
     sheet-stands : NoneStands (sheetCases sheet)
@@ -72,12 +96,17 @@ module _ {read : ReadSheet} (sheet : List ℕ) (answered : read ≡ readSheet sh
     unfolding valueOfPath
     value-within =
         let path = sheet-path sheet sheet-stands in
-        record { few = path .few; full = value-operators (valueIn sheet .form) (pathIn sheet); inside = rw (← path .value, sheet-full sheet sheet-stands) (path .inside) }
+        record {
+          few = path .few;
+          full = value-operators (valueIn sheet .form) (pathIn sheet);
+          inside = rw (← path .value, sheet-full sheet sheet-stands) (path .inside);
+          clear = path .clear;
+        }
 
-    pub path-within : PathWithin (read .path)
+    path-within : PathWithin (read .path)
     path-within = rw (value-read, sheet-path sheet sheet-stands .value) value-within
 
-    pub accepted-figures : figuresOfValue (read .path) ≡ figuresOf sheet
+    accepted-figures : figuresOfValue (read .path) ≡ figuresOf sheet
     unfolding figuresOfValue figuresOfPath acceptedFigures
     accepted-figures =
         ap figuresOfValue value-read
@@ -86,5 +115,37 @@ module _ {read : ReadSheet} (sheet : List ℕ) (answered : read ≡ readSheet sh
         firstOf (pathCases path) refusedFigures
         (record { verdict = Verdict.Accepted; path = valueIn sheet; figures = listOf (figureIn path) 16; delay = record { 0 = pathDelay path } }))
         (sheet-full sheet sheet-stands)
-        ∙ sym (ap (answerTo (figuresOfPath (valueIn sheet) (pathIn sheet)) (unplanned read)) accepted)
+        ∙ sym (ap (answerTo (figuresOfPath (valueIn sheet) (pathIn sheet))) accepted)
         ∙ answer-figures
+
+  -- what was read, with the table of its bound
+  pub readable : (bound : List ℕ) → (declarationInRange (read .path .declaration) ≡ true → Lent (read .path .declaration .kind) (read .path .declaration) bound) → Readable (read .verdict) (read .path) bound
+  unfolding inFull
+  readable bound lent = by-verdict (read .verdict) refl
+    where
+      by-verdict : (verdict : Verdict) → read .verdict ≡ verdict → Readable verdict (read .path) bound
+      by-verdict Verdict.Accepted e =
+          let within = path-within e in
+          (within, lent (subst (λ (d : Declaration). declarationInRange d ≡ true) (within .clear) (declaration-of-path (inFull (read .path)) (within .inside))))
+      by-verdict (Verdict.Refused why) e = refused-path e
+
+  pub figures-answered : figuresOfRead (read .verdict) (read .path) ≡ figuresOf sheet
+  unfolding figuresOfRead
+  figures-answered = by-verdict (read .verdict) refl
+    where
+      by-verdict : (verdict : Verdict) → read .verdict ≡ verdict → figuresOfRead verdict (read .path) ≡ figuresOf sheet
+      by-verdict Verdict.Accepted e = accepted-figures e
+      by-verdict (Verdict.Refused why) e = sym (ap (answerTo (figuresOfPath (valueIn sheet) (pathIn sheet))) e) ∙ answer-figures
+
+-- the table that is filled is the bound of the declaration's rows; of one row none is read
+pub filled-bound : (declared : Declaration) (lent : List ℕ) → length lent ≡ boundLength → hasRows (declared .kind) ≡ true → {after : List ℕ} → after ≡ boundFilled declared lent
+    → declarationInRange declared ≡ true → Lent (declared .kind) declared after
+unfolding boundFilled boundable
+filled-bound declared lent sized several {after} filled inside =
+    let rows = kind-of-rows (declared .kind) several in
+    subst (λ (kind : Kind). Lent kind declared after) (sym rows) (filled ∙ rw (eq-eqb (length lent) boundLength sized, several, inside))
+
+pub unread-bound : (kind : Kind) (declared : Declaration) (bound : List ℕ) → hasRows kind ≡ false → Lent kind declared bound
+unread-bound Kind.Smooth declared bound one = tt
+unread-bound Kind.Uniform declared bound one = tt
+unread-bound Kind.Rows declared bound one = absurd (true≢false one)

@@ -5,7 +5,7 @@ use Prim.Native.Nat.{ℕ, _+_, _≤_}
 use native.Mathlib.Nat.{add-zero, le-refl, le-trans}
 use native.Mathlib.Omega.{arith}
 use lib.Dec.{leb}
-use borrow.Author.Tests.{leb-true, ltb-false, eqb-true}
+use borrow.Author.Tests.{leb-true, not-false, eqb-true}
 use Rattle.quantity.specs.Choice.{pick}
 use Rattle.quantity.specs.Ranges.{Range, inRange, intervalRange, rateRange}
 use Rattle.quantity.specs.declared.Interval.{Interval}
@@ -15,9 +15,8 @@ use Rattle.quantity.proofs.Sums.{both-true}
 use Rattle.operator.specs.Operators.{numberInRange, expander}
 use Rattle.flow.specs.Flows.{Flow, Smooth, InTime, Behind, Envelope}
 use Rattle.operator.specs.OnFlows.{heldOn, outputOn, Fitting}
-use Rattle.flow.specs.Classes.{Class, smooth, uniform, Keeps, burst, changedTo}
+use Rattle.flow.specs.Classes.{Class, smooth, uniform, Positive, Keeps, changedQuota, carries, burstAt}
 use Rattle.operator.specs.FilterPart.{Slowest, Served}
-use Rattle.flow.specs.declared.Kind.{Kind}
 use Rattle.operator.specs.declared.Operator.{Operator}
 use Rattle.operator.specs.declared.Operator.the-variants.{Limiter, Compactor, Expander, Filter, Delayer}
 use Rattle.flow.proofs.Laws as Flows
@@ -29,7 +28,7 @@ use Rattle.figures.proofs.Part.{Carries, slower-carries, delay-le-slowe
 -- what is known before an operator, of the flow g that the class is of and the flow f into the operator
 pub record Known (p : Progress) (g f : Flow) : Type 0 where
   pub kept : Keeps (p .class) g
-  pub large : 1 ≤ p .class .interval
+  pub large : Positive (p .class)
   pub carries : Carries (p .slowest) (p .class)
   pub served : Served (p .slowest) (p .e) g f
   pub entered : Behind g f
@@ -56,7 +55,7 @@ pub record Step (p : Progress) (op : Operator) (g f c : Flow) : Type 0 where
   pub timed : (r : Flow) (D : ℕ) (next : Operator) (pair : Bool) → (pair ≡ true → pairs op next ≡ true) → Timed r p op g f D
       → Timed r (behind p op) next (pick (isFramed op) (outputOn op f c) g) (outputOn op f c) (D + ownDelay p op pair)
 
-pub known-start : (c : Class) (r : Flow) → 1 ≤ c .interval → Keeps c r → Known (start c) r r
+pub known-start : (c : Class) (r : Flow) → Positive c → Keeps c r → Known (start c) r r
 known-start c r large kept =
     record { kept = kept; large = large; carries = tt; served = Laws.served-start r; entered = λ n. le-refl _; plain = λ h. (refl, refl) }
 
@@ -79,12 +78,6 @@ pub timed-counted : (r : Flow) (p : Progress) (op : Operator) (g f : Flow) (D : 
 timed-counted r p op g f D other (counted E sum late) = (E, sum, late)
 timed-counted r p op g f D other (paired n s c makes flow fits late) = absurd (true≢false (sym makes ∙ other n))
 
--- a change of interval to n gives the interval n
-changed-interval : (n : ℕ) (kind : Kind) (m Q : ℕ) → changedTo n (record { kind = kind; interval = m; quota = Q }) .interval ≡ n
-unfolding changedTo
-changed-interval n Kind.Smooth m Q = refl
-changed-interval n Kind.Uniform m Q = refl
-
 module _ (p : Progress) (g f c : Flow) (known : Known p g f) where
   -- Framed operators, before the filter part.
 
@@ -92,10 +85,8 @@ module _ (p : Progress) (g f c : Flow) (known : Known p g f) where
     kept-into : Keeps (p .class) f
     kept-into = rw (known .plain before .1) at (known .kept)
 
-    smooth-into : (n : ℕ) → Smooth n (changedTo n (p .class) .quota) f
-    smooth-into n =
-        let changed = changedTo n (p .class) in
-        rw (changed-interval n (p .class .kind) (p .class .interval) (p .class .quota)) at (Flows.keeps-smooth changed f (Flows.keeps-changed n (p .class) f (known .large) kept-into))
+    smooth-into : (n : ℕ) → Smooth n (changedQuota n (p .class)) f
+    smooth-into n = Flows.smooth-of-changed n (p .class) f (Flows.keeps-changed n (p .class) f (known .large) kept-into)
 
     late-into : (r : Flow) (D : ℕ) → (E : ℕ) × (E + delayOfPart p ≡ D) × InTime E r g → InTime D r f
     unfolding partDelay
@@ -109,11 +100,11 @@ module _ (p : Progress) (g f c : Flow) (known : Known p g f) where
   step-limiter R passed fits =
       let output = outputOn (Limiter R) f c in
       let before = not-in-part (p .inFilterPart) (passed .placed) in
-      let bound : Envelope (burst (p .class)) (R .0) f = Flows.envelope (p .class) f (R .0) (known .large) (ltb-false _ _ (passed .rated)) (kept-into before) in
-      let late = Laws.limiter-in-time (R .0) (burst (p .class)) f c (above-least rateRange (R .0) (passed .inside)) fits bound in
+      let bound : Envelope (burstAt (p .class) (R .0)) (R .0) f = Flows.envelope (p .class) f (R .0) (known .large) (not-false (carries (p .class) (R .0)) (passed .rated)) (kept-into before) in
+      let late = Laws.limiter-in-time (R .0) (burstAt (p .class) (R .0)) f c (above-least rateRange (R .0) (passed .inside)) fits bound in
       record {
         known = known-start (uniform 1 (R .0)) output (le-refl 1) (Laws.limiter-uniform (R .0) f c fits);
-        held = Laws.limiter-held (R .0) (burst (p .class)) f c fits bound;
+        held = Laws.limiter-held (R .0) (burstAt (p .class) (R .0)) f c fits bound;
         beside = λ n. omega (arith, Laws.beside-none (Limiter R) (λ R same. let z : _≡_ {A = ℕ} 0 1 = cc in omega arith) f c n);
         timed = λ r D next pair makes timed. timed-start r (uniform 1 (R .0)) next output _
             (Flows.in-time-add D _ r f output (late-into before r D (timed-counted r p (Limiter R) g f D (λ n. refl) timed)) late);
@@ -131,7 +122,7 @@ module _ (p : Progress) (g f c : Flow) (known : Known p g f) where
   unfolding behind capacity ownDelay pairs isFramed framedAfterFilter numberInRange
   step-expander n passed fits =
       let output = outputOn (Expander n) f c in
-      let Q = changedTo (n .0) (p .class) .quota in
+      let Q = changedQuota (n .0) (p .class) in
       let before = not-in-part (p .inFilterPart) (passed .placed) in
       let large = above-least intervalRange (n .0) (passed .inside) in
       let kept = smooth-into before (n .0) in
@@ -158,7 +149,7 @@ module _ (p : Progress) (g f c : Flow) (known : Known p g f) where
   unfolding behind capacity ownDelay isFramed framedAfterFilter numberInRange
   step-compactor n passed fits =
       let output = outputOn (Compactor n) f c in
-      let Q = changedTo (n .0) (p .class) .quota in
+      let Q = changedQuota (n .0) (p .class) in
       let before = not-in-part (p .inFilterPart) (passed .placed) in
       let large = above-least intervalRange (n .0) (passed .inside) in
       let kept = smooth-into before (n .0) in
@@ -187,15 +178,15 @@ module _ (p : Progress) (g f c : Flow) (known : Known p g f) where
   unfolding behind capacity ownDelay pairs isFramed rateTooLow numberInRange
   step-filter R passed fits =
       let output = outputOn (Filter R) f c in
-      let carries = slower-carries (p .slowest) (R .0) (p .class) (known .carries) (above-least rateRange (R .0) (passed .inside)) (ltb-false _ _ (passed .rated)) in
+      let enough = slower-carries (p .slowest) (R .0) (p .class) (known .carries) (above-least rateRange (R .0) (passed .inside)) (not-false (carries (p .class) (R .0)) (passed .rated)) in
       let served = Laws.served-filter (p .slowest) (p .e) (R .0) g f c (known .served) fits in
       record {
-        known = known-in-part (Filter R) (p .e) _ carries fits served;
-        held = part-held (p .class) g (known .large) (known .kept) f c (known .entered) (Filter R) _ (p .e) carries fits served;
-        beside = part-beside (p .class) g (known .large) (known .kept) f c (known .entered) (R .0) (p .slowest) (p .e) carries (known .served);
+        known = known-in-part (Filter R) (p .e) _ enough fits served;
+        held = part-held (p .class) g (known .large) (known .kept) f c (known .entered) (Filter R) _ (p .e) enough fits served;
+        beside = part-beside (p .class) g (known .large) (known .kept) f c (known .entered) (R .0) (p .slowest) (p .e) enough (known .served);
         timed = λ r D next pair makes timed.
             let (E, sum, late) = timed-counted r p (Filter R) g f D (λ n. refl) timed in
-            counted E (omega (arith, delay-le-slower (p .class) (p .e) (p .slowest) (R .0) carries)) late;
+            counted E (omega (arith, delay-le-slower (p .class) (p .e) (p .slowest) (R .0) (known .large) (above-least rateRange (R .0) (passed .inside)) (not-false (carries (p .class) (R .0)) (passed .rated)))) late;
       }
 
   step-delayer : (d : Delay) → Passed p (Delayer d) → Fitting (Delayer d) f c → Step p (Delayer d) g f c

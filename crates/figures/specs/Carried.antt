@@ -1,13 +1,27 @@
 -- Serves the private contracts of the figures, and need not be believed: no public call cites it.
 -- What the code carries along a path stands for a progress of section 4; and the bounds within which its numbers fit their words.
-use Prim.Native.Nat.{ℕ, _≤_}
-use mathlib.Core.Bool.{Bool}
+use Prim.Native.Nat.{ℕ, _+_, _≤_, _<_}
+use mathlib.Core.Path.{_≡_}
+use mathlib.Core.Bool.{Bool, true}
 use mathlib.Core.List.{List, [], _∷_}
+use lib.ListN.{length}
+use Rattle.quantity.specs.Limits.{mostOperators}
+use Rattle.quantity.specs.Rounding.{roundUp}
 use Rattle.quantity.specs.Refusals.{Case, _⇒_, firstOf}
 use Rattle.quantity.specs.declared.refusal.Refusal.the-variants.{FramedAfterFilter, FigureTooLarge, RateTooLow}
-use Rattle.flow.specs.Classes.{Class}
+use Rattle.flow.specs.Classes.{Class, smooth, uniform, rows, burstAt}
+use Rattle.flow.specs.Declarations.{byKind, severalAt, cleared}
+use Rattle.flow.specs.Bounds.{boundOf, ClassWithin}
+use Rattle.flow.specs.declared.Kind.{Kind}
+use Rattle.flow.specs.declared.Declaration.{Declaration}
 use Rattle.operator.specs.FilterPart.{Slowest, unfiltered, filtered}
 use Rattle.operator.specs.declared.Operator.{Operator}
+use Rattle.sheet.specs.Forms.{inFull, noPath}
+use Rattle.sheet.specs.Sheets.{pathInRange}
+use Rattle.sheet.specs.declared.PathValue.{PathValue}
+use Rattle.sheet.specs.declared.read.Verdict.{Verdict}
+use Rattle.figures.specs.declared.PathFigures.{PathFigures}
+use Rattle.figures.specs.Answers.{pathCases, refusedFigures, acceptedFigures}
 use Rattle.figures.specs.declared.Figure.{Figure}
 use Rattle.figures.specs.declared.class.FlowClass.{FlowClass}
 use Rattle.figures.specs.declared.carried.LeastRate.{LeastRate}
@@ -17,21 +31,16 @@ use Rattle.figures.specs.declared.each.Planned.{Planned}
 use Rattle.figures.specs.Progress.{Progress}
 use Rattle.figures.specs.Figures.{capacity, ownDelay, framedAfterFilter, figureTooLarge, rateTooLow}
 
-abbrev pub classIn : FlowClass → Class
-classIn c = record { kind = c .kind; interval = c .interval .0; quota = c .quota .0 }
+-- the class: where it is of rows, those of the declaration
+abbrev pub classIn : Declaration → FlowClass → Class
+classIn declared c = byKind (c .kind) (smooth (c .interval .0) (c .quota .0)) (uniform (c .interval .0) (c .quota .0)) (rows (severalAt declared) (declared .count))
 
 abbrev pub slowestIn : LeastRate → Slowest
 slowestIn NoFilter = unfiltered
-slowestIn (Least rate) = filtered (rate .0)
+slowestIn (Least rate burst) = filtered (rate .0)
 
-abbrev pub progressIn : Carried → Progress
-progressIn c = record { class = classIn (c .class); inFilterPart = c .filtering; e = c .e .0; slowest = slowestIn (c .slowest) }
-
--- a class whose quota refusal 7 has let pass
-pub record ClassWithin (c : Class) : Type 0 where
-  pub least : 1 ≤ c .interval
-  pub most : c .interval ≤ 1024
-  pub quota : c .quota ≤ 67_108_863
+abbrev pub progressIn : Declaration → Carried → Progress
+progressIn declared c = record { class = classIn declared (c .class); inFilterPart = c .filtering; e = c .e .0; slowest = slowestIn (c .slowest) }
 
 abbrev pub RateWithin : Slowest → Type 0
 RateWithin unfiltered = Unit {0}
@@ -42,6 +51,32 @@ pub record Within (longest : ℕ) (p : Progress) : Type 0 where
   pub class : ClassWithin (p .class)
   pub e : p .e ≤ longest
   pub slowest : RateWithin (p .slowest)
+
+-- where the class is of rows, the lent table is their bound
+abbrev pub Lent : Kind → Declaration → List ℕ → Type 0
+Lent Kind.Smooth declared bound = Unit {0}
+Lent Kind.Uniform declared bound = Unit {0}
+Lent Kind.Rows declared bound = bound ≡ boundOf declared
+
+-- what is kept as the burst is that at the least rate
+abbrev pub BurstKept : Class → LeastRate → Type 0
+BurstKept c NoFilter = Unit {0}
+BurstKept c (Least rate burst) = burst .0 ≡ burstAt c (rate .0)
+
+-- the delay of a filter part from the burst that is kept, and that it fits
+abbrev pub delayKept : LeastRate → ℕ → ℕ
+delayKept NoFilter e = e
+delayKept (Least rate burst) e = roundUp (burst .0) (rate .0) + e
+
+abbrev pub BurstFits : LeastRate → Type 0
+BurstFits NoFilter = Unit {0}
+BurstFits (Least rate burst) = (1 ≤ rate .0) × (rate .0 ≤ 65_535) × (burst .0 ≤ 134_217_726)
+
+-- what the code carries along, with the declaration and the table that it is lent
+pub record Ready (longest : ℕ) (declared : Declaration) (bound : List ℕ) (c : Carried) : Type 0 where
+  pub within : Within longest (progressIn declared c)
+  pub lent : Lent (c .class .kind) declared bound
+  pub burst : BurstKept (classIn declared (c .class)) (c .slowest)
 
 -- of fifteen delayers before an operator, and of sixteen with it
 abbrev pub mostBefore : ℕ
@@ -61,3 +96,24 @@ figureOf p op paired = record { capacity = record { 0 = capacity p op }; delay =
 -- the figure, or the first of 6 to 8 that stands
 unfoldable pub plannedOf : Progress → Operator → Bool → ℕ → Planned
 plannedOf p op paired k = firstOf (casesOf p op k) Planned.Refused (Planned.Fits (figureOf p op paired))
+
+-- a path value of at most sixteen operators, its numbers in their ranges, with 0 in all that its declaration does not use
+pub record PathWithin (value : PathValue) : Type 0 where
+  pub few : value .count ≤ mostOperators
+  pub full : length (value .operators) ≡ mostOperators
+  pub inside : pathInRange (inFull value) ≡ true
+  pub clear : cleared (value .declaration) ≡ value .declaration
+
+-- what was read, with the table of its bound: the empty path beside a refusal
+abbrev pub Readable : Verdict → PathValue → List ℕ → Type 0
+Readable Verdict.Accepted value bound = PathWithin value × Lent (value .declaration .kind) (value .declaration) bound
+Readable (Verdict.Refused why) value bound = value ≡ noPath
+
+-- the figures of a path value: 6 to 9 of the path that it has written out
+unfoldable pub figuresOfValue : PathValue → PathFigures
+figuresOfValue value = firstOf (pathCases (inFull value)) refusedFigures (acceptedFigures value (inFull value))
+
+-- and of what was read
+unfoldable pub figuresOfRead : Verdict → PathValue → PathFigures
+figuresOfRead Verdict.Accepted value = figuresOfValue value
+figuresOfRead (Verdict.Refused why) value = refusedFigures why

@@ -1,25 +1,25 @@
 -- Section 4: an operator's capacity and own delay, from the class before it; and what refuses them (section 7, 6 to 8).
 use Prim.Native.Nat.{ℕ, _+_, _-_, _*_}
-use mathlib.Core.Bool.{Bool, true, false}
+use mathlib.Core.Bool.{Bool, true, false, not}
 use lib.Dec.{ltb, eqb}
 use Rattle.quantity.specs.Choice.{pick, either}
 use Rattle.quantity.specs.Rounding.{roundUp}
 use Rattle.quantity.specs.Limits.{largestAmount}
-use Rattle.flow.specs.Classes.{Class, burst, mostIn, changedTo}
+use Rattle.flow.specs.Classes.{Class, mostIn, changedQuota, carries, burstAt}
 use Rattle.operator.specs.FilterPart.{Slowest, unfiltered, filtered}
 use Rattle.operator.specs.declared.Operator.{Operator}
 use Rattle.operator.specs.declared.Operator.the-variants.{Limiter, Compactor, Expander, Filter, Delayer}
 use Rattle.figures.specs.Progress.{Progress, behind}
 
--- in the filter part, capacity is burst + e·P; with no filter so far it is the most of the class in e slots
+-- in the filter part, capacity is burst + e·P, the burst taken at P; with no filter so far it is the most of the class in e slots
 unfoldable pub partCapacity : Class → ℕ → Slowest → ℕ
 partCapacity c e unfiltered = mostIn c e
-partCapacity c e (filtered P) = burst c + e * P
+partCapacity c e (filtered P) = burstAt c P + e * P
 
 -- the delay of the part is ⌈burst/P⌉ (0 without a filter) + e
 unfoldable pub partDelay : Class → ℕ → Slowest → ℕ
 partDelay c e unfiltered = e
-partDelay c e (filtered P) = roundUp (burst c) P + e
+partDelay c e (filtered P) = roundUp (burstAt c P) P + e
 
 -- of the part up to and with the operators that a progress counts
 abbrev pub capacityOfPart : Progress → ℕ
@@ -30,15 +30,15 @@ delayOfPart p = partDelay (p .class) (p .e) (p .slowest)
 
 -- an operator's capacity
 unfoldable pub capacity : Progress → Operator → ℕ
-capacity p (Limiter R) = burst (p .class)
-capacity p (Compactor n) = changedTo (n .0) (p .class) .quota
-capacity p (Expander n) = changedTo (n .0) (p .class) .quota
+capacity p (Limiter R) = burstAt (p .class) (R .0)
+capacity p (Compactor n) = changedQuota (n .0) (p .class)
+capacity p (Expander n) = changedQuota (n .0) (p .class)
 capacity p (Filter R) = capacityOfPart (behind p (Filter R))
 capacity p (Delayer d) = capacityOfPart (behind p (Delayer d))
 
 -- an operator's own delay; `paired` is whether the next operator is a compactor of its interval
 unfoldable pub ownDelay : Progress → Operator → Bool → ℕ
-ownDelay p (Limiter R) paired = roundUp (burst (p .class)) (R .0)
+ownDelay p (Limiter R) paired = roundUp (burstAt (p .class) (R .0)) (R .0)
 ownDelay p (Compactor n) paired = n .0
 ownDelay p (Expander n) paired = pick paired 0 (n .0)
 ownDelay p (Filter R) paired = delayOfPart (behind p (Filter R)) - delayOfPart p
@@ -76,25 +76,21 @@ abbrev pub largestChangedQuota : ℕ
 largestChangedQuota = 67_108_863
 
 -- the quota of a change of interval, where the operator changes it
-unfoldable pub changedQuota : Progress → Operator → ℕ
-changedQuota p (Limiter R) = 0
-changedQuota p (Compactor n) = changedTo (n .0) (p .class) .quota
-changedQuota p (Expander n) = changedTo (n .0) (p .class) .quota
-changedQuota p (Filter R) = 0
-changedQuota p (Delayer d) = 0
+unfoldable pub quotaBehind : Progress → Operator → ℕ
+quotaBehind p (Limiter R) = 0
+quotaBehind p (Compactor n) = changedQuota (n .0) (p .class)
+quotaBehind p (Expander n) = changedQuota (n .0) (p .class)
+quotaBehind p (Filter R) = 0
+quotaBehind p (Delayer d) = 0
 
 -- 7: a changed quota is above 67,108,863, or a capacity above 1,073,741,823
 unfoldable pub figureTooLarge : Progress → Operator → Bool
-figureTooLarge p op = either (ltb largestChangedQuota (changedQuota p op)) (ltb largestAmount (capacity p op))
+figureTooLarge p op = either (ltb largestChangedQuota (quotaBehind p op)) (ltb largestAmount (capacity p op))
 
-quotaAbove : Class → ℕ → Bool
-quotaAbove c R = ltb (c .interval * R) (c .quota)
-
--- 8: a limiter or filter has Q above m·R
+-- 8: a limiter or filter has Q above m·R, in every row
 unfoldable pub rateTooLow : Progress → Operator → Bool
-unfolding quotaAbove
-rateTooLow p (Limiter R) = quotaAbove (p .class) (R .0)
+rateTooLow p (Limiter R) = not (carries (p .class) (R .0))
 rateTooLow p (Compactor n) = false
 rateTooLow p (Expander n) = false
-rateTooLow p (Filter R) = quotaAbove (p .class) (R .0)
+rateTooLow p (Filter R) = not (carries (p .class) (R .0))
 rateTooLow p (Delayer d) = false

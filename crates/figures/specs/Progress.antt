@@ -1,7 +1,7 @@
 -- Section 4, the class between operators: what the operators before one have made of the declared class.
 use Prim.Native.Nat.{ℕ, zero, suc, _+_}
 use mathlib.Core.Bool.{Bool, true, false}
-use Rattle.flow.specs.Classes.{Class, smooth, uniform, changedTo}
+use Rattle.flow.specs.Classes.{Class, smooth, uniform, changedQuota}
 use Rattle.operator.specs.FilterPart.{Slowest, unfiltered, slower}
 use Rattle.operator.specs.declared.Operator.{Operator}
 use Rattle.operator.specs.declared.Operator.the-variants.{Limiter, Compactor, Expander, Filter, Delayer}
@@ -26,8 +26,8 @@ framed output = record { class = output; inFilterPart = false; e = 0; slowest = 
 unfoldable pub behind : Progress → Operator → Progress
 unfolding framed
 behind p (Limiter R) = framed (uniform 1 (R .0))
-behind p (Compactor n) = framed (uniform (n .0) (changedTo (n .0) (p .class) .quota))
-behind p (Expander n) = framed (smooth (n .0) (changedTo (n .0) (p .class) .quota))
+behind p (Compactor n) = framed (uniform (n .0) (changedQuota (n .0) (p .class)))
+behind p (Expander n) = framed (smooth (n .0) (changedQuota (n .0) (p .class)))
 behind p (Filter R) = record { class = p .class; inFilterPart = true; e = p .e; slowest = slower (p .slowest) (R .0) }
 behind p (Delayer d) = record { class = p .class; inFilterPart = true; e = p .e + d .0; slowest = p .slowest }
 

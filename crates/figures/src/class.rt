@@ -1,17 +1,25 @@
-// The class between two operators: its burst, the most that it carries in a window and its change of interval (document 01, section 4).
+// The class between two operators: its burst at a rate, the most that it carries in a window and its change of interval (document 01, section 4; document 02, item 6).
+// A class of rows is the declared one; the most that its rows allow in n slots is entry n of a lent table.
 
+use flow::Declaration;
+use flow::DeclaredRow;
 use flow::Kind;
 use quantity::Interval;
+use quantity::Rate;
 use quantity::Slots;
 use quantity::Units;
 use quantity::divisor::gcd;
 ghost use mathlib.Core.Path.{_≡_};
-ghost use Prim.Native.Nat.{_+_, _≤_};
+ghost use Prim.Native.Nat.{_+_, _-_, _*_, _≤_, max};
+ghost use lib.ListN.{length, getD};
 ghost use Rattle.quantity.specs.Rounding.{roundUp};
-ghost use Rattle.flow.specs.Classes.{burst, mostIn, blocksMet, changedTo};
-ghost use Rattle.figures.specs.Carried.{classIn, ClassWithin};
+ghost use Rattle.flow.specs.Rows.{rowCarried, reach, greatestOf};
+ghost use Rattle.flow.specs.Classes.{mostIn, blocksMet, changedQuota, carries, burstAt};
+ghost use Rattle.flow.specs.Declarations.{emptyRow, rowOf};
+ghost use Rattle.flow.specs.Bounds.{boundLength, ClassWithin};
+ghost use Rattle.figures.specs.Carried.{classIn, Lent};
 
-// Smooth or uniform (m, Q). Behind a change of interval Q may be larger than a declared quota.
+// Smooth or uniform (m, Q). Behind a change of interval Q may be larger than a declared quota. Rows are the declaration's, and have no (m, Q) of their own.
 pub struct FlowClass {
     pub kind: Kind,
     pub interval: Interval,
@@ -32,27 +40,111 @@ pub(crate) fn round_up(x: u64, y: u64) -> u64
     (x + (y - 1)) / y
 }
 
-pub(crate) fn burst(class: FlowClass) -> Units
-    requires { ⌜ ClassWithin (classIn class) ⌝ }
-    ensures { λ r. ⌜ r .0 ≡ burst (classIn class) ⌝ }
+// Whether a row has Q ≤ m·R.
+fn row_carried(row: DeclaredRow, rate: Rate) -> bool
+    ensures { λ r. ⌜ r ≡ rowCarried (rowOf row) (rate .0) ⌝ }
+{
+    wide(row.quota.0) <= rate.over(Slots(row.interval.0)).0
+}
+
+// The interval of the first row with Q ≤ m·R, 0 where there is none.
+fn reach(rows: [DeclaredRow; 4], count: usize, rate: Rate) -> u32
+    requires { ⌜ count ≤ 4 ⌝ }
+    ensures { λ r. ⌜ r ≡ reach (λ i. rowOf (getD rows i emptyRow)) count (rate .0) ⌝ }
+{
+    let mut i = 0;
+    while i < count {
+        let row = rows[i];
+        if row_carried(row, rate) {
+            return row.interval.0;
+        }
+        i += 1;
+    }
+    0
+}
+
+// Whether a rate carries the class.
+pub(crate) fn carried_by(class: FlowClass, declared: Declaration, rate: Rate) -> bool
+    requires { ⌜ ClassWithin (classIn declared class) ⌝ }
+    ensures { λ r. ⌜ r ≡ carries (classIn declared class) (rate .0) ⌝ }
+{
+    let kind = class.kind;
+    match kind {
+        Kind::Smooth => class.quota.0 <= rate.over(Slots(class.interval.0)).0,
+        Kind::Uniform => class.quota.0 <= rate.over(Slots(class.interval.0)).0,
+        Kind::Rows => {
+            let rows = declared.rows;
+            0 < reach(rows, declared.count, rate)
+        }
+    }
+}
+
+// What a has beyond b.
+fn beyond(a: u32, b: u32) -> u32
+    ensures { λ r. ⌜ r ≡ a - b ⌝ }
+{
+    if a < b { 0 } else { a - b }
+}
+
+fn larger(a: u32, b: u32) -> u32
+    ensures { λ r. ⌜ r ≡ max a b ⌝ }
+{
+    if a < b { b } else { a }
+}
+
+// The greatest that the bound has beyond a rate in 1 to so many slots.
+fn greatest_beyond(bound: &[u32], slots: u32, rate: u32) -> u32
+    requires { ⌜ (length (now bound) ≡ boundLength) × (slots ≤ 1_024) × (rate ≤ 65_535) ⌝ }
+    ensures { λ r. ⌜ r ≡ greatestOf (λ n. getD (now (bound .entry)) n 0 - n * rate) slots ⌝ }
+{
+    let last = slots as usize;
+    let mut greatest = 0;
+    let mut sent = 0;
+    let mut n = 0;
+    while n < last {
+        n += 1;
+        sent += rate;
+        greatest = larger(greatest, beyond(bound[n], sent));
+    }
+    greatest
+}
+
+// The burst at a rate.
+pub(crate) fn burst_at(class: FlowClass, declared: Declaration, bound: &[u32], rate: Rate) -> Units
+    requires { ⌜ ClassWithin (classIn declared class) × Lent (class .kind) declared (now bound) × (rate .0 ≤ 65_535) ⌝ }
+    ensures { λ r. ⌜ r .0 ≡ burstAt (classIn declared class) (rate .0) ⌝ }
 {
     let kind = class.kind;
     match kind {
         Kind::Smooth => Units(2 * class.quota.0),
         Kind::Uniform => class.quota,
+        Kind::Rows => {
+            let rows = declared.rows;
+            let slots = reach(rows, declared.count, rate);
+            Units(wide(greatest_beyond(bound, slots, rate.0)))
+        }
     }
 }
 
 // The most that the class carries in n neighbouring slots.
-pub(crate) fn most_in(class: FlowClass, n: Slots) -> Units
-    requires { ⌜ ClassWithin (classIn class) × (n .0 ≤ 1_024) ⌝ }
-    ensures { λ r. ⌜ r .0 ≡ mostIn (classIn class) (n .0) ⌝ }
+pub(crate) fn most_in(class: FlowClass, declared: Declaration, bound: &[u32], n: Slots) -> Units
+    requires { ⌜ ClassWithin (classIn declared class) × Lent (class .kind) declared (now bound) × (n .0 ≤ 1_024) ⌝ }
+    ensures { λ r. ⌜ r .0 ≡ mostIn (classIn declared class) (n .0) ⌝ }
 {
-    let blocks = round_up(wide(n.0), wide(class.interval.0));
     let kind = class.kind;
     match kind {
-        Kind::Smooth => Units((blocks + 1) * class.quota.0),
-        Kind::Uniform => Units(blocks * class.quota.0),
+        Kind::Smooth => {
+            let blocks = round_up(wide(n.0), wide(class.interval.0));
+            Units((blocks + 1) * class.quota.0)
+        }
+        Kind::Uniform => {
+            let blocks = round_up(wide(n.0), wide(class.interval.0));
+            Units(blocks * class.quota.0)
+        }
+        Kind::Rows => {
+            let at = n.0 as usize;
+            Units(wide(bound[at]))
+        }
     }
 }
 
@@ -66,9 +158,14 @@ fn blocks_met(m: Interval, n: Interval) -> u64
 }
 
 // The quota behind a change of interval.
-pub(crate) fn changed_quota(class: FlowClass, n: Interval) -> Units
-    requires { ⌜ ClassWithin (classIn class) × (1 ≤ n .0) × (n .0 ≤ 1_024) ⌝ }
-    ensures { λ r. ⌜ r .0 ≡ changedTo (n .0) (classIn class) .quota ⌝ }
+pub(crate) fn changed_quota(
+    class: FlowClass,
+    declared: Declaration,
+    bound: &[u32],
+    n: Interval,
+) -> Units
+    requires { ⌜ ClassWithin (classIn declared class) × Lent (class .kind) declared (now bound) × (1 ≤ n .0) × (n .0 ≤ 1_024) ⌝ }
+    ensures { λ r. ⌜ r .0 ≡ changedQuota (n .0) (classIn declared class) ⌝ }
 {
     let kind = class.kind;
     match kind {
@@ -76,6 +173,7 @@ pub(crate) fn changed_quota(class: FlowClass, n: Interval) -> Units
             let interval = class.interval;
             Units(blocks_met(interval, n) * class.quota.0)
         }
-        Kind::Uniform => most_in(class, Slots(n.0)),
+        Kind::Uniform => most_in(class, declared, bound, Slots(n.0)),
+        Kind::Rows => most_in(class, declared, bound, Slots(n.0)),
     }
 }

@@ -6,11 +6,12 @@ use crate::carried::behind_delayer;
 use crate::carried::behind_filter;
 use crate::carried::part_capacity;
 use crate::carried::part_delay;
-use crate::class::FlowClass;
-use crate::class::burst;
+use crate::class::burst_at;
+use crate::class::carried_by;
 use crate::class::changed_quota;
 use crate::class::round_up;
 use crate::class::wide;
+use flow::Declaration;
 use operator::Operator;
 use quantity::Delay;
 use quantity::Interval;
@@ -20,13 +21,12 @@ use quantity::Units;
 use quantity::refusal::Refusal;
 ghost use mathlib.Core.Path.{_≡_};
 ghost use mathlib.Core.Bool.{true, false};
-ghost use Prim.Native.Nat.{_-_, _*_, _≤_};
-ghost use lib.Dec.{ltb};
+ghost use Prim.Native.Nat.{_-_, _≤_};
 ghost use Rattle.quantity.specs.Choice.{pick};
 ghost use Rattle.operator.specs.Operators.{numberInRange};
 ghost use Rattle.operator.specs.declared.Operator.the-variants.{Limiter, Expander, Filter, Delayer};
-ghost use Rattle.figures.specs.Figures.{delayOfPart, pairs};
-ghost use Rattle.figures.specs.Carried.{progressIn, Within, mostBefore, mostWith, plannedOf};
+ghost use Rattle.figures.specs.Figures.{pairs};
+ghost use Rattle.figures.specs.Carried.{progressIn, BurstFits, delayKept, Ready, mostBefore, mostWith, plannedOf};
 
 // Section 7, 7: the largest changed quota.
 const LARGEST_CHANGED_QUOTA: u64 = 67_108_863;
@@ -69,25 +69,25 @@ pub(crate) fn paired(operator: Operator, follower: Operator, follows: bool) -> b
     }
 }
 
-fn quota_above(class: FlowClass, rate: Rate) -> bool
-    ensures { λ r. ⌜ r ≡ ltb (class .interval .0 * rate .0) (class .quota .0) ⌝ }
-{
-    rate.over(Slots(class.interval.0)).0 < class.quota.0
-}
-
-fn plan_limiter(carried: Carried, rate: Rate, k: usize) -> Planned
-    requires { ⌜ Within mostBefore (progressIn carried) × (numberInRange (Limiter rate) ≡ true) ⌝ }
-    ensures { λ r. ⌜ r ≡ plannedOf (progressIn carried) (Limiter rate) false k ⌝ }
+fn plan_limiter(
+    carried: Carried,
+    declared: Declaration,
+    bound: &[u32],
+    rate: Rate,
+    k: usize,
+) -> Planned
+    requires { ⌜ Ready mostBefore declared (now bound) carried × (numberInRange (Limiter rate) ≡ true) ⌝ }
+    ensures { λ r. ⌜ r ≡ plannedOf (progressIn declared carried) (Limiter rate) false k ⌝ }
 {
     if carried.filtering {
         return Planned::Refused(Refusal::FramedAfterFilter(k));
     }
     let class = carried.class;
-    let most = burst(class);
+    let most = burst_at(class, declared, bound, rate);
     if Units::LARGEST < most.0 {
         return Planned::Refused(Refusal::FigureTooLarge(k));
     }
-    if quota_above(class, rate) {
+    if !carried_by(class, declared, rate) {
         return Planned::Refused(Refusal::RateTooLow(k));
     }
     let own = Slots(round_up(most.0, wide(rate.0)) as u32);
@@ -105,15 +105,22 @@ fn expander_delay(n: Interval, paired: bool) -> Slots
 }
 
 // An expander, or a compactor, whose figure is that of an expander that has no pair. A quota that is not too large is no capacity too large.
-fn plan_frame(carried: Carried, n: Interval, paired: bool, k: usize) -> Planned
-    requires { ⌜ Within mostBefore (progressIn carried) × (numberInRange (Expander n) ≡ true) ⌝ }
-    ensures { λ r. ⌜ r ≡ plannedOf (progressIn carried) (Expander n) paired k ⌝ }
+fn plan_frame(
+    carried: Carried,
+    declared: Declaration,
+    bound: &[u32],
+    n: Interval,
+    paired: bool,
+    k: usize,
+) -> Planned
+    requires { ⌜ Ready mostBefore declared (now bound) carried × (numberInRange (Expander n) ≡ true) ⌝ }
+    ensures { λ r. ⌜ r ≡ plannedOf (progressIn declared carried) (Expander n) paired k ⌝ }
 {
     if carried.filtering {
         return Planned::Refused(Refusal::FramedAfterFilter(k));
     }
     let class = carried.class;
-    let most = changed_quota(class, n);
+    let most = changed_quota(class, declared, bound, n);
     if LARGEST_CHANGED_QUOTA < most.0 {
         return Planned::Refused(Refusal::FigureTooLarge(k));
     }
@@ -126,8 +133,9 @@ fn plan_frame(carried: Carried, n: Interval, paired: bool, k: usize) -> Planned
 
 // What an operator adds to the delay of its part.
 fn added(before: Carried, after: Carried) -> Slots
-    requires { ⌜ Within mostWith (progressIn before) × (Within mostWith (progressIn after) × (delayOfPart (progressIn before) ≤ delayOfPart (progressIn after))) ⌝ }
-    ensures { λ r. ⌜ r .0 ≡ delayOfPart (progressIn after) - delayOfPart (progressIn before) ⌝ }
+    requires { ⌜ (before .e .0 ≤ mostWith) × BurstFits (before .slowest) × (after .e .0 ≤ mostWith) × BurstFits (after .slowest) ⌝ }
+    requires { ⌜ delayKept (before .slowest) (before .e .0) ≤ delayKept (after .slowest) (after .e .0) ⌝ }
+    ensures { λ r. ⌜ r .0 ≡ delayKept (after .slowest) (after .e .0) - delayKept (before .slowest) (before .e .0) ⌝ }
 {
     let whole = part_delay(after);
     let so_far = part_delay(before);
@@ -135,17 +143,23 @@ fn added(before: Carried, after: Carried) -> Slots
     Slots(more)
 }
 
-fn plan_filter(carried: Carried, rate: Rate, k: usize) -> Planned
-    requires { ⌜ Within mostBefore (progressIn carried) × (numberInRange (Filter rate) ≡ true) ⌝ }
-    ensures { λ r. ⌜ r ≡ plannedOf (progressIn carried) (Filter rate) false k ⌝ }
+fn plan_filter(
+    carried: Carried,
+    declared: Declaration,
+    bound: &[u32],
+    rate: Rate,
+    k: usize,
+) -> Planned
+    requires { ⌜ Ready mostBefore declared (now bound) carried × (numberInRange (Filter rate) ≡ true) ⌝ }
+    ensures { λ r. ⌜ r ≡ plannedOf (progressIn declared carried) (Filter rate) false k ⌝ }
 {
-    let after = behind_filter(carried, rate);
-    let most = part_capacity(after);
+    let after = behind_filter(carried, declared, bound, rate);
+    let most = part_capacity(after, declared, bound);
     if Units::LARGEST < most.0 {
         return Planned::Refused(Refusal::FigureTooLarge(k));
     }
     let class = carried.class;
-    if quota_above(class, rate) {
+    if !carried_by(class, declared, rate) {
         return Planned::Refused(Refusal::RateTooLow(k));
     }
     let own = added(carried, after);
@@ -155,11 +169,17 @@ fn plan_filter(carried: Carried, rate: Rate, k: usize) -> Planned
     })
 }
 
-fn plan_delayer(carried: Carried, delay: Delay, k: usize) -> Planned
-    requires { ⌜ Within mostBefore (progressIn carried) × (numberInRange (Delayer delay) ≡ true) ⌝ }
-    ensures { λ r. ⌜ r ≡ plannedOf (progressIn carried) (Delayer delay) false k ⌝ }
+fn plan_delayer(
+    carried: Carried,
+    declared: Declaration,
+    bound: &[u32],
+    delay: Delay,
+    k: usize,
+) -> Planned
+    requires { ⌜ Ready mostBefore declared (now bound) carried × (numberInRange (Delayer delay) ≡ true) ⌝ }
+    ensures { λ r. ⌜ r ≡ plannedOf (progressIn declared carried) (Delayer delay) false k ⌝ }
 {
-    let most = part_capacity(behind_delayer(carried, delay));
+    let most = part_capacity(behind_delayer(carried, delay), declared, bound);
     if Units::LARGEST < most.0 {
         return Planned::Refused(Refusal::FigureTooLarge(k));
     }
@@ -170,15 +190,22 @@ fn plan_delayer(carried: Carried, delay: Delay, k: usize) -> Planned
 }
 
 // The figure of operator k; `paired` is whether the next operator is a compactor of its interval.
-pub(crate) fn plan(carried: Carried, operator: Operator, paired: bool, k: usize) -> Planned
-    requires { ⌜ Within mostBefore (progressIn carried) × (numberInRange operator ≡ true) ⌝ }
-    ensures { λ r. ⌜ r ≡ plannedOf (progressIn carried) operator paired k ⌝ }
+pub(crate) fn plan(
+    carried: Carried,
+    declared: Declaration,
+    bound: &[u32],
+    operator: Operator,
+    paired: bool,
+    k: usize,
+) -> Planned
+    requires { ⌜ Ready mostBefore declared (now bound) carried × (numberInRange operator ≡ true) ⌝ }
+    ensures { λ r. ⌜ r ≡ plannedOf (progressIn declared carried) operator paired k ⌝ }
 {
     match operator {
-        Operator::Limiter(rate) => plan_limiter(carried, rate, k),
-        Operator::Compactor(n) => plan_frame(carried, n, false, k),
-        Operator::Expander(n) => plan_frame(carried, n, paired, k),
-        Operator::Filter(rate) => plan_filter(carried, rate, k),
-        Operator::Delayer(delay) => plan_delayer(carried, delay, k),
+        Operator::Limiter(rate) => plan_limiter(carried, declared, bound, rate, k),
+        Operator::Compactor(n) => plan_frame(carried, declared, bound, n, false, k),
+        Operator::Expander(n) => plan_frame(carried, declared, bound, n, paired, k),
+        Operator::Filter(rate) => plan_filter(carried, declared, bound, rate, k),
+        Operator::Delayer(delay) => plan_delayer(carried, declared, bound, delay, k),
     }
 }

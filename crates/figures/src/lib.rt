@@ -5,16 +5,20 @@ use crate::carried::start;
 use crate::each::Planned;
 use crate::each::paired;
 use crate::each::plan;
+use flow::bound::LENGTH;
+use flow::bound::fill;
 use quantity::Slots;
 use quantity::Units;
 use quantity::refusal::Refusal;
 use sheet::PathValue;
 use sheet::no_path;
+use sheet::read::ReadSheet;
 use sheet::read::Verdict;
 use sheet::read::read;
 ghost use mathlib.Core.Path.{_≡_};
 ghost use Prim.Native.Nat.{_+_, _<_};
 ghost use Rattle.figures.specs.Answers.{noFigure, refusedFigures, figuresOf};
+ghost use Rattle.figures.specs.Carried.{Readable, figuresOfRead};
 
 mod carried;
 mod class;
@@ -64,11 +68,27 @@ fn next_operator(k: usize) -> usize
     if k < 15 { k + 1 } else { k }
 }
 
-// The figures of a sheet's path, operator by operator from the left, or the first refusal of 2 to 9. The answer stands in one place from the start, since copies of it take time.
+// The figures of a sheet's path, or the first refusal of 2 to 9. Where the declaration has rows their bound is worked out first, once for the whole path.
 pub fn figures(sheet: &[u8]) -> PathFigures
     ensures { λ r. ⌜ r ≡ figuresOf (now (sheet .entry)) ⌝ }
 {
     let answer = read(sheet);
+    let declaration = answer.path.declaration;
+    let kind = declaration.kind;
+    if kind.has_rows() {
+        let mut bound = [0; LENGTH];
+        fill(declaration, &mut bound);
+        return figures_read(answer, &bound);
+    }
+    let unread = [0; 1];
+    figures_read(answer, &unread)
+}
+
+// The figures of the path that was read, operator by operator from the left. The answer stands in one place from the start, since copies of it take time.
+fn figures_read(answer: ReadSheet, bound: &[u32]) -> PathFigures
+    requires { ⌜ Readable (answer .verdict) (answer .path) (now bound) ⌝ }
+    ensures { λ r. ⌜ r ≡ figuresOfRead (answer .verdict) (answer .path) ⌝ }
+{
     let verdict = answer.verdict;
     let path = answer.path;
     let none = no_figure();
@@ -95,6 +115,8 @@ pub fn figures(sheet: &[u8]) -> PathFigures
         let next = k + 1;
         match plan(
             carried,
+            declaration,
+            bound,
             operator,
             paired(operator, follower, next < count),
             k,
@@ -106,7 +128,7 @@ pub fn figures(sheet: &[u8]) -> PathFigures
             Planned::Fits(figure) => {
                 planned.figures[k] = figure;
                 delay = delay.plus(figure.delay);
-                carried = behind(carried, operator, figure.capacity);
+                carried = behind(carried, declaration, bound, operator, figure.capacity);
             }
         }
         k += 1;

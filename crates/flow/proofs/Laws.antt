@@ -4,19 +4,21 @@ use mathlib.Core.Bool.{true}
 use mathlib.Core.List.{List}
 use mathlib.Core.Logic.{_↔_}
 use Prim.Native.Nat.{ℕ, suc, _+_, _-_, _*_, _/_, _≤_, _<_, min}
+use lib.Dec.{ltb}
 use native.Mathlib.Nat.{add-assoc, le-trans}
 use Rattle.quantity.specs.Sums.{total}
 use Rattle.quantity.specs.Rounding.{roundUp}
 use Rattle.quantity.specs.Divisors.{Divides}
 use Rattle.flow.specs.Flows.{Flow, flowOf, Smooth, Uniform, InTime, Envelope}
-use Rattle.flow.specs.Classes.{Class, Keeps, burst, mostIn, blocksMet, changedTo}
+use Rattle.flow.specs.Classes.{Class, Positive, Keeps, mostIn, blocksMet, changedQuota, changedTo, carries, burstAt}
 use Rattle.flow.specs.Keeping.{keepsClass}
-use Rattle.flow.specs.Rows.{Row, KeepsRows, units, mostOfRows, rowsMost}
+use Rattle.flow.specs.Rows.{Row, KeepsRows, units, mostOfRows, rowsMost, rowCarried, rowsCarried, reach, greatestOf, rowsBurst}
 use Rattle.flow.proofs.Windows as Windows
 use Rattle.flow.proofs.Reached as Reached
 use Rattle.flow.proofs.Keeping as Keeping
 use Rattle.flow.proofs.Rows as Rows
 use Rattle.flow.proofs.RowsWindows as RowsWindows
+use Rattle.flow.proofs.RowsBurst as RowsBurst
 use Rattle.flow.proofs.RowsExample.{exampleRows}
 use Rattle.flow.proofs.RowsExample as RowsExample
 
@@ -29,16 +31,16 @@ in-time-add D E r s u first second n = rw (← add-assoc) (le-trans (first n) (s
 pub uniform-is-smooth : (m Q : ℕ) (r : Flow) → Uniform m Q r → Smooth m Q r
 uniform-is-smooth = Windows.uniform-is-smooth
 
-pub keeps-smooth : (c : Class) (r : Flow) → Keeps c r → Smooth (c .interval) (c .quota) r
-keeps-smooth = Windows.keeps-smooth
-
 -- no window of n slots has more than the most that the class carries in n slots
-pub window : (c : Class) (r : Flow) → 1 ≤ c .interval → Keeps c r → (a n : ℕ) → total r (a + n) ≤ total r a + mostIn c n
+pub window : (c : Class) (r : Flow) → Positive c → Keeps c r → (a n : ℕ) → total r (a + n) ≤ total r a + mostIn c n
 window = Windows.window
 
 -- the flow keeps the changed class
-pub keeps-changed : (n : ℕ) (c : Class) (r : Flow) → 1 ≤ c .interval → Keeps c r → Keeps (changedTo n c) r
+pub keeps-changed : (n : ℕ) (c : Class) (r : Flow) → Positive c → Keeps c r → Keeps (changedTo n c) r
 keeps-changed = Windows.keeps-changed
+
+pub smooth-of-changed : (n : ℕ) (c : Class) (r : Flow) → Keeps (changedTo n c) r → Smooth n (changedQuota n c) r
+smooth-of-changed = Windows.smooth-of-changed
 
 -- a smooth flow is smooth over blocks of n slots too, with Q for each block of m that such a block meets
 pub smooth-changed : (m n Q : ℕ) (r : Flow) → 1 ≤ m → Smooth m Q r → Smooth n (blocksMet m n * Q) r
@@ -56,13 +58,18 @@ blocks-met-least = Reached.blocks-met-least
 pub blocks-met-whole : (m n : ℕ) → 1 ≤ m → 1 ≤ n → Divides m n → blocksMet m n ≡ n / m
 blocks-met-whole = Reached.blocks-met-whole
 
-pub envelope : (c : Class) (r : Flow) (R : ℕ) → 1 ≤ c .interval → c .quota ≤ c .interval * R → Keeps c r → Envelope (burst c) R r
+-- at a rate that carries the class, the burst and the rate's units are enough in every window
+pub envelope : (c : Class) (r : Flow) (R : ℕ) → Positive c → carries c R ≡ true → Keeps c r → Envelope (burstAt c R) R r
 envelope = Windows.envelope
+
+-- the burst does not fall as the rate falls
+pub burst-falls : (c : Class) (P R : ℕ) → Positive c → P ≤ R → carries c P ≡ true → burstAt c R ≤ burstAt c P
+burst-falls = Windows.burst-falls
 
 -- The test of a list of slots decides section 2.
 
-pub keeps-decided : (c : Class) (units : List ℕ) → 1 ≤ c .interval → (keepsClass c units ≡ true) ↔ Keeps c (flowOf units)
-keeps-decided = Keeping.keeps-decided
+pub keeps-decided : (c : Class) (units : List ℕ) → Positive c → (keepsClass c units ≡ true) ↔ Keeps c (flowOf units)
+keeps-decided c list = Keeping.keeps-decided list c
 
 -- Several rows (source document 003).
 
@@ -117,6 +124,32 @@ module _ (rows : ℕ → Row) (k : ℕ) (some : 1 ≤ k) (large : (i : ℕ) → 
   pub rows-envelope : (j P B : ℕ) → j < k → rows j .quota ≤ rows j .interval * P → ((n : ℕ) → 1 ≤ n → n ≤ rows j .interval → rowsMost rows k n ≤ B + n * P)
       → (n : ℕ) → rowsMost rows k n ≤ B + n * P
   rows-envelope = RowsWindows.rows-envelope rows k some large
+
+  -- the burst at a rate is the same whichever row with Q ≤ m·R is taken
+  pub rows-burst-any : (R i : ℕ) → i < k → rowCarried (rows i) R ≡ true → rowsBurst rows k R ≡ greatestOf (λ n. rowsMost rows k n - n * R) (rows i .interval)
+  rows-burst-any = RowsBurst.rows-burst-any rows k some large
+
+  -- with the rate's units it is enough for every number of slots
+  pub rows-burst-enough : (R : ℕ) → rowsCarried rows k R ≡ true → (n : ℕ) → rowsMost rows k n ≤ rowsBurst rows k R + n * R
+  rows-burst-enough = RowsBurst.rows-burst-enough rows k some large
+
+  -- and no more than such a row's quota
+  pub rows-burst-le : (R i : ℕ) → i < k → rowCarried (rows i) R ≡ true → rowsBurst rows k R ≤ rows i .quota
+  rows-burst-le = RowsBurst.rows-burst-le rows k some large
+
+-- no more than so many units a slot
+pub rows-at-most : (rows : ℕ → Row) (k q : ℕ) → 1 ≤ k → ((i : ℕ) → i < k → (1 ≤ rows i .interval) × (rows i .quota ≤ q)) → (n : ℕ) → rowsMost rows k n ≤ n * q
+rows-at-most = RowsWindows.rows-at-most
+
+-- a rate carries the rows where it reaches over a row's interval
+pub reach-carried : (rows : ℕ → Row) (k R : ℕ) → ((i : ℕ) → i < k → 1 ≤ rows i .interval) → rowsCarried rows k R ≡ ltb 0 (reach rows k R)
+reach-carried = RowsBurst.reach-carried
+
+pub reach-le : (rows : ℕ → Row) (k R m : ℕ) → ((i : ℕ) → i < k → rows i .interval ≤ m) → reach rows k R ≤ m
+reach-le = RowsBurst.reach-le
+
+pub burst-at-most : (rows : ℕ → Row) (k R b : ℕ) → ((n : ℕ) → n ≤ reach rows k R → rowsMost rows k n ≤ b) → rowsBurst rows k R ≤ b
+burst-at-most = RowsBurst.burst-at-most
 
 -- rows (1, 9), (3, 15), (12, 48): one slot by the first row, 8 by the second, 12 by the last, 16 by all three
 pub rows-example : (rowsMost exampleRows 3 1 ≡ 9) × (rowsMost exampleRows 3 8 ≡ 45) × (rowsMost exampleRows 3 12 ≡ 48) × (rowsMost exampleRows 3 16 ≡ 72)

@@ -1,8 +1,12 @@
 pub mod Laws
 pub mod Blocks
+pub mod Declarations
+pub mod ClassBounds
 mod Windows
 mod Reached
 mod Rows
 mod RowsWindows
+mod RowsBurst
+mod BoundTable
 pub mod RowsExample
 pub mod Keeping

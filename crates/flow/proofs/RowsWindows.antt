@@ -3,7 +3,7 @@
 use mathlib.Core.Path.{_≡_, ap}
 use mathlib.Core.Logic.{⊎-elim}
 use Prim.Native.Nat.{ℕ, zero, suc, _+_, _-_, _*_, _≤_, _<_}
-use native.Mathlib.Nat.{not-suc-le-zero, le-of-suc-le-suc, eq-or-lt-of-le, add-mul}
+use native.Mathlib.Nat.{not-suc-le-zero, le-of-suc-le-suc, eq-or-lt-of-le, add-mul, suc-mul, mul-le-mul-right}
 use native.Mathlib.Decide.{decLe}
 use native.Mathlib.Omega.{arith}
 use Rattle.quantity.specs.Sums.{total}
@@ -131,3 +131,15 @@ module _ (rows : ℕ → Row) (k : ℕ) (some : 1 ≤ k) (large : (i : ℕ) → 
                 let whole : suc n - m + m ≡ suc n = omega arith in
                 omega (arith, rows-any rows k large j less (suc n), below (suc n - m) (omega (arith, large j less)), add-mul (suc n - m) m P, ap (λ (x : ℕ). x * P) whole)
           ]
+
+-- no more than so many a slot
+pub rows-at-most : (rows : ℕ → Row) (k q : ℕ) → 1 ≤ k → ((i : ℕ) → i < k → (1 ≤ rows i .interval) × (rows i .quota ≤ q)) → (n : ℕ) → rowsMost rows k n ≤ n * q
+rows-at-most rows k q some each = from-below by-slots
+  where
+    by-slots : (n : ℕ) → ((j : ℕ) → j < n → rowsMost rows k j ≤ j * q) → rowsMost rows k n ≤ n * q
+    by-slots zero below = omega (arith, rows-none rows k)
+    by-slots (suc n) below =
+        let (large, few) = each 0 some in
+        let rest = suc n - rows 0 .interval in
+        let fewer : suc rest ≤ suc n = omega arith in
+        omega (arith, rows-any rows k (λ i less. each i less .0) 0 some (suc n), below rest (omega arith), mul-le-mul-right q fewer, suc-mul rest q)

@@ -1,7 +1,10 @@
 -- Windows, change of interval and envelope (source document 000, Theorem 1): whole intervals add up, and whole intervals cover a window.
+use mathlib.Core.Path.{_≡_}
+use mathlib.Core.Bool.{true}
 use Prim.Native.Nat.{ℕ, zero, suc, _+_, _-_, _*_, _/_, _%_, _≤_}
 use native.Mathlib.Nat.{add-zero, add-assoc, add-mul, zero-mul, suc-mul, mul-assoc, le-refl, mul-le-mul-left, mul-le-mul-right, mod-lt, div-add-mod', div-mul-le-self, lt-div-mul-add}
 use native.Mathlib.Omega.{arith}
+use borrow.Author.Tests.{leb-true}
 use Rattle.quantity.specs.Sums.{total}
 use Rattle.quantity.specs.Rounding.{roundUp}
 use Rattle.quantity.specs.Divisors.{gcd}
@@ -9,8 +12,9 @@ use Rattle.quantity.proofs.Sums.{total-le}
 use Rattle.quantity.proofs.Rounding.{round-up-enough, round-up-least}
 use Rattle.quantity.proofs.Divisors.{divides-multiple, divides-mod, multiples-apart, gcd-divides-left, gcd-divides-right}
 use Rattle.flow.specs.Flows.{Flow, Smooth, Uniform, Envelope}
-use Rattle.flow.specs.Classes.{Class, Keeps, KeepsKind, burst, mostIn, blocksMet, changedTo}
-use Rattle.flow.specs.declared.Kind.{Kind}
+use Rattle.flow.specs.Classes.{Class, smooth, uniform, rows, Positive, Keeps, mostIn, blocksMet, changedQuota, changedTo, carries, burstAt}
+use Rattle.flow.proofs.RowsWindows.{rows-window}
+use Rattle.flow.proofs.RowsBurst.{rows-envelope-of, rows-burst-falls}
 
 -- what rises by at most Q an interval rises by at most k·Q in k intervals
 intervals-le : (m Q : ℕ) (r : Flow) (a : ℕ) → ((k : ℕ) → total r (a + k * m + m) ≤ total r (a + k * m) + Q) → (k : ℕ) → total r (a + k * m) ≤ total r a + k * Q
@@ -55,45 +59,45 @@ smooth-changed m n Q r large keeps j k h =
 pub uniform-is-smooth : (m Q : ℕ) (r : Flow) → Uniform m Q r → Smooth m Q r
 uniform-is-smooth m Q r keeps j = keeps (j * m)
 
--- Each law by the two kinds.
-
-keeps-kind-smooth : (kind : Kind) (m Q : ℕ) (r : Flow) → KeepsKind kind m Q r → Smooth m Q r
-keeps-kind-smooth Kind.Smooth m Q r keeps = keeps
-keeps-kind-smooth Kind.Uniform m Q r keeps = uniform-is-smooth m Q r keeps
-
-pub keeps-smooth : (c : Class) (r : Flow) → Keeps c r → Smooth (c .interval) (c .quota) r
-keeps-smooth c r keeps = keeps-kind-smooth (c .kind) (c .interval) (c .quota) r keeps
-
-kind-window : (kind : Kind) (m Q : ℕ) (r : Flow) → 1 ≤ m → KeepsKind kind m Q r → (a n : ℕ) → total r (a + n) ≤ total r a + mostIn (record { kind = kind; interval = m; quota = Q }) n
-unfolding mostIn
-kind-window Kind.Smooth m Q r large keeps = smooth-window-le m Q r large keeps
-kind-window Kind.Uniform m Q r large keeps = uniform-window-le m Q r large keeps
-
-pub window : (c : Class) (r : Flow) → 1 ≤ c .interval → Keeps c r → (a n : ℕ) → total r (a + n) ≤ total r a + mostIn c n
-window c r large keeps = kind-window (c .kind) (c .interval) (c .quota) r large keeps
-
 -- shorter windows have no more
 uniform-of-window : (r : Flow) (n M : ℕ) → ((a : ℕ) → total r (a + n) ≤ total r a + M) → Uniform n M r
 uniform-of-window r n M most a k h = omega (arith, most a, total-le r {n = a + k} {m = a + n} (omega arith))
-
-kind-keeps-changed : (n : ℕ) (kind : Kind) (m Q : ℕ) (r : Flow) → 1 ≤ m → KeepsKind kind m Q r → Keeps (changedTo n (record { kind = kind; interval = m; quota = Q })) r
-unfolding changedTo
-kind-keeps-changed n Kind.Smooth m Q r large keeps = smooth-changed m n Q r large keeps
-kind-keeps-changed n Kind.Uniform m Q r large keeps = uniform-of-window r n (roundUp n m * Q) (λ a. uniform-window-le m Q r large keeps a n)
-
-pub keeps-changed : (n : ℕ) (c : Class) (r : Flow) → 1 ≤ c .interval → Keeps c r → Keeps (changedTo n c) r
-keeps-changed n c r large keeps = kind-keeps-changed n (c .kind) (c .interval) (c .quota) r large keeps
 
 rounded-le : (m Q R n : ℕ) → 1 ≤ m → Q ≤ m * R → roundUp n m * Q ≤ Q + n * R
 rounded-le m Q R n large slow =
     let least : roundUp n m ≤ n / m + 1 = round-up-least n m (n / m + 1) large (omega (arith, lt-div-mul-add {a = n} large, add-mul (n / m) 1 m)) in
     omega (arith, mul-le-mul-right Q least, add-mul (n / m) 1 Q, mul-le-mul-left (n / m) slow, mul-assoc (n / m) m R, mul-le-mul-right R (div-mul-le-self n m))
 
-kind-envelope : (kind : Kind) (m Q : ℕ) (r : Flow) (R : ℕ) → 1 ≤ m → Q ≤ m * R → KeepsKind kind m Q r → Envelope (burst (record { kind = kind; interval = m; quota = Q })) R r
-unfolding burst
-kind-envelope Kind.Smooth m Q r R large slow keeps a k =
-    omega (arith, smooth-window-le m Q r large keeps a k, add-mul (roundUp k m) 1 Q, rounded-le m Q R k large slow)
-kind-envelope Kind.Uniform m Q r R large slow keeps a k = omega (arith, uniform-window-le m Q r large keeps a k, rounded-le m Q R k large slow)
+-- Each law by the class.
 
-pub envelope : (c : Class) (r : Flow) (R : ℕ) → 1 ≤ c .interval → c .quota ≤ c .interval * R → Keeps c r → Envelope (burst c) R r
-envelope c r R large slow keeps = kind-envelope (c .kind) (c .interval) (c .quota) r R large slow keeps
+pub window : (c : Class) (r : Flow) → Positive c → Keeps c r → (a n : ℕ) → total r (a + n) ≤ total r a + mostIn c n
+unfolding mostIn
+window (smooth m Q) r large keeps = smooth-window-le m Q r large keeps
+window (uniform m Q) r large keeps = uniform-window-le m Q r large keeps
+window (rows given k) r large keeps = rows-window given k (large .0) (large .1) r keeps
+
+pub keeps-changed : (n : ℕ) (c : Class) (r : Flow) → Positive c → Keeps c r → Keeps (changedTo n c) r
+unfolding changedTo changedQuota
+keeps-changed n (smooth m Q) r large keeps = smooth-changed m n Q r large keeps
+keeps-changed n (uniform m Q) r large keeps = uniform-of-window r n (roundUp n m * Q) (λ a. uniform-window-le m Q r large keeps a n)
+keeps-changed n (rows given k) r large keeps = uniform-of-window r n _ (λ a. rows-window given k (large .0) (large .1) r keeps a n)
+
+pub smooth-of-changed : (n : ℕ) (c : Class) (r : Flow) → Keeps (changedTo n c) r → Smooth n (changedQuota n c) r
+unfolding changedTo
+smooth-of-changed n (smooth m Q) r keeps = keeps
+smooth-of-changed n (uniform m Q) r keeps = uniform-is-smooth n _ r keeps
+smooth-of-changed n (rows given k) r keeps = uniform-is-smooth n _ r keeps
+
+pub envelope : (c : Class) (r : Flow) (R : ℕ) → Positive c → carries c R ≡ true → Keeps c r → Envelope (burstAt c R) R r
+unfolding carries burstAt
+envelope (smooth m Q) r R large slow keeps a k =
+    omega (arith, smooth-window-le m Q r large keeps a k, add-mul (roundUp k m) 1 Q, rounded-le m Q R k large (leb-true _ _ slow))
+envelope (uniform m Q) r R large slow keeps a k = omega (arith, uniform-window-le m Q r large keeps a k, rounded-le m Q R k large (leb-true _ _ slow))
+envelope (rows given k) r R large slow keeps a n = rows-envelope-of given k (large .0) (large .1) R slow r keeps a n
+
+-- the burst does not fall as the rate falls
+pub burst-falls : (c : Class) (P R : ℕ) → Positive c → P ≤ R → carries c P ≡ true → burstAt c R ≤ burstAt c P
+unfolding carries burstAt
+burst-falls (smooth m Q) P R large slower slow = le-refl _
+burst-falls (uniform m Q) P R large slower slow = le-refl _
+burst-falls (rows given k) P R large slower slow = rows-burst-falls given k (large .0) (large .1) P R slower slow

@@ -1,56 +1,61 @@
--- Section 4's classes of flows: burst, change of interval and the most in a window, after source document 000, Theorem 1.
-use Prim.Native.Nat.{ℕ, _+_, _-_, _*_, _/_}
+-- Section 4's classes of flows, and the rows of document 02, item 6: what keeps one, the most in a window, the change of interval, the burst at a rate
+-- and whether a rate carries it, after source documents 000, Theorem 1, and 003. What is above goes by these definitions and their laws.
+use Prim.Native.Nat.{ℕ, _+_, _-_, _*_, _/_, _≤_, _<_}
+use mathlib.Core.Bool.{Bool}
+use lib.Dec.{leb}
 use Rattle.quantity.specs.Rounding.{roundUp}
 use Rattle.quantity.specs.Divisors.{gcd}
 use Rattle.flow.specs.Flows.{Flow, Smooth, Uniform}
-use Rattle.flow.specs.declared.Kind.{Kind}
+use Rattle.flow.specs.Rows.{Row, KeepsRows, rowsMost, rowsCarried, rowsBurst}
 
-pub record Class : Type 0 where
-  pub kind : Kind
-  pub interval : ℕ
-  pub quota : ℕ
+-- smooth (m, Q), uniform (m, Q), or the first k of rows
+pub data Class : Type 0 where
+  smooth : ℕ → ℕ → Class
+  uniform : ℕ → ℕ → Class
+  rows : (ℕ → Row) → ℕ → Class
 
-abbrev pub smooth : ℕ → ℕ → Class
-smooth m Q = record { kind = Kind.Smooth; interval = m; quota = Q }
-
-abbrev pub uniform : ℕ → ℕ → Class
-uniform m Q = record { kind = Kind.Uniform; interval = m; quota = Q }
-
-abbrev pub KeepsKind : Kind → ℕ → ℕ → Flow → Type 0
-KeepsKind Kind.Smooth m Q r = Smooth m Q r
-KeepsKind Kind.Uniform m Q r = Uniform m Q r
+-- every interval has a slot, and there is a row
+abbrev pub Positive : Class → Type 0
+Positive (smooth m Q) = 1 ≤ m
+Positive (uniform m Q) = 1 ≤ m
+Positive (rows given k) = (1 ≤ k) × ((i : ℕ) → i < k → 1 ≤ given i .interval)
 
 -- a flow of the class
 abbrev pub Keeps : Class → Flow → Type 0
-Keeps c r = KeepsKind (c .kind) (c .interval) (c .quota) r
+Keeps (smooth m Q) r = Smooth m Q r
+Keeps (uniform m Q) r = Uniform m Q r
+Keeps (rows given k) r = KeepsRows given k r
 
-burstOf : Kind → ℕ → ℕ
-burstOf Kind.Smooth Q = 2 * Q
-burstOf Kind.Uniform Q = Q
-
--- 2·Q for smooth, Q for uniform
-unfoldable pub burst : Class → ℕ
-unfolding burstOf
-burst c = burstOf (c .kind) (c .quota)
-
-mostOf : Kind → ℕ → ℕ → ℕ → ℕ
-mostOf Kind.Smooth m Q n = (roundUp n m + 1) * Q
-mostOf Kind.Uniform m Q n = roundUp n m * Q
-
--- the most that the class carries in n neighbouring slots: ⌈n/m⌉·Q for uniform and (⌈n/m⌉+1)·Q for smooth
+-- the most that the class carries in n neighbouring slots: (⌈n/m⌉+1)·Q for smooth, ⌈n/m⌉·Q for uniform, the bound for rows
 unfoldable pub mostIn : Class → ℕ → ℕ
-unfolding mostOf
-mostIn c n = mostOf (c .kind) (c .interval) (c .quota) n
+mostIn (smooth m Q) n = (roundUp n m + 1) * Q
+mostIn (uniform m Q) n = roundUp n m * Q
+mostIn (rows given k) n = rowsMost given k n
 
 -- how many blocks of m slots a block of n slots meets at the most: it begins at a multiple of the greatest common divisor within its block of m, so at m less that at the most
 unfoldable pub blocksMet : ℕ → ℕ → ℕ
 blocksMet m n = (m - gcd m n + n - 1) / m + 1
 
-changedOf : Kind → ℕ → ℕ → ℕ → Class
-changedOf Kind.Smooth m Q n = smooth n (blocksMet m n * Q)
-changedOf Kind.Uniform m Q n = uniform n (roundUp n m * Q)
+-- the quota behind a change of interval to n: c·Q, c the blocks met, for smooth; ⌈n/m⌉·Q for uniform; the bound at n for rows
+unfoldable pub changedQuota : ℕ → Class → ℕ
+changedQuota n (smooth m Q) = blocksMet m n * Q
+changedQuota n (uniform m Q) = roundUp n m * Q
+changedQuota n (rows given k) = rowsMost given k n
 
--- change of interval to n: smooth (m, Q) becomes smooth (n, c·Q), c the blocks met; uniform (m, Q) becomes uniform (n, ⌈n/m⌉·Q)
+-- change of interval to n: smooth stays smooth; uniform stays uniform, and rows become it
 unfoldable pub changedTo : ℕ → Class → Class
-unfolding changedOf
-changedTo n c = changedOf (c .kind) (c .interval) (c .quota) n
+changedTo n (smooth m Q) = smooth n (changedQuota n (smooth m Q))
+changedTo n (uniform m Q) = uniform n (changedQuota n (uniform m Q))
+changedTo n (rows given k) = uniform n (changedQuota n (rows given k))
+
+-- a rate carries the class: Q ≤ m·R, of one row at least
+unfoldable pub carries : Class → ℕ → Bool
+carries (smooth m Q) R = leb Q (m * R)
+carries (uniform m Q) R = leb Q (m * R)
+carries (rows given k) R = rowsCarried given k R
+
+-- the burst at a rate: 2·Q for smooth and Q for uniform, at any rate
+unfoldable pub burstAt : Class → ℕ → ℕ
+burstAt (smooth m Q) R = 2 * Q
+burstAt (uniform m Q) R = Q
+burstAt (rows given k) R = rowsBurst given k R

@@ -6,17 +6,18 @@ use lib.ListN.{length}
 use lib.Dec.{leb}
 use Rattle.quantity.specs.Sums.{total, every}
 use Rattle.flow.specs.Flows.{Flow, flowOf}
-use Rattle.flow.specs.Classes.{Class}
-use Rattle.flow.specs.declared.Kind.{Kind}
+use Rattle.flow.specs.Rows.{Row}
+use Rattle.flow.specs.Classes.{Class, smooth, uniform, rows}
 
--- the first slot of the block that slot t is in, or of the m neighbouring slots that end with it
-abbrev pub startOf : Kind → ℕ → ℕ → ℕ
-startOf Kind.Smooth m t = t / m * m
-startOf Kind.Uniform m t = suc t - m
+-- the slots from one to slot t total at most Q
+unfoldable pub totalsTo : ℕ → ℕ → Flow → ℕ → Bool
+totalsTo from Q r t = leb (total r (suc t)) (total r from + Q)
 
--- the slots from there to slot t total at most Q
+-- from the first slot of the block that slot t is in; of the m neighbouring slots that end with it; so of each row
 unfoldable pub keepsTo : Class → Flow → ℕ → Bool
-keepsTo c r t = leb (total r (suc t)) (total r (startOf (c .kind) (c .interval) t) + c .quota)
+keepsTo (smooth m Q) r t = totalsTo (t / m * m) Q r t
+keepsTo (uniform m Q) r t = totalsTo (suc t - m) Q r t
+keepsTo (rows given k) r t = every (λ i. totalsTo (suc t - given i .interval) (given i .quota) r t) k
 
 -- so at each slot of a list
 unfoldable pub keepsClass : Class → List ℕ → Bool

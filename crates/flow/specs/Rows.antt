@@ -1,6 +1,9 @@
 -- Document 02, item 6, after source document 003: a source with several rates. Each row is an interval and a quota, and a flow keeps all of them;
 -- the most that the rows allow in n slots.
-use Prim.Native.Nat.{ℕ, zero, suc, _+_, _-_, _*_, _<_, min}
+use Prim.Native.Nat.{ℕ, zero, suc, _+_, _-_, _*_, _<_, min, max}
+use mathlib.Core.Bool.{Bool, false}
+use lib.Dec.{leb}
+use Rattle.quantity.specs.Choice.{pick, either}
 use Rattle.quantity.specs.Rounding.{roundUp}
 use Rattle.flow.specs.Flows.{Flow, Uniform}
 
@@ -58,3 +61,26 @@ unitsIn (units a) = a
 -- the bound of one row or more as a number
 unfoldable pub rowsMost : (ℕ → Row) → ℕ → ℕ → ℕ
 rowsMost rows k n = unitsIn (mostOfRows rows k n)
+
+-- a row with Q ≤ m·R
+unfoldable pub rowCarried : Row → ℕ → Bool
+rowCarried row R = leb (row .quota) (row .interval * R)
+
+-- there is one among the first k rows
+unfoldable pub rowsCarried : (ℕ → Row) → ℕ → ℕ → Bool
+rowsCarried rows zero R = false
+rowsCarried rows (suc k) R = either (rowsCarried rows k R) (rowCarried (rows k) R)
+
+-- the interval of the first such row, 0 where there is none
+unfoldable pub reach : (ℕ → Row) → ℕ → ℕ → ℕ
+reach rows zero R = 0
+reach rows (suc k) R = pick (rowsCarried rows k R) (reach rows k R) (pick (rowCarried (rows k) R) (rows k .interval) 0)
+
+-- the greatest of f 1 to f n, never below 0
+unfoldable pub greatestOf : (ℕ → ℕ) → ℕ → ℕ
+greatestOf f zero = 0
+greatestOf f (suc n) = max (greatestOf f n) (f (suc n))
+
+-- the burst at a rate: the greatest of the most in n slots less n·R, over n from 1 to that row's m and never below 0
+unfoldable pub rowsBurst : (ℕ → Row) → ℕ → ℕ → ℕ
+rowsBurst rows k R = greatestOf (λ n. rowsMost rows k n - n * R) (reach rows k R)

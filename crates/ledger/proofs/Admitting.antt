@@ -7,14 +7,14 @@ use native.Mathlib.Nat.{div-le-self}
 use native.Mathlib.Decide.{decLt}
 use native.Mathlib.Omega.{arith}
 use lib.ListN.{length, getD, replicate, length-replicate, getD-replicate, List·getD-eq-default}
-use lib.Seq.{getD-take}
-use lib.Dec.{ltb}
+use lib.Seq.{getD-take, take-take, take-append-seam}
+use lib.Dec.{ltb, eqb}
 use borrow.Author.Tests.{lt-ltb, le-ltb, eq-eqb, ne-eqb}
 use Rattle.quantity.specs.Choice.{pick, both}
 use Rattle.quantity.specs.Rounding.{roundUp}
 use Rattle.quantity.specs.Limits.{largest32}
 use Rattle.quantity.specs.Quantities.{ratesSum}
-use Rattle.quantity.specs.Sums.{listOf}
+use Rattle.quantity.specs.Sums.{every, listOf}
 use Rattle.quantity.specs.Ranges.{inRange, linkRange, pathNumberRange}
 use Rattle.quantity.specs.Refusals.{firstOf}
 use Rattle.quantity.specs.declared.Rate.{Rate}
@@ -35,7 +35,8 @@ use Rattle.sheet.specs.declared.LinkedOperator.{LinkedOperator}
 use Rattle.sheet.specs.declared.PathValue.{PathValue}
 use Rattle.sheet.specs.declared.read.Verdict.{Verdict}
 use Rattle.sheet.proofs.Accepted.{sheet-path}
-use Rattle.sheet.proofs.Forms.{value-full}
+use Rattle.flow.specs.Declarations.{lastRow}
+use Rattle.flow.proofs.Declarations.{last-inside}
 use Rattle.figures.specs.Answers.{pathCases, pathDelay, refusedFigures, acceptedFigures, figuresOf}
 use Rattle.figures.specs.declared.PathFigures.{PathFigures}
 use Rattle.figures.proofs.Promise.{accepted-figures, accepted-none}
@@ -46,7 +47,7 @@ use Rattle.ledger.specs.Records.{numberAt, share, stands, placeAmong}
 use Rattle.ledger.specs.Ledgers.{linkCount, recordCount, capacityOf, totalOf, ledgerUnusable}
 use Rattle.ledger.specs.Admission.{rateOf, namesLink, rateOn, linksOf, recordOf, ledgerFull, linkShort, standingCases, bitsOf}
 use Rattle.ledger.specs.Steps.{rateAt, charged, namedBy, shortOf, Decidable, refusedAdmitting, acceptedAdmitting, admittingOf}
-use Rattle.ledger.proofs.Deciding.{declaration-in-range, count-few, total-le, capacity-le, stands-below}
+use Rattle.ledger.proofs.Deciding.{count-few, total-le, capacity-le, stands-below}
 use Rattle.ledger.proofs.Reserving.{share-at-most, listOf-same}
 use Rattle.ledger.proofs.Links.{share-named}
 
@@ -83,8 +84,8 @@ module _ (path : Path) (inside : pathInRange path ≡ true) where
   rate-le : rateOf path ≤ 66558
   unfolding rateOf roundUp
   rate-le =
-      let declared = declaration-in-range (path .declaration) (declaration-of-path path inside) in
-      omega (arith, div-le-self (path .declaration .quota .0 + (path .declaration .interval .0 - 1)) (path .declaration .interval .0))
+      let row = last-inside (path .declaration) (declaration-of-path path inside) in
+      omega (arith, row .short, row .few, div-le-self (lastRow (path .declaration) .quota + (lastRow (path .declaration) .interval - 1)) (lastRow (path .declaration) .interval))
 
 -- Sums of rates stay far below the largest number of their width.
 
@@ -107,6 +108,15 @@ module _ (ledger : Ledger) (records : List Record) (usable : ledgerUnusable ledg
 
 -- What the code finds of a path's value is what the definitions say of the path.
 
+-- the value of a path has its operators written out, and the links named go by them
+operators-full : (form : Form) (path : Path) → length (path .operators) ≤ 16 → inFull (valueOfPath form path) .operators ≡ path .operators
+unfolding inFull valueOfPath
+operators-full form path few = rw take-take (take-append-seam (path .operators) (replicate 16 noLinkedOperator))
+
+names-operators : (p q : Path) (link : ℕ) → p .operators ≡ q .operators → namesLink p link ≡ namesLink q link
+unfolding namesLink
+names-operators p q link same = ap (λ (operators : List LinkedOperator). not (every (λ k. not (eqb (getD operators k noLinkedOperator .link .0) link)) (length operators))) same
+
 module _ (path : Path) (value : PathValue) (same : value ≡ valueOfPath (value .form) path) where
   count-is : value .count ≡ length (path .operators)
   unfolding valueOfPath
@@ -116,7 +126,7 @@ module _ (path : Path) (value : PathValue) (same : value ≡ valueOfPath (value 
   unfolding valueOfPath
   declaration-is = ap (λ (p : PathValue). p .declaration) same
 
-  pub reserved-rate : {rate : Rate} → rate .0 ≡ roundUp (value .declaration .quota .0) (value .declaration .interval .0) → rate ≡ record { 0 = rateOf path }
+  pub reserved-rate : {rate : Rate} → rate .0 ≡ roundUp (lastRow (value .declaration) .quota) (lastRow (value .declaration) .interval) → rate ≡ record { 0 = rateOf path }
   unfolding rateOf
   reserved-rate rounded = ap (λ (n : ℕ). record { 0 = n }) (rw declaration-is at rounded)
 
@@ -124,8 +134,8 @@ module _ (path : Path) (value : PathValue) (same : value ≡ valueOfPath (value 
     named-link : (link : ℕ) → link < linkCount → getD named link false ≡ namesLink path link
     unfolding namedBy
     named-link link less =
-        let stood : inFull value ≡ path = ap inFull same ∙ value-full (value .form) path (rw (← count-is) few) in
-        ap (λ (links : List Bool). getD links link false) noted ∙ getD-listOf false (namesLink (inFull value)) linkCount link less ∙ ap (λ (l : Path). namesLink l link) stood
+        let stood : inFull value .operators ≡ path .operators = ap (λ (p : PathValue). inFull p .operators) same ∙ operators-full (value .form) path (rw (← count-is) few) in
+        ap (λ (links : List Bool). getD links link false) noted ∙ getD-listOf false (namesLink (inFull value)) linkCount link less ∙ names-operators (inFull value) path link stood
 
     pub named-bits : bitsOf (λ link. getD named link false) linkCount ≡ linksOf path
     unfolding bitsOf linksOf

@@ -10,7 +10,7 @@ use lib.Seq.{getD-set-same, getD-set-other}
 use borrow.Author.Count.{below-none, below-more}
 use borrow.Author.Tests.{leb-true, eqb-true, lt-ltb, le-ltb, eq-eqb, ne-eqb}
 use Rattle.quantity.specs.Choice.{pick}
-use Rattle.quantity.specs.Ranges.{Range, inRange, checkedIn, linkCapacityRange, checkedLinkCapacity, pathNumberRange, checkedPathNumber, linkRange, checkedLink, intervalRange, quotaRange}
+use Rattle.quantity.specs.Ranges.{Range, inRange, checkedIn, linkCapacityRange, checkedLinkCapacity, pathNumberRange, checkedPathNumber, linkRange, checkedLink}
 use Rattle.quantity.specs.Sums.{every, listOf}
 use Rattle.quantity.specs.declared.LinkCapacity.{LinkCapacity}
 use Rattle.quantity.specs.declared.Rate.{Rate}
@@ -22,8 +22,6 @@ use Rattle.quantity.specs.declared.CheckedLinkCapacity.{CheckedLinkCapacity}
 use Rattle.quantity.specs.declared.refusal.Refusal.the-variants.{Unusable, OutOfRange, PathNumberWrong}
 use Rattle.quantity.proofs.Laws.{pick-true, pick-false, picked-true, picked-false, least-le, le-largest}
 use Rattle.quantity.proofs.Sums.{term-le-total, every-next, every-at, length-listOf, getD-listOf, listOf-ext, both-true, every-fails}
-use Rattle.flow.specs.Declarations.{declarationInRange}
-use Rattle.flow.specs.declared.Declaration.{Declaration}
 use Rattle.sheet.specs.declared.read.Verdict.{Verdict}
 use Rattle.ledger.specs.declared.Ledger.{Ledger}
 use Rattle.ledger.specs.declared.opening.Clearing.{Clearing}
@@ -39,22 +37,6 @@ use Rattle.ledger.specs.Steps.{checkedOf, clearingOf, refusedClearing, r
 use Rattle.ledger.proofs.Numbers.{place-at-most, place-among, place-in-front}
 use Rattle.ledger.proofs.Testing.{tested as passing}
 use Rattle.ledger.proofs.UsableLedger.{usable-ledger}
-
--- a declaration in range, in plain facts
-pub record Declared (declared : Declaration) : Type 0 where
-  pub some : 1 ≤ declared .interval .0
-  pub interval-le : declared .interval .0 ≤ 1024
-  pub quota-le : declared .quota .0 ≤ 65535
-
-pub declaration-in-range : (declared : Declaration) → declarationInRange declared ≡ true → Declared declared
-unfolding declarationInRange
-declaration-in-range declared e =
-    let (interval, quota) = both-true (inRange intervalRange (declared .interval .0)) (inRange quotaRange (declared .quota .0)) e in
-    record {
-      some = least-le intervalRange (declared .interval .0) interval;
-      interval-le = le-largest intervalRange (declared .interval .0) interval;
-      quota-le = le-largest quotaRange (declared .quota .0) quota;
-    }
 
 -- a constructor's answer tells whether the value is in range, and then the value
 module _ {A : Type 0} (range : Range) (within : ℕ → A) (outside : A) (value : ℕ) {answer : A} (answered : answer ≡ checkedIn range within outside value) where

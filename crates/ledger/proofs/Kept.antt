@@ -102,7 +102,7 @@ module _ (capacities : List ℕ) (entries : Account) where
     number-first (inr (passed, later)) one = absurd (⊎-elim of-sheet of-ledger (first-of-each why (sheetCases sheet ++ pathCases (pathIn sheet)) standing later))
       where
         of-sheet : FirstIs (sheetCases sheet ++ pathCases (pathIn sheet)) why → ⊥
-        of-sheet first = let (low, high) = sheet-refusal sheet why first in omega arith
+        of-sheet first = let (low, range) = sheet-refusal sheet why first in ⊎-elim (λ high. omega arith) (λ beyond. omega arith) range
 
         of-ledger : FirstIs standing why → ⊥
         of-ledger (inl (stands, same)) = omega (arith, one, ap refusalNumber same)
@@ -115,7 +115,7 @@ module _ (capacities : List ℕ) (entries : Account) where
     full-first (inr (passed, later)) eleven = ⊎-elim (λ first. absurd (of-sheet first)) of-ledger (first-of-each why (sheetCases sheet ++ pathCases (pathIn sheet)) standing later)
       where
         of-sheet : FirstIs (sheetCases sheet ++ pathCases (pathIn sheet)) why → ⊥
-        of-sheet first = let (low, high) = sheet-refusal sheet why first in omega arith
+        of-sheet first = let (low, range) = sheet-refusal sheet why first in ⊎-elim (λ high. omega arith) (λ beyond. omega arith) range
 
         of-ledger : FirstIs standing why → length entries ≡ recordCount
         of-ledger (inl (stands, same)) = absurd (omega (arith, eleven, ap refusalNumber same))

@@ -6,14 +6,14 @@ use Prim.Native.Nat.{ℕ, zero, suc, _*_, _≤_}
 use native.Mathlib.Nat.{le-mul-of-pos-right}
 use native.Mathlib.Omega.{arith}
 use borrow.Author.Tests.{le-leb}
-use Rattle.quantity.specs.Ranges.{inRange, intervalRange, quotaRange, rateRange}
+use Rattle.quantity.specs.Ranges.{inRange, rateRange}
 use Rattle.quantity.specs.Rounding.{roundUp}
-use Rattle.quantity.proofs.Laws.{least-le, le-largest}
 use Rattle.quantity.proofs.Sums.{both-true}
 use Rattle.quantity.proofs.Rounding.{round-up-enough, round-up-least}
 use Rattle.quantity.proofs.Refusals.{NoneStands}
-use Rattle.flow.specs.Declarations.{declarationInRange}
-use Rattle.sheet.specs.Sheets.{sheetCases, pathIn, pathInRange}
+use Rattle.flow.specs.Declarations.{lastRow, declarationInRange}
+use Rattle.flow.proofs.Declarations.{last-inside}
+use Rattle.sheet.specs.Sheets.{sheetCases, pathIn, restInRange, pathInRange}
 use Rattle.sheet.proofs.Accepted.{sheet-path}
 use Rattle.ledger.specs.Admission.{rateOf}
 
@@ -29,13 +29,11 @@ round-up-le : (x y : ℕ) → 1 ≤ y → roundUp x y ≤ x
 round-up-le x y large = round-up-least x y x large (le-mul-of-pos-right x large)
 
 pub rate-inside : (sheet : List ℕ) → NoneStands (sheetCases sheet) → inRange rateRange (rateOf (pathIn sheet)) ≡ true
-unfolding inRange rateOf pathInRange declarationInRange
+unfolding inRange rateOf pathInRange
 rate-inside sheet none =
     let declaration = pathIn sheet .declaration in
-    let (declared, others) = both-true (declarationInRange declaration) _ (sheet-path sheet none .inside) in
-    let (interval, quota) = both-true (inRange intervalRange (declaration .interval .0)) (inRange quotaRange (declaration .quota .0)) declared in
-    let large = least-le intervalRange (declaration .interval .0) interval in
-    let some = least-le quotaRange (declaration .quota .0) quota in
-    let most = le-largest quotaRange (declaration .quota .0) quota in
-    rw (le-leb 1 (rateOf (pathIn sheet)) (round-up-some (declaration .quota .0) (declaration .interval .0) large some))
-    (le-leb (rateOf (pathIn sheet)) 65535 (omega (arith, most, round-up-le (declaration .quota .0) (declaration .interval .0) large)))
+    let (declared, others) = both-true (declarationInRange declaration) (restInRange (pathIn sheet)) (sheet-path sheet none .inside) in
+    let row = last-inside declaration declared in
+    let few = row .few in
+    rw (le-leb 1 (rateOf (pathIn sheet)) (round-up-some (lastRow declaration .quota) (lastRow declaration .interval) (row .large) (row .some)))
+    (le-leb (rateOf (pathIn sheet)) 65535 (omega (arith, few, round-up-le (lastRow declaration .quota) (lastRow declaration .interval) (row .large))))

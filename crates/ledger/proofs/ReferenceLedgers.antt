@@ -7,17 +7,17 @@ use lib.ListN.{replicate, set}
 use Rattle.quantity.specs.Sums.{total, every, listOf}
 use Rattle.quantity.specs.Rounding.{roundUp}
 use Rattle.quantity.specs.Divisors.{euclid, gcd}
-use Rattle.flow.specs.Declarations.{declarationInRange}
-use Rattle.flow.specs.Classes.{burst, mostIn, blocksMet, changedTo}
+use Rattle.flow.specs.Classes.{mostIn, blocksMet, changedQuota, carries, burstAt}
+use Rattle.flow.specs.Declarations.{rowCount, rowAt, lastRow, rowInRange, declarationInRange, rowsInOrder, cleared, classOf}
 use Rattle.operator.specs.Operators.{numberInRange}
 use Rattle.operator.specs.FilterPart.{slower}
 use Rattle.sheet.specs.Numbers.{valueOfBytes}
 use Rattle.sheet.specs.Bodies.{part, declarationIn, declarationFits, wantedIn, wantedFits, operatorOf, operatorIn, operatorInRange, operatorFits}
 use Rattle.sheet.specs.Fields.{bodyAt, fieldMissing, headerCutOff, fieldUnexpected, bodyCutOff, bodyOutOfRange}
 use Rattle.sheet.specs.Forms.{inFull, standsFor, valueOfPath}
-use Rattle.sheet.specs.Sheets.{furtherCases, inHouseForm, sheetCases, operatorsFrom, fieldsPath, valueIn, pathIn}
+use Rattle.sheet.specs.Sheets.{inRowsForm, rowsGiven, firstFormat, declaredIn, declarationCases, wantedAt, furtherCases, inHouseForm, sheetCases, operatorsFrom, fieldsPath, valueIn, pathIn}
 use Rattle.figures.specs.Progress.{behind, progressAt}
-use Rattle.figures.specs.Figures.{partCapacity, partDelay, capacity, ownDelay, pairs, isFramed, framedAfterFilter, changedQuota, figureTooLarge, rateTooLow}
+use Rattle.figures.specs.Figures.{partCapacity, partDelay, capacity, ownDelay, pairs, isFramed, framedAfterFilter, quotaBehind, figureTooLarge, rateTooLow}
 use Rattle.figures.specs.Answers.{operatorAt, before, pairedAt, capacityAt, delayAt, pathDelay, operatorsCases}
 use Rattle.quantity.specs.Ranges.{inRange}
 use Rattle.quantity.specs.Refusals.{refusalNumber, refusalPlace}
@@ -172,9 +172,9 @@ admitted = 1 ∷ 0 ∷ 7 ∷ 0 ∷ 0 ∷ 10 ∷ 0 ∷ 0 ∷ 0 ∷ 31 ∷ 2 ∷ 0
 
 pub reference-admission : admissionOf (links-of 1000 0 (totals-of 0 0 0)) (replicate 64 noRecord) 17 admitted
     ≡ record { verdict = Verdict.Accepted; ledger = links-of 1000 1 (totals-of 0 0 4); rate = record { 0 = 4 }; delay = record { 0 = 10 } }
-unfolding roundUp euclid gcd total every listOf inRange valueOfBytes part declarationInRange numberInRange declarationIn declarationFits wantedIn wantedFits operatorOf operatorIn operatorInRange operatorFits bodyAt fieldMissing headerCutOff fieldUnexpected bodyCutOff bodyOutOfRange furtherCases inHouseForm sheetCases operatorsFrom fieldsPath valueIn valueOfPath standsFor inFull pathIn burst mostIn blocksMet changedTo slower behind progressAt partCapacity partDelay capacity ownDelay pairs isFramed framedAfterFilter changedQuota figureTooLarge rateTooLow operatorAt before pairedAt capacityAt delayAt pathDelay operatorsCases rateOf namesLink rateOn bitsOf linksOf recordOf ledgerFull linkShort acceptedAdmission refusedAdmission admissionOf recordsAdmitted stands ledgerUnusable capacitiesFit recordFits recordInRange recordClear linkFits totalKept reserved share hasLink allDiffer among
+unfolding roundUp euclid gcd total every listOf inRange valueOfBytes part rowCount rowAt lastRow rowInRange declarationInRange rowsInOrder cleared inRowsForm rowsGiven firstFormat declaredIn declarationCases wantedAt numberInRange declarationIn declarationFits wantedIn wantedFits operatorOf operatorIn operatorInRange operatorFits bodyAt fieldMissing headerCutOff fieldUnexpected bodyCutOff bodyOutOfRange furtherCases inHouseForm sheetCases operatorsFrom fieldsPath valueIn valueOfPath standsFor inFull pathIn carries burstAt mostIn blocksMet classOf slower behind progressAt partCapacity partDelay capacity ownDelay pairs isFramed framedAfterFilter changedQuota quotaBehind figureTooLarge rateTooLow operatorAt before pairedAt capacityAt delayAt pathDelay operatorsCases rateOf namesLink rateOn bitsOf linksOf recordOf ledgerFull linkShort acceptedAdmission refusedAdmission admissionOf recordsAdmitted stands ledgerUnusable capacitiesFit recordFits recordInRange recordClear linkFits totalKept reserved share hasLink allDiffer among
 reference-admission = refl
 
 pub reference-admitted : recordsAdmitted (links-of 1000 0 (totals-of 0 0 0)) (replicate 64 noRecord) 17 admitted ≡ (entry 17 4 4 ∷ replicate 63 noRecord)
-unfolding roundUp euclid gcd total every listOf inRange valueOfBytes part declarationInRange numberInRange declarationIn declarationFits wantedIn wantedFits operatorOf operatorIn operatorInRange operatorFits bodyAt fieldMissing headerCutOff fieldUnexpected bodyCutOff bodyOutOfRange furtherCases inHouseForm sheetCases operatorsFrom fieldsPath valueIn valueOfPath standsFor inFull pathIn burst mostIn blocksMet changedTo slower behind progressAt partCapacity partDelay capacity ownDelay pairs isFramed framedAfterFilter changedQuota figureTooLarge rateTooLow operatorAt before pairedAt capacityAt delayAt pathDelay operatorsCases rateOf namesLink rateOn bitsOf linksOf recordOf ledgerFull linkShort acceptedAdmission refusedAdmission admissionOf recordsAdmitted stands ledgerUnusable capacitiesFit recordFits recordInRange recordClear linkFits totalKept reserved share hasLink allDiffer among
+unfolding roundUp euclid gcd total every listOf inRange valueOfBytes part rowCount rowAt lastRow rowInRange declarationInRange rowsInOrder cleared inRowsForm rowsGiven firstFormat declaredIn declarationCases wantedAt numberInRange declarationIn declarationFits wantedIn wantedFits operatorOf operatorIn operatorInRange operatorFits bodyAt fieldMissing headerCutOff fieldUnexpected bodyCutOff bodyOutOfRange furtherCases inHouseForm sheetCases operatorsFrom fieldsPath valueIn valueOfPath standsFor inFull pathIn carries burstAt mostIn blocksMet classOf slower behind progressAt partCapacity partDelay capacity ownDelay pairs isFramed framedAfterFilter changedQuota quotaBehind figureTooLarge rateTooLow operatorAt before pairedAt capacityAt delayAt pathDelay operatorsCases rateOf namesLink rateOn bitsOf linksOf recordOf ledgerFull linkShort acceptedAdmission refusedAdmission admissionOf recordsAdmitted stands ledgerUnusable capacitiesFit recordFits recordInRange recordClear linkFits totalKept reserved share hasLink allDiffer among
 reference-admitted = refl

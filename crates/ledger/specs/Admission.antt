@@ -12,6 +12,7 @@ use Rattle.quantity.specs.Refusals.{Case, _⇒_, firstOf}
 use Rattle.quantity.specs.declared.refusal.Refusal.{Refusal}
 use Rattle.quantity.specs.declared.refusal.Refusal.the-variants.{Unusable, PathNumberWrong, LedgerFull, LinkShort}
 use Rattle.sheet.specs.Paths.{Path, linkAt}
+use Rattle.flow.specs.Declarations.{lastRow}
 use Rattle.sheet.specs.Sheets.{pathIn}
 use Rattle.sheet.specs.declared.read.Verdict.{Verdict}
 use Rattle.figures.specs.Answers.{figuresCases, pathDelay}
@@ -21,9 +22,9 @@ use Rattle.ledger.specs.declared.admission.Admission.{Admission}
 use Rattle.ledger.specs.Records.{stands}
 use Rattle.ledger.specs.Ledgers.{recordCount, linkCount, capacityOf, totalOf, ledgerUnusable}
 
--- what a path reserves: ⌈Q/m⌉ of its declaration
+-- what a path reserves: ⌈Q/m⌉ of its declaration's last row
 unfoldable pub rateOf : Path → ℕ
-rateOf path = roundUp (path .declaration .quota .0) (path .declaration .interval .0)
+rateOf path = roundUp (lastRow (path .declaration) .quota) (lastRow (path .declaration) .interval)
 
 -- a path names a link if an operator of it is on the link, however many are
 unfoldable pub namesLink : Path → ℕ → Bool

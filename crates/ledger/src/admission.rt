@@ -27,7 +27,7 @@ ghost use Prim.Native.Nat.{ℕ, _≤_, _<_};
 ghost use lib.ListN.{getD};
 ghost use Rattle.quantity.specs.Rounding.{roundUp};
 ghost use Rattle.quantity.specs.Refusals.{firstOf};
-ghost use Rattle.flow.specs.Declarations.{declarationInRange};
+ghost use Rattle.flow.specs.Declarations.{lastRow, declarationInRange};
 ghost use Rattle.sheet.specs.Paths.{Path, noLinkedOperator};
 ghost use Rattle.sheet.specs.Forms.{valueOfPath};
 ghost use Rattle.sheet.specs.Sheets.{pathInRange};
@@ -138,13 +138,14 @@ fn decide_standing(
     }
 }
 
-// What a path reserves: ⌈Q/m⌉ of its declaration.
+// What a path reserves: ⌈Q/m⌉ of its declaration's last row.
 fn reserved_by(declaration: Declaration) -> Rate
     requires { ⌜ declarationInRange declaration ≡ true ⌝ }
-    ensures { λ r. ⌜ r .0 ≡ roundUp (declaration .quota .0) (declaration .interval .0) ⌝ }
+    ensures { λ r. ⌜ r .0 ≡ roundUp (lastRow declaration .quota) (lastRow declaration .interval) ⌝ }
 {
-    let interval = declaration.interval;
-    let quota = declaration.quota;
+    let row = declaration.last_row();
+    let interval = row.interval;
+    let quota = row.quota;
     Rate((quota.0 + (interval.0 - 1)) / interval.0)
 }
 

@@ -1,6 +1,9 @@
 pub mod MeterLaws
 pub mod Metering
+mod RingLaws
+mod Least
 mod UsableMeter
 pub mod PartsLaws
+mod EarlierRows
 mod MeterAnswers
 pub mod ReferenceMeters

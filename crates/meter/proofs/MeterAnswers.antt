@@ -7,43 +7,56 @@ use native.Mathlib.Omega.{arith}
 use lib.Dec.{ltb}
 use borrow.Author.Tests.{lt-ltb, le-ltb, not-false}
 use Rattle.quantity.specs.Choice.{either}
-use Rattle.quantity.specs.Limits.{largestAmount}
+use Rattle.quantity.specs.Limits.{largestAmount, lastSlot}
 use Rattle.quantity.specs.Refusals.{Case, _⇒_, firstOf}
 use Rattle.quantity.specs.declared.Units.{Units}
 use Rattle.quantity.specs.declared.refusal.Refusal.{Refusal}
-use Rattle.quantity.specs.declared.refusal.Refusal.the-variants.{Unusable, OutOfRange, InputBreaksDeclaration}
+use Rattle.quantity.specs.declared.refusal.Refusal.the-variants.{Unusable, OutOfRange, InputBreaksDeclaration, RowsOutOfOrder}
 use Rattle.quantity.proofs.Laws.{pick-true, pick-false, picked-false, pick-map, either-first}
-use Rattle.flow.specs.Declarations.{declarationInRange}
-use Rattle.meter.specs.Meter.{meterUnusable, countedBefore, inputBreaks, roomOf, meterOf, meterWordsAfter}
-use Rattle.meter.specs.Parts.{countedOf, withinQuota, notedOf, wordsNoted}
+use Rattle.flow.specs.Declarations.{declarationInRange, rowsInOrder}
+use Rattle.meter.specs.Meter.{meterUnusable, declarationCases, roomOf, meterNext, meterOf, meterWordsAfter}
+use Rattle.meter.specs.Parts.{inputsBelow, countedOf, notedOf, wordsNoted}
 use Rattle.meter.specs.declared.SourceMeter.{SourceMeter}
 use Rattle.meter.specs.declared.parts.Counted.{Counted}
+use Rattle.meter.specs.declared.parts.Counted.the-variants.{Below}
 use Rattle.meter.specs.declared.parts.Noted.{Noted}
+use Rattle.meter.specs.declared.Intake.{Intake}
 use Rattle.meter.specs.declared.Metered.{Metered}
 use Rattle.meter.specs.declared.Room.{Room}
-use Rattle.meter.proofs.PartsLaws.{within-breaks, noted-next}
+use Rattle.meter.proofs.UsableMeter.{usable-meter}
+use Rattle.meter.proofs.PartsLaws.{within-breaks, room-below, noted-next}
 
 abbrev countCases : SourceMeter → List ℕ → List Case
-countCases x words = (meterUnusable x words ⇒ Unusable) ∷ (not (declarationInRange (x .declaration)) ⇒ OutOfRange 0) ∷ []
+countCases x words = (meterUnusable x words ⇒ Unusable) ∷ declarationCases (x .declaration)
 
 -- what a count that a test stands against leads to, and any other
 abbrev countedThen : {A : Type 0} → (Refusal → A) → A → Counted → A
-countedThen refused rest (Counted.Before counted) = rest
+countedThen refused rest (Below end) = rest
 countedThen refused rest Counted.Unusable = refused Unusable
 countedThen refused rest Counted.OutOfRange = refused (OutOfRange 0)
+countedThen refused rest Counted.OutOfOrder = refused (RowsOutOfOrder 0)
+
+-- a refused input leaves the state
+abbrev pub refusedWith : SourceMeter → Refusal → Metered
+refusedWith x why = record { intake = Intake.Refused why; state = x }
+
+-- the state of the slot after, with so many units in its block
+abbrev stateAfter : SourceMeter → Units → SourceMeter
+stateAfter x block = record { declaration = x .declaration; slot = record { 0 = x .slot .0 + 1 }; block = block }
 
 -- what is answered of an input that is noted, or not
-abbrev pub meteredNoted : Noted → Metered
-meteredNoted (Noted.Next next) = Metered.Taken next
-meteredNoted Noted.Unfit = Metered.Refused Unusable
-meteredNoted Noted.OutOfRange = Metered.Refused (OutOfRange 0)
-meteredNoted Noted.AboveQuota = Metered.Refused InputBreaksDeclaration
+abbrev pub meteredNoted : SourceMeter → Noted → Metered
+meteredNoted x (Noted.Block block) = record { intake = Intake.Taken; state = stateAfter x block }
+meteredNoted x Noted.Unfit = refusedWith x Unusable
+meteredNoted x Noted.OutOfRange = refusedWith x (OutOfRange 0)
+meteredNoted x Noted.OutOfOrder = refusedWith x (RowsOutOfOrder 0)
 
 -- what is known of a meter that answered its count
-pub record Counting (x : SourceMeter) (words : List ℕ) (counted : ℕ) : Type 0 where
+pub record Counting (x : SourceMeter) (words : List ℕ) (end : ℕ) : Type 0 where
   pub tested : meterUnusable x words ≡ false
   pub in-range : declarationInRange (x .declaration) ≡ true
-  pub same : counted ≡ countedBefore x words
+  pub in-order : rowsInOrder (x .declaration) ≡ true
+  pub same : end ≡ inputsBelow x words
 
 module _ (x : SourceMeter) (words : List ℕ) where
   after-count : {A : Type 0} (refused : Refusal → A) (rest : A) {answer : Counted} → answer ≡ countedOf x words → countedThen refused rest answer ≡ firstOf (countCases x words) refused rest
@@ -52,20 +65,28 @@ module _ (x : SourceMeter) (words : List ℕ) where
       let then = countedThen refused rest in
       ap then answered
       ∙ pick-map then (meterUnusable x words) Counted.Unusable _
-      (pick-map then (not (declarationInRange (x .declaration))) Counted.OutOfRange (Counted.Before (record { 0 = countedBefore x words })) refl)
+      (pick-map then (not (declarationInRange (x .declaration))) Counted.OutOfRange _
+      (pick-map then (not (rowsInOrder (x .declaration))) Counted.OutOfOrder (Below (record { 0 = inputsBelow x words })) refl))
 
-  counting : {counted : Units} → Counted.Before counted ≡ countedOf x words → Counting x words (counted .0)
+  counting : {end : Units} → Below end ≡ countedOf x words → Counting x words (end .0)
   unfolding countedOf
-  counting {counted} answered =
+  counting {end} answered =
       let tested = picked-false (meterUnusable x words) _ _ answered (λ e. let never : _≡_ {A = ℕ} 0 1 = cc in omega arith) in
       let rest = answered ∙ pick-false _ _ _ tested in
       let inside = picked-false (not (declarationInRange (x .declaration))) _ _ rest (λ e. let never : _≡_ {A = ℕ} 0 1 = cc in omega arith) in
-      let same : counted ≡ record { 0 = countedBefore x words } = cc (rest ∙ pick-false _ _ _ inside) in
+      let rest = rest ∙ pick-false _ _ _ inside in
+      let rising = picked-false (not (rowsInOrder (x .declaration))) _ _ rest (λ e. let never : _≡_ {A = ℕ} 0 1 = cc in omega arith) in
+      let same : end ≡ record { 0 = inputsBelow x words } = cc (rest ∙ pick-false _ _ _ rising) in
       record {
         tested = tested;
         in-range = not-false (declarationInRange (x .declaration)) inside;
+        in-order = not-false (rowsInOrder (x .declaration)) rising;
         same = ap (λ (u : Units). u .0) same;
       }
+
+  -- past the first three tests, the fourth decides
+  passed-count : {A : Type 0} (refused : Refusal → A) (rest : A) {end : ℕ} → Counting x words end → firstOf (countCases x words) refused rest ≡ rest
+  passed-count refused rest known = pick-false _ _ _ (known .tested) ∙ pick-false _ _ _ (ap not (known .in-range)) ∙ pick-false _ _ _ (ap not (known .in-order))
 
   -- the room
   pub room-unusable : Counted.Unusable ≡ countedOf x words → Room.Refused Unusable ≡ roomOf x words
@@ -76,25 +97,32 @@ module _ (x : SourceMeter) (words : List ℕ) where
   unfolding roomOf
   room-outside answered = after-count Room.Refused _ answered
 
-  module _ {counted : Units} (answered : Counted.Before counted ≡ countedOf x words) where
-    pub room-none : x .declaration .quota .0 < counted .0 → Room.Refused InputBreaksDeclaration ≡ roomOf x words
-    unfolding roomOf inputBreaks
-    room-none above =
-        let known = counting answered in
-        rw (known .tested, known .in-range, lt-ltb (x .declaration .quota .0) (countedBefore x words + 0) (omega arith))
+  pub room-unordered : Counted.OutOfOrder ≡ countedOf x words → Room.Refused (RowsOutOfOrder 0) ≡ roomOf x words
+  unfolding roomOf
+  room-unordered answered = after-count Room.Refused _ answered
 
-    pub room-some : counted .0 ≤ x .declaration .quota .0 → Room.AtMost record { 0 = x .declaration .quota .0 - counted .0 } ≡ roomOf x words
-    unfolding roomOf inputBreaks
-    room-some within =
+  module _ {end : Units} (answered : Below end ≡ countedOf x words) where
+    pub room-none : end .0 ≡ 0 → Room.Refused InputBreaksDeclaration ≡ roomOf x words
+    unfolding roomOf
+    room-none none =
         let known = counting answered in
-        rw (known .tested, known .in-range, le-ltb (x .declaration .quota .0) (countedBefore x words + 0) (omega arith), known .same)
+        let breaks = sym (within-breaks x words 0 (known .in-range)) ∙ ap not (le-ltb 0 (inputsBelow x words) (omega (arith, known .same))) in
+        sym (passed-count Room.Refused _ known ∙ pick-true _ _ _ breaks)
+
+    pub room-some : (end .0 ≡ 0 → ⊥) → Room.AtMost record { 0 = end .0 - 1 } ≡ roomOf x words
+    unfolding roomOf
+    room-some some =
+        let known = counting answered in
+        let keeps = sym (within-breaks x words 0 (known .in-range)) ∙ ap not (lt-ltb 0 (inputsBelow x words) (omega (arith, known .same))) in
+        ap (λ (n : ℕ). Room.AtMost record { 0 = n }) (ap (λ (n : ℕ). n - 1) (known .same) ∙ sym (room-below x words))
+        ∙ sym (passed-count Room.Refused _ known ∙ pick-false _ _ _ keeps)
 
 module _ (x : SourceMeter) (words : List ℕ) (input : ℕ) where
   -- what is answered to an input, with the words after it
   abbrev pub Answers : Metered → List ℕ → Type 0
   Answers answer after = (answer ≡ meterOf x words input) × (after ≡ meterWordsAfter x words input)
 
-  pub take-above : largestAmount < input → Answers (Metered.Refused Unusable) words
+  pub take-above : largestAmount < input → Answers (refusedWith x Unusable) words
   unfolding meterOf meterWordsAfter
   take-above above =
       let test = either-first (ltb largestAmount input) (meterUnusable x words) (lt-ltb largestAmount input above) in
@@ -104,37 +132,43 @@ module _ (x : SourceMeter) (words : List ℕ) (input : ℕ) where
     first-test : either (ltb largestAmount input) (meterUnusable x words) ≡ meterUnusable x words
     first-test = rw (le-ltb largestAmount input small)
 
-    pub take-unusable : Counted.Unusable ≡ countedOf x words → Answers (Metered.Refused Unusable) words
+    -- what a count that a test stands against leads to
+    take-refused : (why : Refusal) {answer : Counted} → answer ≡ countedOf x words → ((A : Type 0) (refused : Refusal → A) (rest : A) → countedThen refused rest answer ≡ refused why)
+        → Answers (refusedWith x why) words
     unfolding meterOf meterWordsAfter
-    take-unusable answered = rw first-test (after-count x words Metered.Refused _ answered, after-count x words (λ why. words) _ answered)
+    take-refused why answered stands =
+        rw first-test
+        (sym (stands _ _ _) ∙ after-count x words (refusedWith x) _ answered, sym (stands _ _ _) ∙ after-count x words (λ why. words) _ answered)
 
-    pub take-outside : Counted.OutOfRange ≡ countedOf x words → Answers (Metered.Refused (OutOfRange 0)) words
-    unfolding meterOf meterWordsAfter
-    take-outside answered = rw first-test (after-count x words Metered.Refused _ answered, after-count x words (λ why. words) _ answered)
+    pub take-unusable : Counted.Unusable ≡ countedOf x words → Answers (refusedWith x Unusable) words
+    take-unusable answered = take-refused Unusable answered (λ A refused rest. refl)
 
-    module _ {counted : Units} (answered : Counted.Before counted ≡ countedOf x words) where
-      breaks-tested : not (withinQuota (x .declaration) (counted .0) input) ≡ inputBreaks x words input
-      breaks-tested =
-          ap (λ (n : ℕ). not (withinQuota (x .declaration) n input)) (counting x words answered .same) ∙ within-breaks x words input
+    pub take-outside : Counted.OutOfRange ≡ countedOf x words → Answers (refusedWith x (OutOfRange 0)) words
+    take-outside answered = take-refused (OutOfRange 0) answered (λ A refused rest. refl)
 
-      pub take-breaks : withinQuota (x .declaration) (counted .0) input ≡ false → Answers (Metered.Refused InputBreaksDeclaration) words
+    pub take-unordered : Counted.OutOfOrder ≡ countedOf x words → Answers (refusedWith x (RowsOutOfOrder 0)) words
+    take-unordered answered = take-refused (RowsOutOfOrder 0) answered (λ A refused rest. refl)
+
+    module _ {end : Units} (answered : Below end ≡ countedOf x words) where
+      -- the slot's number is within the last
+      pub slot-left : x .slot .0 ≤ lastSlot
+      slot-left = usable-meter x words (counting x words answered .tested) .slot-left
+
+      pub take-breaks : end .0 ≤ input → Answers (refusedWith x InputBreaksDeclaration) words
       unfolding meterOf meterWordsAfter
       take-breaks above =
           let known = counting x words answered in
-          let breaks = sym breaks-tested ∙ ap not above in (
-            sym (pick-false _ _ _ (first-test ∙ known .tested) ∙ pick-false _ _ _ (ap not (known .in-range)) ∙ pick-true _ _ _ breaks),
-            sym (pick-false _ _ _ (first-test ∙ known .tested) ∙ pick-false _ _ _ (ap not (known .in-range)) ∙ pick-true _ _ _ breaks),
-          )
+          let breaks = sym (within-breaks x words input (known .in-range)) ∙ ap not (le-ltb input (inputsBelow x words) (omega (arith, known .same))) in
+          rw first-test
+          (sym (passed-count x words (refusedWith x) _ known ∙ pick-true _ _ _ breaks), sym (passed-count x words (λ why. words) _ known ∙ pick-true _ _ _ breaks))
 
-      pub take-noted : withinQuota (x .declaration) (counted .0) input ≡ true → {answer : Noted} → answer ≡ notedOf x words (counted .0) input
-          → {after : List ℕ} → after ≡ wordsNoted x words (counted .0) input → Answers (meteredNoted answer) after
-      unfolding meterOf meterWordsAfter
+      pub take-noted : input < end .0 → {answer : Noted} → answer ≡ notedOf x words input → {after : List ℕ} → after ≡ wordsNoted x words input → Answers (meteredNoted x answer) after
+      unfolding meterOf meterWordsAfter meterNext
       take-noted within noted written =
           let known = counting x words answered in
-          let keeps = sym breaks-tested ∙ ap not within in
-          let (state, stored) = noted-next x words input (known .tested) (known .in-range) small keeps in (
-            ap meteredNoted (noted ∙ ap (λ (n : ℕ). notedOf x words n input) (known .same) ∙ state)
-                ∙ sym (pick-false _ _ _ (first-test ∙ known .tested) ∙ pick-false _ _ _ (ap not (known .in-range)) ∙ pick-false _ _ _ keeps),
-            written ∙ ap (λ (n : ℕ). wordsNoted x words n input) (known .same) ∙ stored
-                ∙ sym (pick-false _ _ _ (first-test ∙ known .tested) ∙ pick-false _ _ _ (ap not (known .in-range)) ∙ pick-false _ _ _ keeps),
+          let keeps = sym (within-breaks x words input (known .in-range)) ∙ ap not (lt-ltb input (inputsBelow x words) (omega (arith, known .same))) in
+          let (state, stored) = noted-next x words input (known .tested) (known .in-range) (known .in-order) small in
+          rw first-test (
+            ap (meteredNoted x) (noted ∙ state) ∙ sym (passed-count x words (refusedWith x) _ known ∙ pick-false _ _ _ keeps),
+            written ∙ stored ∙ sym (passed-count x words (λ why. words) _ known ∙ pick-false _ _ _ keeps),
           )

@@ -1,41 +1,72 @@
--- The meter (section 2): what it stores is a function of the inputs it took, so the units that count with an input are those from the start of
--- the block or window that ends with its slot; and an input keeps the declaration just where that one block or window does.
-use mathlib.Core.Path.{_≡_, refl, sym, _∙_}
-use mathlib.Core.Bool.{Bool, true, false, not}
+-- The meter (section 2; document 02, item 6): what it stores is a function of the inputs it took, so the units that count with an input in a row are those from the
+-- start of the block or window that ends with its slot; and an input keeps the declaration just where that one block or window of each row does.
+use mathlib.Core.Path.{_≡_, refl, sym, ap, _∙_}
+use mathlib.Core.Bool.{Bool, true, false, not, true≢false}
 use mathlib.Core.List.{List, [], _∷_, _++_}
 use mathlib.Core.Logic.{_↔_}
 use Prim.Native.Nat.{ℕ, zero, suc, _+_, _-_, _*_, _/_, _%_, _≤_, _<_}
-use native.Mathlib.Nat.{add-zero, add-suc, add-mul, zero-mod, mod-lt, mod-eq-of-lt, add-mod-left, le-refl, le-dest, mul-le-mul-right, div-add-mod', div-lt-iff-lt-mul, div-mul-le-self}
+use native.Mathlib.Nat.{add-zero, add-suc, sub-zero, add-mul, zero-mod, mod-lt, mod-eq-of-lt, add-mod-left, le-refl, mul-le-mul-right, div-add-mod', div-lt-iff-lt-mul, div-mul-le-self}
 use native.Mathlib.Numerals.{add-one}
-use native.Mathlib.Decide.{ℕ-discrete, decLe}
+use native.Mathlib.Decide.{ℕ-discrete, decLe, decLt}
 use native.Mathlib.Omega.{arith}
 use lib.ListN.{length, replicate, length-append, length-replicate, getD-replicate, List·getD-append, List·getD-eq-default}
 use lib.Seq.{getD-at}
 use lib.Dec.{leb, ltb, eqb}
-use borrow.Author.Tests.{not-false, ltb-false, eq-eqb, ne-eqb, le-ltb, le-leb}
+use borrow.Author.Tests.{not-false, ltb-false, eq-eqb, ne-eqb, le-ltb, leb-true, le-leb}
 use Rattle.quantity.specs.Choice.{pick, either}
 use Rattle.quantity.specs.Limits.{largestAmount, lastSlot}
 use Rattle.quantity.specs.Sums.{total, listOf}
 use Rattle.quantity.specs.declared.refusal.Refusal.the-variants.{InputBreaksDeclaration}
-use Rattle.quantity.proofs.Sums.{total-suc, total-next, total-le, total-none, total-same, total-le-end, total-changed, term-le-total, every-holds, length-listOf, getD-listOf}
-use Rattle.flow.specs.Declarations.{declarationInRange, classOf}
-use Rattle.flow.specs.Flows.{Flow, flowOf, Smooth}
-use Rattle.flow.specs.Classes.{KeepsKind, Keeps}
-use Rattle.flow.specs.Keeping.{startOf}
-use Rattle.meter.specs.Meter.{meterWordCount, usesBlock, meterWordsUsed, meterUnusable, countsWith, countedBefore, inputBreaks, meterNext, meterWordNext, meterOf, meterWordsAfter}
+use Rattle.quantity.proofs.Laws.{pick-false, either-false}
+use Rattle.quantity.proofs.Sums.{total-zero, total-suc, total-next, total-le, total-none, total-same, total-le-end, every-at, every-holds, length-listOf, getD-listOf}
+use Rattle.flow.specs.Rows.{Row}
+use Rattle.flow.specs.Declarations.{rowCount, rowAt, declarationInRange, rowsInOrder, unusedClear, classOf}
+use Rattle.flow.specs.Flows.{Flow, flowOf, Smooth, Uniform}
+use Rattle.flow.specs.Classes.{Keeps}
+use Rattle.meter.specs.Meter.{meterWordCount, usesBlock, ringLength, meterUnusable, blockBefore, wordBefore, countedBefore, inputBreaks, blockNext, meterNext, meterWordNext, meterOf, meterWordsAfter}
 use Rattle.meter.specs.Metering.{Fed, newMeter, offered, offeredAll}
 use Rattle.meter.specs.Words.{latestInput, wordTaken}
 use Rattle.words.specs.Stored.{wordAt, storedFits, wordFits}
 use Rattle.flow.specs.declared.Kind.{Kind}
 use Rattle.flow.specs.declared.Declaration.{Declaration}
-use Rattle.meter.specs.declared.Metered.{Metered}
+use Rattle.meter.specs.declared.SourceMeter.{SourceMeter}
+use Rattle.meter.specs.declared.Intake.{Intake}
 use Rattle.flow.proofs.Blocks.{same-block}
-use Rattle.flow.proofs.Keeping.{keeps-last}
-use Rattle.meter.proofs.UsableMeter.{declaration-ranged}
+use Rattle.flow.proofs.Declarations.{one-at}
+use Rattle.flow.proofs.Keeping.{uniform-last}
+use Rattle.meter.proofs.UsableMeter.{Ranged, declaration-ranged, smooth-one, block-interval, ring-none, ring-large, ring-fits, row-within-ring, counted-block, counted-words, usable-meter, meter-usable}
 
-start-le : (kind : Kind) (m t : ℕ) → 1 ≤ m → startOf kind m t ≤ t
-start-le Kind.Smooth m t large = div-mul-le-self t m
-start-le Kind.Uniform m t large = omega arith
+-- A row kept by blocks, or by windows.
+
+abbrev KeepsRow : Bool → Row → Flow → Type 0
+KeepsRow true row r = Smooth (row .interval) (row .quota) r
+KeepsRow false row r = Uniform (row .interval) (row .quota) r
+
+-- the first slot of the block that slot t is in, or of the m neighbouring slots that end with it
+abbrev startOf : Bool → ℕ → ℕ → ℕ
+startOf true m t = t / m * m
+startOf false m t = suc t - m
+
+start-le : (blocks : Bool) (m t : ℕ) → 1 ≤ m → startOf blocks m t ≤ t
+start-le true m t large = div-mul-le-self t m
+start-le false m t large = omega arith
+
+-- a declaration is kept where each of its rows is
+keeps-rows : (declared : Declaration) (r : Flow) → Keeps (classOf declared) r ↔ ((i : ℕ) → i < rowCount declared → KeepsRow (usesBlock (declared .kind)) (rowAt declared i) r)
+unfolding classOf rowCount rowAt usesBlock
+keeps-rows declared r = by-kind (declared .kind) refl
+  where
+    by-kind : (kind : Kind) → declared .kind ≡ kind → Keeps (classOf declared) r ↔ ((i : ℕ) → i < rowCount declared → KeepsRow (usesBlock (declared .kind)) (rowAt declared i) r)
+    by-kind Kind.Smooth e = rw e (λ keeps i less. keeps, λ each. each 0 (omega arith))
+    by-kind Kind.Uniform e = rw e (λ keeps i less. keeps, λ each. each 0 (omega arith))
+    by-kind Kind.Rows e = rw e (λ keeps. keeps, λ each. each)
+
+smooth-last : (m Q t : ℕ) (r : Flow) → 1 ≤ m → Smooth m Q r → total r (suc t) ≤ total r (t / m * m) + Q
+smooth-last m Q t r large keeps = rw (add-suc, div-add-mod') at (keeps (t / m) (suc (t % m)) (mod-lt t large))
+
+row-last : (blocks : Bool) (row : Row) (t : ℕ) (r : Flow) → 1 ≤ row .interval → KeepsRow blocks row r → total r (suc t) ≤ total r (startOf blocks (row .interval) t) + row .quota
+row-last true row t r large keeps = smooth-last (row .interval) (row .quota) t r large keeps
+row-last false row t r large keeps = uniform-last (row .interval) (row .quota) t r keeps
 
 -- What a meter stores after t slots of a flow r.
 
@@ -115,157 +146,177 @@ module _ (m : ℕ) (r : Flow) where
     block-units-le : (Q : ℕ) → Smooth m Q r → (t : ℕ) → blockUnits m r t ≤ Q
     unfolding blockUnits
     block-units-le Q keeps zero = omega arith
-    block-units-le Q keeps (suc t) = omega (arith, block-counts t, keeps-last m Q t r large Kind.Smooth keeps, total-suc r t)
+    block-units-le Q keeps (suc t) = omega (arith, block-counts t, smooth-last m Q t r large keeps, total-suc r t)
 
     -- no slot's number leaves m or more
     latest-beyond : (t j : ℕ) → m ≤ j → latestInput m r t j ≡ 0
     latest-beyond t j past = latest-none t j (λ i less. omega (arith, mod-lt i large))
 
-    -- the word that slot t's input replaces is slot t − m's, 0 where there is none
-    latest-replaced : (t i : ℕ) → m + i ≡ t → latestInput m r t (t % m) ≡ r i
-    latest-replaced t i e =
-        let (d, whole) = le-dest large in
-        let left : t % m ≡ i % m = rw (← e) (add-mod-left m i) in
-        let next : t ≡ suc (i + d) = omega arith in
-        rw (left, next) (latest-stands i d (omega arith))
+-- A ring's words by age: word a is the input of a + 1 slots ago.
+module _ (ring t : ℕ) (r : Flow) (words : List ℕ) (large : 1 ≤ ring) (each : (j : ℕ) → j < ring → wordAt words j ≡ latestInput ring r t j) where
+  age-input : (a : ℕ) → a < ring → wordBefore ring t words a + total r (t - suc a) ≡ total r (t - a)
+  unfolding wordBefore
+  age-input a young = by-place (decLt a t)
+    where
+      by-place : Dec (a < t) → wordAt words ((t + ring - suc a) % ring) + total r (t - suc a) ≡ total r (t - a)
+      by-place (yes since) =
+          let i = t - suc a in
+          let round : t + ring - suc a ≡ ring + i = omega arith in
+          let place : (t + ring - suc a) % ring ≡ i % ring = ap (λ (n : ℕ). n % ring) round ∙ add-mod-left ring i in
+          let now : t ≡ suc (i + a) = omega arith in
+          let next : t - a ≡ suc i = omega arith in
+          let stands : latestInput ring r t (i % ring) ≡ r i = ap (λ (n : ℕ). latestInput ring r n (i % ring)) now ∙ latest-stands ring r i a young in
+          rw (place, next) (omega (arith, each (i % ring) (mod-lt i large), stands, total-suc r i))
+      by-place (no none) =
+          let place : (t + ring - suc a) % ring ≡ t + ring - suc a = mod-eq-of-lt {n = t + ring - suc a} {m = ring} (omega arith) in
+          let start : t - suc a ≡ t - a = omega arith in
+          let nothing : latestInput ring r t (t + ring - suc a) ≡ 0 = latest-none ring r t (t + ring - suc a) (λ i less. omega (arith, mod-eq-of-lt {n = i} {m = ring} (omega arith))) in
+          rw (place, start) (omega (arith, each (t + ring - suc a) (omega arith), nothing))
 
-    latest-first : (t : ℕ) → t < m → latestInput m r t (t % m) ≡ 0
-    latest-first t early =
-        latest-none t (t % m) (λ i less. omega (arith, mod-eq-of-lt early, mod-eq-of-lt {n = i} {m = m} (omega arith)))
+  -- so the words of the last n slots are their inputs
+  ages-total : (n : ℕ) → n ≤ ring → total (wordBefore ring t words) n + total r (t - n) ≡ total r t
+  ages-total zero few = rw sub-zero (omega (arith, total-zero (wordBefore ring t words)))
+  ages-total (suc n) few = omega (arith, total-suc (wordBefore ring t words) n, age-input n few, ages-total n (omega arith))
 
-    latest-leaves : (t : ℕ) → latestInput m r t (t % m) + total r (t - m) ≡ total r (suc t - m)
-    latest-leaves t = by-place (decLe m t)
-      where
-        by-place : Dec (m ≤ t) → latestInput m r t (t % m) + total r (t - m) ≡ total r (suc t - m)
-        by-place (yes h) =
-            let next : suc t - m ≡ suc (t - m) = omega arith in
-            rw next (omega (arith, latest-replaced t (t - m) (omega arith), total-suc r (t - m)))
-        by-place (no h) =
-            let same : suc t - m ≡ t - m = omega arith in
-            rw same (omega (arith, latest-first t (omega arith)))
-
-    -- the words' sum is the last m inputs
-    latest-total : (t : ℕ) → total (latestInput m r t) m + total r (t - m) ≡ total r t
-    unfolding latestInput
-    latest-total zero = let none : 0 - m ≡ 0 = omega arith in rw none (omega (arith, total-none m))
-    latest-total (suc t) =
-        omega (
-          arith,
-          total-changed (latestInput m r (suc t)) (latestInput m r t) (t % m) (latest-unchanged t) m (mod-lt t large),
-          latest-written t,
-          latest-leaves t,
-          latest-total t,
-          total-suc r t,
-        )
-
--- A flow that keeps the class before slot t, and one that agrees with it there and has nothing after slot t.
-module _ (m Q t : ℕ) (r s : Flow) (large : 1 ≤ m) (same : (i : ℕ) → i < t → r i ≡ s i) (rest : (i : ℕ) → t < i → s i ≡ 0) where
+-- A flow that keeps a row before slot t, and one that agrees with it there and has nothing after slot t.
+module _ (row : Row) (t : ℕ) (r s : Flow) (large : 1 ≤ row .interval) (same : (i : ℕ) → i < t → r i ≡ s i) (rest : (i : ℕ) → t < i → s i ≡ 0) where
   total-before : (n : ℕ) → n ≤ t → total r n ≡ total s n
   total-before n h = total-same r s n (λ i less. same i (omega arith))
 
   -- if the slots from start to t have at most Q, so have those from a to b − 1: they are before slot t, or start no earlier
-  between-le : (start a b : ℕ) → total s (suc t) ≤ total s start + Q → a ≤ b → total r b ≤ total r a + Q → (t < b → start ≤ a) → total s b ≤ total s a + Q
+  between-le : (start a b : ℕ) → total s (suc t) ≤ total s start + row .quota → a ≤ b → total r b ≤ total r a + row .quota → (t < b → start ≤ a) → total s b ≤ total s a + row .quota
   between-le start a b last h before past = by-place (decLe b t)
     where
-      by-place : Dec (b ≤ t) → total s b ≤ total s a + Q
+      by-place : Dec (b ≤ t) → total s b ≤ total s a + row .quota
       by-place (yes early) = omega (arith, total-before b early, total-before a (omega arith))
       by-place (no late) = omega (arith, total-le-end s (suc t) rest b, total-le s (past (omega arith)))
 
-  keeps-next : (kind : Kind) → KeepsKind kind m Q r → total s (suc t) ≤ total s (startOf kind m t) + Q → KeepsKind kind m Q s
-  keeps-next Kind.Smooth keeps last =
+  keeps-next : (blocks : Bool) → KeepsRow blocks row r → total s (suc t) ≤ total s (startOf blocks (row .interval) t) + row .quota → KeepsRow blocks row s
+  keeps-next true keeps last =
+      let m = row .interval in
       λ j k h.
       between-le (t / m * m) (j * m) (j * m + k) last (omega arith) (keeps j k h)
       (λ past. mul-le-mul-right m (omega (arith, div-lt-iff-lt-mul {x = t} {y = j + 1} large .1 (omega (arith, add-mul j 1 m)))))
-  keeps-next Kind.Uniform keeps last = λ a k h. between-le (suc t - m) a (a + k) last (omega arith) (keeps a k h) (λ past. omega arith)
+  keeps-next false keeps last = λ a k h. between-le (suc t - row .interval) a (a + k) last (omega arith) (keeps a k h) (λ past. omega arith)
 
-  -- one more slot keeps the class just where its units and those that count with them are within the quota
-  keeps-iff : (kind : Kind) (counted input : ℕ) → counted + total r (startOf kind m t) ≡ total r t → s t ≡ input → KeepsKind kind m Q r
-      → (counted + input ≤ Q) ↔ KeepsKind kind m Q s
-  keeps-iff kind counted input e here keeps =
-      let start = total-before (startOf kind m t) (start-le kind m t large) in
+  -- one more slot keeps the row just where its units and those that count with them are within the quota
+  keeps-iff : (blocks : Bool) (counted input : ℕ) → counted + total r (startOf blocks (row .interval) t) ≡ total r t → s t ≡ input → KeepsRow blocks row r
+      → (counted + input ≤ row .quota) ↔ KeepsRow blocks row s
+  keeps-iff blocks counted input e here keeps =
+      let start = total-before (startOf blocks (row .interval) t) (start-le blocks (row .interval) t large) in
       let end = total-before t (le-refl t) in
-      (λ h. keeps-next kind keeps (omega (arith, total-suc s t)), λ h. omega (arith, total-suc s t, keeps-last m Q t s large kind h))
+      (λ h. keeps-next blocks keeps (omega (arith, total-suc s t)), λ h. omega (arith, total-suc s t, row-last blocks row t s large h))
 
--- By the two kinds: a meter's block and words after t slots of a flow.
+-- A meter's block and words after t slots of a flow.
 
-abbrev storedBlock : Kind → ℕ → Flow → ℕ → ℕ
-storedBlock kind m r t = pick (usesBlock kind) (blockUnits m r t) 0
+abbrev storedBlock : Declaration → Flow → ℕ → ℕ
+storedBlock declared r t = pick (usesBlock (declared .kind)) (blockUnits (declared .interval .0) r t) 0
 
-abbrev storedWord : Kind → ℕ → Flow → ℕ → ℕ → ℕ
-storedWord kind m r t j = pick (usesBlock kind) 0 (latestInput m r t j)
+abbrev storedWord : Declaration → Flow → ℕ → ℕ → ℕ
+storedWord declared r t j = pick (usesBlock (declared .kind)) 0 (latestInput (ringLength declared) r t j)
 
-module _ (m t : ℕ) (r : Flow) (words : List ℕ) where
-  counted-total : (kind : Kind) → 1 ≤ m → m ≤ meterWordCount → ((j : ℕ) → j < meterWordCount → wordAt words j ≡ storedWord kind m r t j)
-      → countsWith kind m t (storedBlock kind m r t) words + total r (startOf kind m t) ≡ total r t
-  unfolding usesBlock countsWith
-  counted-total Kind.Smooth large fits each = block-counts m r large t
-  counted-total Kind.Uniform large fits each =
-      omega (
-        arith,
-        total-same (wordAt words) (latestInput m r t) m (λ j less. each j (omega arith)),
-        each (t % m) (omega (arith, mod-lt t large)),
-        term-le-total (latestInput m r t) m (t % m) (mod-lt t large),
-        latest-leaves m r large t,
-        latest-total m r large t,
-      )
+module _ (x : SourceMeter) (words : List ℕ) (r : Flow) where
+  abbrev declared : Declaration
+  declared = x .declaration
 
-  module _ (input : ℕ) (s : Flow) (same : (i : ℕ) → i < t → r i ≡ s i) (here : s t ≡ input) where
-    block-next : (kind : Kind) → pick (usesBlock kind) (countsWith kind m t (storedBlock kind m r t) words + input) 0 ≡ storedBlock kind m s (t + 1)
-    unfolding usesBlock countsWith blockUnits
-    block-next Kind.Smooth = rw (add-one, ← block-units-same m r s t same, here)
-    block-next Kind.Uniform = refl
+  module _ (ranged : Ranged declared) (ordered : rowsInOrder declared ≡ true) (block : x .block .0 ≡ storedBlock declared r (x .slot .0))
+      (each : (j : ℕ) → j < meterWordCount → wordAt words j ≡ storedWord declared r (x .slot .0) j) where
+    -- what counts in a row is what came from the start of its block or window on
+    counted-total : (blocks : Bool) → usesBlock (declared .kind) ≡ blocks → (i : ℕ) → i < rowCount declared
+        → countedBefore x words i + total r (startOf blocks (rowAt declared i .interval) (x .slot .0)) ≡ total r (x .slot .0)
+    unfolding blockBefore
+    counted-total true smooth i less =
+        let row = one-at declared (smooth-one (declared .kind) smooth) i in
+        rw (counted-block x words smooth i, row, block, smooth) (block-counts (declared .interval .0) r (block-interval declared smooth ranged) (x .slot .0))
+    counted-total false ring i less =
+        let m = rowAt declared i .interval in
+        let start : x .slot .0 - (m - 1) ≡ suc (x .slot .0) - m = omega (arith, ranged .large i less) in
+        let word : (j : ℕ) → j < ringLength declared → wordAt words j ≡ latestInput (ringLength declared) r (x .slot .0) j =
+        λ j near. each j (omega (arith, ring-fits declared ring ranged)) ∙ pick-false _ _ _ ring in
+        rw (counted-words x words ring i, ← start)
+        (ages-total (ringLength declared) (x .slot .0) r words (ring-large declared ring ranged) word (m - 1) (omega (arith, row-within-ring declared ring ranged ordered i less)))
 
-    word-next : (kind : Kind) (j : ℕ) → wordAt words j ≡ storedWord kind m r t j
-        → pick (usesBlock kind) (wordAt words j) (pick (eqb j (t % m)) input (wordAt words j)) ≡ storedWord kind m s (t + 1) j
-    unfolding usesBlock latestInput
-    word-next Kind.Smooth j each = each
-    word-next Kind.Uniform j each = rw (add-one, ← latest-input-same m r s t j same, here, each)
+  module _ (input : ℕ) (s : Flow) (same : (i : ℕ) → i < x .slot .0 → r i ≡ s i) (here : s (x .slot .0) ≡ input) where
+    block-next : x .block .0 ≡ storedBlock declared r (x .slot .0) → blockNext x input ≡ storedBlock declared s (x .slot .0 + 1)
+    unfolding blockNext blockBefore blockUnits
+    block-next block = rw block (by-test (usesBlock (declared .kind)))
+      where
+        by-test : (blocks : Bool) → pick blocks (pick (eqb (x .slot .0 % declared .interval .0) 0) 0 (pick blocks (blockUnits (declared .interval .0) r (x .slot .0)) 0) + input) 0
+            ≡ pick blocks (blockUnits (declared .interval .0) s (x .slot .0 + 1)) 0
+        by-test true = rw (add-one, ← block-units-same (declared .interval .0) r s (x .slot .0) same, here)
+        by-test false = refl
 
-module _ (m Q t : ℕ) (r : Flow) (large : 1 ≤ m) (small : Q ≤ largestAmount) where
-  block-fits : (kind : Kind) → KeepsKind kind m Q r → storedFits (usesBlock kind) (storedBlock kind m r t) ≡ true
-  unfolding usesBlock storedFits
-  block-fits Kind.Smooth keeps = le-leb (blockUnits m r t) largestAmount (omega (arith, block-units-le m r large Q keeps t))
-  block-fits Kind.Uniform keeps = refl
+    word-next : (j : ℕ) → wordAt words j ≡ storedWord declared r (x .slot .0) j → meterWordNext x words input j ≡ storedWord declared s (x .slot .0 + 1) j
+    unfolding meterWordNext latestInput
+    word-next j each = rw each (by-test (usesBlock (declared .kind)))
+      where
+        by-test : (blocks : Bool) → pick blocks (pick blocks 0 (latestInput (ringLength declared) r (x .slot .0) j))
+            (pick (eqb j (x .slot .0 % ringLength declared)) input (pick blocks 0 (latestInput (ringLength declared) r (x .slot .0) j)))
+            ≡ pick blocks 0 (latestInput (ringLength declared) s (x .slot .0 + 1) j)
+        by-test true = refl
+        by-test false = rw (add-one, ← latest-input-same (ringLength declared) r s (x .slot .0) j same, here)
 
-  word-fits : (kind : Kind) → KeepsKind kind m Q r → (j : ℕ) → storedFits (ltb j (meterWordsUsed kind m)) (storedWord kind m r t j) ≡ true
-  unfolding usesBlock meterWordsUsed storedFits
-  word-fits Kind.Smooth keeps j = rw (le-ltb j 0 (omega arith))
-  word-fits Kind.Uniform keeps j = by-test (ltb j m) refl
+module _ (declared : Declaration) (t : ℕ) (r : Flow) (ranged : Ranged declared)
+    (keeps : (i : ℕ) → i < rowCount declared → KeepsRow (usesBlock (declared .kind)) (rowAt declared i) r) where
+  block-fits : (blocks : Bool) → usesBlock (declared .kind) ≡ blocks → storedFits (usesBlock (declared .kind)) (storedBlock declared r t) ≡ true
+  unfolding storedFits
+  block-fits true smooth =
+      let row = one-at declared (smooth-one (declared .kind) smooth) 0 in
+      let kept = rw (smooth, row) at (keeps 0 (ranged .some)) in
+      let small = rw row at (ranged .small 0 (ranged .some)) in
+      rw smooth (le-leb (blockUnits (declared .interval .0) r t) largestAmount (omega (arith, small, block-units-le (declared .interval .0) r (block-interval declared smooth ranged) (declared .quota .0) kept t)))
+  block-fits false ring = rw ring
+
+  word-fits : (blocks : Bool) → usesBlock (declared .kind) ≡ blocks → (j : ℕ) → storedFits (ltb j (ringLength declared)) (storedWord declared r t j) ≡ true
+  unfolding storedFits
+  word-fits true smooth j = rw (ring-none declared smooth, smooth, le-ltb j 0 (omega arith))
+  word-fits false ring j = rw ring (by-test (ltb j (ringLength declared)) refl)
     where
-      by-test : (test : Bool) → ltb j m ≡ test → pick test (leb (latestInput m r t j) largestAmount) (eqb (latestInput m r t j) 0) ≡ true
-      by-test true e = le-leb (latestInput m r t j) largestAmount (omega (arith, latest-le m r Q (λ i. omega (arith, keeps i 1 large, total-next r i)) t j))
-      by-test false e = eq-eqb (latestInput m r t j) 0 (latest-beyond m r large t j (ltb-false j m e))
+      input-le : (i : ℕ) → r i ≤ largestAmount
+      input-le i = let kept = rw ring at (keeps 0 (ranged .some)) in omega (arith, kept i 1 (ranged .large 0 (ranged .some)), total-next r i, ranged .small 0 (ranged .some))
 
--- the stored word is the definition's
-stored-taken : (m t : ℕ) (r : Flow) → 1 ≤ m → (kind : Kind) (j : ℕ) → storedWord kind m r t j ≡ pick (ltb j (meterWordsUsed kind m)) (latestInput m r t j) 0
-unfolding usesBlock meterWordsUsed
-stored-taken m t r large Kind.Smooth j = rw (le-ltb j 0 (omega arith))
-stored-taken m t r large Kind.Uniform j = by-test (ltb j m) refl
+      by-test : (test : Bool) → ltb j (ringLength declared) ≡ test → pick test (leb (latestInput (ringLength declared) r t j) largestAmount) (eqb (latestInput (ringLength declared) r t j) 0) ≡ true
+      by-test true e = le-leb _ largestAmount (latest-le (ringLength declared) r largestAmount input-le t j)
+      by-test false e = eq-eqb _ 0 (latest-beyond (ringLength declared) r (ring-large declared ring ranged) t j (ltb-false j _ e))
+
+  -- the stored word is the definition's
+  stored-taken : (blocks : Bool) → usesBlock (declared .kind) ≡ blocks → (j : ℕ) → storedWord declared r t j ≡ pick (ltb j (ringLength declared)) (latestInput (ringLength declared) r t j) 0
+  stored-taken true smooth j = rw (ring-none declared smooth, smooth, le-ltb j 0 (omega arith))
+  stored-taken false ring j = rw ring (by-test (ltb j (ringLength declared)) refl)
+    where
+      by-test : (test : Bool) → ltb j (ringLength declared) ≡ test → latestInput (ringLength declared) r t j ≡ pick test (latestInput (ringLength declared) r t j) 0
+      by-test true e = refl
+      by-test false e = latest-beyond (ringLength declared) r (ring-large declared ring ranged) t j (ltb-false j _ e)
+
+-- A declaration that nothing is refused for but an input: what it does not use is 0, its numbers are in range, its rows in order.
+pub record Accepted (declared : Declaration) : Type 0 where
+  pub clear : unusedClear declared ≡ true
+  pub ranged : declarationInRange declared ≡ true
+  pub ordered : rowsInOrder declared ≡ true
+
+accepted : (declared : Declaration) → Dec (Accepted declared)
+accepted declared = by-tests (unusedClear declared) (declarationInRange declared) (rowsInOrder declared) refl refl refl
   where
-    by-test : (test : Bool) → ltb j m ≡ test → latestInput m r t j ≡ pick test (latestInput m r t j) 0
-    by-test true e = refl
-    by-test false e = latest-beyond m r large t j (ltb-false j m e)
+    by-tests : (clear ranged ordered : Bool) → unusedClear declared ≡ clear → declarationInRange declared ≡ ranged → rowsInOrder declared ≡ ordered → Dec (Accepted declared)
+    by-tests true true true e f g = yes (record { clear = e; ranged = f; ordered = g })
+    by-tests true true false e f g = no (λ known. true≢false (sym (known .ordered) ∙ g))
+    by-tests true false ordered e f g = no (λ known. true≢false (sym (known .ranged) ∙ f))
+    by-tests false ranged ordered e f g = no (λ known. true≢false (sym (known .clear) ∙ e))
 
-abbrev kindOf : Fed → Kind
-kindOf fed = fed .state .declaration .kind
-
-abbrev intervalOf : Fed → ℕ
-intervalOf fed = fed .state .declaration .interval .0
-
-abbrev quotaOf : Fed → ℕ
-quotaOf fed = fed .state .declaration .quota .0
+abbrev declarationOf : Fed → Declaration
+declarationOf fed = fed .state .declaration
 
 abbrev slotOf : Fed → ℕ
 slotOf fed = fed .state .slot .0
 
--- What holds of a meter from new: its declaration is in range, its block and words are those of the inputs that it took, and these keep the declaration.
+-- What holds of a meter from new: its declaration is accepted, its block and words are those of the inputs that it took, and these keep the declaration.
 pub record Sound (fed : Fed) : Type 0 where
-  pub ranged : declarationInRange (fed .state .declaration) ≡ true
+  pub accepted : Accepted (declarationOf fed)
   pub slots : length (fed .taken) ≡ slotOf fed
   pub size : length (fed .words) ≡ meterWordCount
-  pub block : fed .state .block .0 ≡ storedBlock (kindOf fed) (intervalOf fed) (flowOf (fed .taken)) (slotOf fed)
-  pub each : (j : ℕ) → j < meterWordCount → wordAt (fed .words) j ≡ storedWord (kindOf fed) (intervalOf fed) (flowOf (fed .taken)) (slotOf fed) j
-  pub keeps : Keeps (classOf (fed .state .declaration)) (flowOf (fed .taken))
+  pub block : fed .state .block .0 ≡ storedBlock (declarationOf fed) (flowOf (fed .taken)) (slotOf fed)
+  pub each : (j : ℕ) → j < meterWordCount → wordAt (fed .words) j ≡ storedWord (declarationOf fed) (flowOf (fed .taken)) (slotOf fed) j
+  pub keeps : Keeps (classOf (declarationOf fed)) (flowOf (fed .taken))
 
 -- The flow of a list with one more input.
 module _ (taken : List ℕ) (input t : ℕ) (e : length taken ≡ t) where
@@ -282,110 +333,116 @@ module _ (taken : List ℕ) (input t : ℕ) (e : length taken ≡ t) where
 abbrev pub afterTaken : Fed → ℕ → Fed
 afterTaken fed input =
     record {
-      state = meterNext (fed .state) (fed .words) input;
+      state = meterNext (fed .state) input;
       words = listOf (meterWordNext (fed .state) (fed .words) input) meterWordCount;
       taken = fed .taken ++ (input ∷ []);
     }
 
 module _ (fed : Fed) (sound : Sound fed) where
-  counted : countedBefore (fed .state) (fed .words) + total (flowOf (fed .taken)) (startOf (kindOf fed) (intervalOf fed) (slotOf fed))
-      ≡ total (flowOf (fed .taken)) (slotOf fed)
-  unfolding countedBefore
-  counted =
-      let ranged = declaration-ranged (fed .state .declaration) (sound .ranged) in
-      rw (sound .block) (counted-total (intervalOf fed) (slotOf fed) (flowOf (fed .taken)) (fed .words) (kindOf fed) (ranged .large) (ranged .fits) (sound .each))
+  abbrev flow : Flow
+  flow = flowOf (fed .taken)
 
-  pub sound-word : (j : ℕ) → j < meterWordCount → wordAt (fed .words) j ≡ wordTaken (fed .state .declaration) (fed .taken) j
+  ranged : Ranged (declarationOf fed)
+  ranged = declaration-ranged (declarationOf fed) (sound .accepted .ranged)
+
+  rows-kept : (i : ℕ) → i < rowCount (declarationOf fed) → KeepsRow (usesBlock (declarationOf fed .kind)) (rowAt (declarationOf fed) i) flow
+  rows-kept = keeps-rows (declarationOf fed) flow .0 (sound .keeps)
+
+  counted : (i : ℕ) → i < rowCount (declarationOf fed)
+      → countedBefore (fed .state) (fed .words) i + total flow (startOf (usesBlock (declarationOf fed .kind)) (rowAt (declarationOf fed) i .interval) (slotOf fed)) ≡ total flow (slotOf fed)
+  counted i less = counted-total (fed .state) (fed .words) flow ranged (sound .accepted .ordered) (sound .block) (sound .each) (usesBlock (declarationOf fed .kind)) refl i less
+
+  pub sound-word : (j : ℕ) → j < meterWordCount → wordAt (fed .words) j ≡ wordTaken (declarationOf fed) (fed .taken) j
   unfolding wordTaken
   sound-word j less =
-      let ranged = declaration-ranged (fed .state .declaration) (sound .ranged) in
-      rw (sound .slots) (sound .each j less ∙ stored-taken (intervalOf fed) (slotOf fed) (flowOf (fed .taken)) (ranged .large) (kindOf fed) j)
+      rw (sound .slots) (sound .each j less ∙ stored-taken (declarationOf fed) (slotOf fed) flow ranged rows-kept (usesBlock (declarationOf fed .kind)) refl j)
 
   pub sound-usable : length (fed .taken) ≤ lastSlot → meterUnusable (fed .state) (fed .words) ≡ false
-  unfolding meterUnusable wordFits
+  unfolding wordFits
   sound-usable left =
-      let ranged = declaration-ranged (fed .state .declaration) (sound .ranged) in
-      rw (
-        eq-eqb (length (fed .words)) meterWordCount (sound .size),
-        le-ltb lastSlot (slotOf fed) (omega arith),
-        sound .block,
-        block-fits (intervalOf fed) (quotaOf fed) (slotOf fed) (flowOf (fed .taken)) (ranged .large) (ranged .small) (kindOf fed) (sound .keeps),
-        every-holds (wordFits (meterWordsUsed (kindOf fed) (intervalOf fed)) (fed .words)) meterWordCount
-            (λ j less.
-            rw (sound .each j less)
-            (word-fits (intervalOf fed) (quotaOf fed) (slotOf fed) (flowOf (fed .taken)) (ranged .large) (ranged .small) (kindOf fed) (sound .keeps) j)),
-      )
+      meter-usable (fed .state) (fed .words)
+      record {
+        sized = sound .size;
+        slot-left = omega (arith, sound .slots);
+        clear = sound .accepted .clear;
+        block-fits = rw (sound .block) (block-fits (declarationOf fed) (slotOf fed) flow ranged rows-kept (usesBlock (declarationOf fed .kind)) refl);
+        words-fit =
+            every-holds (wordFits (ringLength (declarationOf fed)) (fed .words)) meterWordCount
+            (λ j less. rw (sound .each j less) (word-fits (declarationOf fed) (slotOf fed) flow ranged rows-kept (usesBlock (declarationOf fed .kind)) refl j));
+      }
 
   module _ (input : ℕ) where
-    pub sound-keeps : (inputBreaks (fed .state) (fed .words) input ≡ false) ↔ Keeps (classOf (fed .state .declaration)) (flowOf (fed .taken ++ (input ∷ [])))
+    -- a row is within its quota just where it is kept
+    row-keeps : (i : ℕ) → i < rowCount (declarationOf fed)
+        → (countedBefore (fed .state) (fed .words) i + input ≤ rowAt (declarationOf fed) i .quota) ↔ KeepsRow (usesBlock (declarationOf fed .kind)) (rowAt (declarationOf fed) i) (flowOf (fed .taken ++ (input ∷ [])))
+    row-keeps i less =
+        keeps-iff (rowAt (declarationOf fed) i) (slotOf fed) flow (flowOf (fed .taken ++ (input ∷ []))) (ranged .large i less)
+        (flow-same (fed .taken) input (slotOf fed) (sound .slots)) (flow-rest (fed .taken) input (slotOf fed) (sound .slots)) (usesBlock (declarationOf fed .kind))
+        (countedBefore (fed .state) (fed .words) i) input (counted i less) (flow-here (fed .taken) input (slotOf fed) (sound .slots)) (rows-kept i less)
+
+    pub sound-keeps : (inputBreaks (fed .state) (fed .words) input ≡ false) ↔ Keeps (classOf (declarationOf fed)) (flowOf (fed .taken ++ (input ∷ [])))
     unfolding inputBreaks
     sound-keeps =
-        let ranged = declaration-ranged (fed .state .declaration) (sound .ranged) in
-        let (keeps, within) =
-        keeps-iff (intervalOf fed) (quotaOf fed) (slotOf fed) (flowOf (fed .taken)) (flowOf (fed .taken ++ (input ∷ []))) (ranged .large)
-        (flow-same (fed .taken) input (slotOf fed) (sound .slots)) (flow-rest (fed .taken) input (slotOf fed) (sound .slots)) (kindOf fed)
-        (countedBefore (fed .state) (fed .words)) input counted (flow-here (fed .taken) input (slotOf fed) (sound .slots)) (sound .keeps) in (
-          λ e. keeps (ltb-false (quotaOf fed) (countedBefore (fed .state) (fed .words) + input) e),
-          λ h. le-ltb (quotaOf fed) (countedBefore (fed .state) (fed .words) + input) (within h),
+        let (apart, joined) = keeps-rows (declarationOf fed) (flowOf (fed .taken ++ (input ∷ []))) in (
+          λ e. joined (λ i less. row-keeps i less .0 (leb-true _ _ (every-at _ (rowCount (declarationOf fed)) (not-false _ e) i less))),
+          λ h. ap not (every-holds _ (rowCount (declarationOf fed)) (λ i less. le-leb _ _ (row-keeps i less .1 (apart h i less)))),
         )
 
     pub sound-next : inputBreaks (fed .state) (fed .words) input ≡ false → Sound (afterTaken fed input)
-    unfolding meterNext meterWordNext countedBefore
+    unfolding meterNext
     sound-next taken =
         let same = flow-same (fed .taken) input (slotOf fed) (sound .slots) in
         let here = flow-here (fed .taken) input (slotOf fed) (sound .slots) in
         record {
-          ranged = sound .ranged;
-          slots = omega (arith, length-append (fed .taken) (input ∷ []));
+          accepted = sound .accepted;
+          slots = omega (arith, length-append (fed .taken) (input ∷ []), sound .slots);
           size = length-listOf (meterWordNext (fed .state) (fed .words) input) meterWordCount;
-          block = rw (sound .block) (block-next (intervalOf fed) (slotOf fed) (flowOf (fed .taken)) (fed .words) input (flowOf (fed .taken ++ (input ∷ []))) same here (kindOf fed));
+          block = block-next (fed .state) (fed .words) flow input (flowOf (fed .taken ++ (input ∷ []))) same here (sound .block);
           each =
               λ j less.
               getD-listOf 0 (meterWordNext (fed .state) (fed .words) input) meterWordCount j less
-              ∙ word-next (intervalOf fed) (slotOf fed) (flowOf (fed .taken)) (fed .words) input (flowOf (fed .taken ++ (input ∷ []))) same here (kindOf fed) j (sound .each j less);
+              ∙ word-next (fed .state) (fed .words) flow input (flowOf (fed .taken ++ (input ∷ []))) same here j (sound .each j less);
           keeps = sound-keeps .0 taken;
         }
 
-keeps-none : (kind : Kind) (m Q : ℕ) → KeepsKind kind m Q (flowOf [])
-keeps-none Kind.Smooth m Q = λ j k h. omega (arith, total-none (j * m + k))
-keeps-none Kind.Uniform m Q = λ a k h. omega (arith, total-none (a + k))
+row-none : (blocks : Bool) (row : Row) → KeepsRow blocks row (flowOf [])
+row-none true row = λ j k h. omega (arith, total-none (j * row .interval + k))
+row-none false row = λ a k h. omega (arith, total-none (a + k))
 
-stored-block-new : (kind : Kind) (m : ℕ) → 0 ≡ storedBlock kind m (flowOf []) 0
-unfolding usesBlock blockUnits
-stored-block-new Kind.Smooth m = refl
-stored-block-new Kind.Uniform m = refl
+pick-none : (test : Bool) → pick {A = ℕ} test 0 0 ≡ 0
+pick-none true = refl
+pick-none false = refl
 
-stored-word-new : (kind : Kind) (m j : ℕ) → 0 ≡ storedWord kind m (flowOf []) 0 j
-unfolding usesBlock latestInput
-stored-word-new Kind.Smooth m j = refl
-stored-word-new Kind.Uniform m j = refl
-
-pub sound-new : (declared : Declaration) → declarationInRange declared ≡ true → Sound (newMeter declared)
-sound-new declared ranged =
+pub sound-new : (declared : Declaration) → Accepted declared → Sound (newMeter declared)
+unfolding blockUnits latestInput
+sound-new declared accepted =
     record {
-      ranged = ranged;
+      accepted = accepted;
       slots = refl;
       size = length-replicate {A = ℕ} meterWordCount 0;
-      block = stored-block-new (declared .kind) (declared .interval .0);
-      each = λ j less. getD-replicate {A = ℕ} meterWordCount j 0 0 less ∙ stored-word-new (declared .kind) (declared .interval .0) j;
-      keeps = keeps-none (declared .kind) (declared .interval .0) (declared .quota .0);
+      block = sym (pick-none (usesBlock (declared .kind)));
+      each = λ j less. getD-replicate {A = ℕ} meterWordCount j 0 0 less ∙ sym (pick-none (usesBlock (declared .kind)));
+      keeps = keeps-rows declared (flowOf []) .1 (λ i less. row-none (usesBlock (declared .kind)) (rowAt declared i));
     }
 
--- What holds of a meter and of it with each input that it takes, which it does only with a declaration in range, holds of it with any inputs.
+-- What holds of a meter and of it with each input that it takes, which it does only with an accepted declaration, holds of it with any inputs.
 module _ (P : Fed → Type 0)
-    (next : (fed : Fed) (input : ℕ) → declarationInRange (fed .state .declaration) ≡ true → inputBreaks (fed .state) (fed .words) input ≡ false → P fed → P (afterTaken fed input)) where
+    (next : (fed : Fed) (input : ℕ) → Accepted (declarationOf fed) → inputBreaks (fed .state) (fed .words) input ≡ false → P fed → P (afterTaken fed input)) where
   offered-holds : (fed : Fed) (input : ℕ) → P fed → P (offered fed input)
   unfolding offered meterOf meterWordsAfter
   offered-holds fed input holds =
-      by-tests (either (ltb largestAmount input) (meterUnusable (fed .state) (fed .words))) (not (declarationInRange (fed .state .declaration)))
-      (inputBreaks (fed .state) (fed .words) input) refl refl refl
+      by-tests (either (ltb largestAmount input) (meterUnusable (fed .state) (fed .words))) (not (declarationInRange (declarationOf fed))) (not (rowsInOrder (declarationOf fed)))
+      (inputBreaks (fed .state) (fed .words) input) refl refl refl refl
     where
-      by-tests : (unusable outside breaks : Bool) → either (ltb largestAmount input) (meterUnusable (fed .state) (fed .words)) ≡ unusable
-          → not (declarationInRange (fed .state .declaration)) ≡ outside → inputBreaks (fed .state) (fed .words) input ≡ breaks → P (offered fed input)
-      by-tests true outside breaks e f g = simp e holds
-      by-tests false true breaks e f g = simp (e, f) holds
-      by-tests false false true e f g = simp (e, f, g) holds
-      by-tests false false false e f g = simp (e, f, g) (next fed input (not-false _ f) g holds)
+      by-tests : (unusable outside unordered breaks : Bool) → either (ltb largestAmount input) (meterUnusable (fed .state) (fed .words)) ≡ unusable
+          → not (declarationInRange (declarationOf fed)) ≡ outside → not (rowsInOrder (declarationOf fed)) ≡ unordered → inputBreaks (fed .state) (fed .words) input ≡ breaks → P (offered fed input)
+      by-tests true outside unordered breaks e f g h = simp e holds
+      by-tests false true unordered breaks e f g h = simp (e, f) holds
+      by-tests false false true breaks e f g h = simp (e, f, g) holds
+      by-tests false false false true e f g h = simp (e, f, g, h) holds
+      by-tests false false false false e f g h =
+          let usable = usable-meter (fed .state) (fed .words) (either-false (ltb largestAmount input) _ e .1) in
+          simp (e, f, g, h) (next fed input (record { clear = usable .clear; ranged = not-false _ f; ordered = not-false _ g }) h holds)
 
   offered-all-holds : (fed : Fed) (inputs : List ℕ) → P fed → P (offeredAll fed inputs)
   unfolding offeredAll
@@ -396,16 +453,16 @@ pub meter-slot : (declared : Declaration) (before : List ℕ) → offeredAll (ne
 unfolding meterNext
 meter-slot declared before =
     offered-all-holds (λ fed. fed .state .slot .0 ≡ length (fed .taken))
-    (λ fed input ranged within e. omega (arith, length-append (fed .taken) (input ∷ [])))
+    (λ fed input known within e. omega (arith, length-append (fed .taken) (input ∷ [])))
     (newMeter declared) before refl
 
 module _ (declared : Declaration) (before : List ℕ) where
   declaration-stays : offeredAll (newMeter declared) before .state .declaration ≡ declared
   unfolding meterNext
-  declaration-stays = offered-all-holds (λ fed. fed .state .declaration ≡ declared) (λ fed input ranged within e. e) (newMeter declared) before refl
+  declaration-stays = offered-all-holds (λ fed. fed .state .declaration ≡ declared) (λ fed input known within e. e) (newMeter declared) before refl
 
-  sound-fed : declarationInRange declared ≡ true → Sound (offeredAll (newMeter declared) before)
-  sound-fed ranged = offered-all-holds Sound (λ fed input ranged within sound. sound-next fed sound input within) (newMeter declared) before (sound-new declared ranged)
+  sound-fed : Accepted declared → Sound (offeredAll (newMeter declared) before)
+  sound-fed known = offered-all-holds Sound (λ fed input known within sound. sound-next fed sound input within) (newMeter declared) before (sound-new declared known)
 
 -- a meter that took nothing has 0 in every word
 record Untouched (declared : Declaration) (fed : Fed) : Type 0 where
@@ -415,11 +472,7 @@ record Untouched (declared : Declaration) (fed : Fed) : Type 0 where
 
 none-taken : (declared : Declaration) (j : ℕ) → wordTaken declared [] j ≡ 0
 unfolding wordTaken latestInput
-none-taken declared j = by-test (ltb j (meterWordsUsed (declared .kind) (declared .interval .0)))
-  where
-    by-test : (test : Bool) → pick {A = ℕ} test 0 0 ≡ 0
-    by-test true = refl
-    by-test false = refl
+none-taken declared j = pick-none (ltb j (ringLength declared))
 
 module _ (declared : Declaration) (fed : Fed) (untouched : Untouched declared fed) where
   untouched-sized : length (fed .words) ≡ meterWordCount
@@ -429,42 +482,43 @@ module _ (declared : Declaration) (fed : Fed) (untouched : Untouched declared fe
   untouched-word j less = rw (untouched .words, untouched .taken) (getD-replicate {A = ℕ} meterWordCount j 0 0 less ∙ sym (none-taken declared j))
 
 module _ (declared : Declaration) (before : List ℕ) where
-  -- a declaration out of range has nothing taken
-  untouched-fed : declarationInRange declared ≡ false → Untouched declared (offeredAll (newMeter declared) before)
-  untouched-fed outside =
+  -- a declaration that is not accepted has nothing taken
+  untouched-fed : (Accepted declared → ⊥) → Untouched declared (offeredAll (newMeter declared) before)
+  untouched-fed other =
       offered-all-holds (Untouched declared)
-      (λ fed input ranged within untouched. let z : _≡_ {A = ℕ} 0 1 = cc in absurd (omega arith))
+      (λ fed input known within untouched. absurd (other (rw (untouched .declaration) at known)))
       (newMeter declared) before (record { declaration = refl; words = refl; taken = refl })
 
   -- a meter's words are 1,024
   pub meter-sized : length (offeredAll (newMeter declared) before .words) ≡ meterWordCount
-  meter-sized = by-range (declarationInRange declared) refl
-    where
-      by-range : (ranged : Bool) → declarationInRange declared ≡ ranged → length (offeredAll (newMeter declared) before .words) ≡ meterWordCount
-      by-range true ranged = sound-fed declared before ranged .size
-      by-range false outside = untouched-sized declared (offeredAll (newMeter declared) before) (untouched-fed outside)
+  meter-sized = elim (accepted declared) [
+    | yes known ↦ sound-fed declared before known .size
+    | no other ↦ untouched-sized declared (offeredAll (newMeter declared) before) (untouched-fed other)
+  ]
 
   -- and each is what section 6 says of the inputs taken
   pub meter-words : let fed = offeredAll (newMeter declared) before in (j : ℕ) → j < meterWordCount → wordAt (fed .words) j ≡ wordTaken declared (fed .taken) j
-  meter-words j less = by-range (declarationInRange declared) refl
-    where
-      by-range : (ranged : Bool) → declarationInRange declared ≡ ranged
-          → wordAt (offeredAll (newMeter declared) before .words) j ≡ wordTaken declared (offeredAll (newMeter declared) before .taken) j
-      by-range true ranged = rw (declaration-stays declared before) at (sound-word (offeredAll (newMeter declared) before) (sound-fed declared before ranged) j less)
-      by-range false outside = untouched-word declared (offeredAll (newMeter declared) before) (untouched-fed outside) j less
+  meter-words j less = elim (accepted declared) [
+    | yes known ↦ rw (declaration-stays declared before) at (sound-word (offeredAll (newMeter declared) before) (sound-fed declared before known) j less)
+    | no other ↦ untouched-word declared (offeredAll (newMeter declared) before) (untouched-fed other) j less
+  ]
 
-module _ (declared : Declaration) (ranged : declarationInRange declared ≡ true) (before : List ℕ) (input : ℕ) (small : input ≤ largestAmount)
+module _ (declared : Declaration) (clear : unusedClear declared ≡ true) (ranged : declarationInRange declared ≡ true) (ordered : rowsInOrder declared ≡ true)
+    (before : List ℕ) (input : ℕ) (small : input ≤ largestAmount)
     (left : length (offeredAll (newMeter declared) before .taken) ≤ lastSlot) where
+  fed-sound : Sound (offeredAll (newMeter declared) before)
+  fed-sound = sound-fed declared before (record { clear = clear; ranged = ranged; ordered = ordered })
+
   -- where the input is within the limit and a slot number is left, a meter from new refuses for the declaration alone
   pub meter-answers : let fed = offeredAll (newMeter declared) before in
       meterOf (fed .state) (fed .words) input
-      ≡ pick (inputBreaks (fed .state) (fed .words) input) (Metered.Refused InputBreaksDeclaration) (Metered.Taken (meterNext (fed .state) (fed .words) input))
+      ≡ pick (inputBreaks (fed .state) (fed .words) input) (record { intake = Intake.Refused InputBreaksDeclaration; state = fed .state }) (record { intake = Intake.Taken; state = meterNext (fed .state) input })
   unfolding meterOf
   meter-answers =
-      let sound = sound-fed declared before ranged in
-      rw (le-ltb largestAmount input small, sound-usable (offeredAll (newMeter declared) before) sound left, sound .ranged)
+      let sound = fed-sound in
+      rw (le-ltb largestAmount input small, sound-usable (offeredAll (newMeter declared) before) sound left, sound .accepted .ranged, sound .accepted .ordered)
 
   -- and it breaks the declaration just where the inputs taken and this one do not keep it
   pub meter-keeps : let fed = offeredAll (newMeter declared) before in
       (inputBreaks (fed .state) (fed .words) input ≡ false) ↔ Keeps (classOf declared) (flowOf (fed .taken ++ (input ∷ [])))
-  meter-keeps = rw (declaration-stays declared before) at (sound-keeps (offeredAll (newMeter declared) before) (sound-fed declared before ranged) input)
+  meter-keeps = rw (declaration-stays declared before) at (sound-keeps (offeredAll (newMeter declared) before) fed-sound input)

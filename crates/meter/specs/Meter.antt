@@ -1,19 +1,21 @@
--- Sections 2, 6 and 7: the calls on a meter and its 1,024 words.
-use Prim.Native.Nat.{ℕ, _+_, _-_, _%_}
+-- Sections 2, 6 and 7, and document 02, item 6: the calls on a meter and its 1,024 words.
+use Prim.Native.Nat.{ℕ, zero, suc, _+_, _-_, _%_, min}
 use mathlib.Core.Bool.{Bool, true, false, not}
-use mathlib.Core.List.{List, [], _∷_}
+use mathlib.Core.List.{List, [], _∷_, _++_}
 use lib.ListN.{length}
-use lib.Dec.{ltb, eqb}
-use Rattle.quantity.specs.Choice.{pick, either, anyOf}
+use lib.Dec.{leb, ltb, eqb}
+use Rattle.quantity.specs.Choice.{pick, both, either, anyOf}
 use Rattle.quantity.specs.Sums.{total, every, listOf}
 use Rattle.quantity.specs.Limits.{largestAmount, lastSlot}
 use Rattle.quantity.specs.Refusals.{Case, _⇒_, firstOf}
-use Rattle.quantity.specs.declared.refusal.Refusal.the-variants.{Unusable, OutOfRange, InputBreaksDeclaration}
-use Rattle.flow.specs.Declarations.{declarationInRange}
+use Rattle.quantity.specs.declared.refusal.Refusal.the-variants.{Unusable, OutOfRange, InputBreaksDeclaration, RowsOutOfOrder}
+use Rattle.flow.specs.Declarations.{byKind, mostRows, rowCount, rowAt, lastRow, declarationInRange, rowsInOrder, unusedClear}
 use Rattle.words.specs.Stored.{wordAt, storedFits, wordFits}
 use Rattle.flow.specs.declared.Kind.{Kind}
+use Rattle.flow.specs.declared.Declaration.{Declaration}
 use Rattle.meter.specs.declared.SourceMeter.{SourceMeter}
 use Rattle.meter.specs.declared.Room.{Room}
+use Rattle.meter.specs.declared.Intake.{Intake}
 use Rattle.meter.specs.declared.Metered.{Metered}
 
 -- a meter's words
@@ -22,13 +24,12 @@ meterWordCount = 1_024
 
 -- the meter keeps the block's total under a smooth declaration only
 unfoldable pub usesBlock : Kind → Bool
-usesBlock Kind.Smooth = true
-usesBlock Kind.Uniform = false
+usesBlock kind = byKind kind true false false
 
--- and the words below m under a uniform declaration only: word j is the input of the latest slot whose number leaves j on division by m
-unfoldable pub meterWordsUsed : Kind → ℕ → ℕ
-meterWordsUsed Kind.Smooth m = 0
-meterWordsUsed Kind.Uniform m = m
+-- and else a ring of words, m of them, m being the last row's: word j is the input of the latest slot whose number leaves j on division by m;
+-- where there are not one to four rows it has none
+unfoldable pub ringLength : Declaration → ℕ
+ringLength declared = pick (usesBlock (declared .kind)) 0 (pick (both (leb 1 (rowCount declared)) (leb (rowCount declared) mostRows)) (lastRow declared .interval) 0)
 
 -- 1, of what is lent and stored: the words have a wrong length, no slot number is left, a stored amount is above the limit or should be 0 and is not
 unfoldable pub meterUnusable : SourceMeter → List ℕ → Bool
@@ -36,60 +37,74 @@ meterUnusable x words =
     anyOf
     (not (eqb (length words) meterWordCount)
     ∷ ltb lastSlot (x .slot .0)
+    ∷ not (unusedClear (x .declaration))
     ∷ not (storedFits (usesBlock (x .declaration .kind)) (x .block .0))
-    ∷ not (every (wordFits (meterWordsUsed (x .declaration .kind) (x .declaration .interval .0)) words) meterWordCount)
+    ∷ not (every (wordFits (ringLength (x .declaration)) words) meterWordCount)
     ∷ [])
 
--- the units that count with this slot's input: in a smooth declaration's block so far, none where a block begins;
--- in a uniform one's last m − 1 slots: all its words but the one that this slot's input replaces
-unfoldable pub countsWith : Kind → ℕ → ℕ → ℕ → List ℕ → ℕ
-countsWith Kind.Smooth m t block words = pick (eqb (t % m) 0) 0 block
-countsWith Kind.Uniform m t block words = total (wordAt words) m - wordAt words (t % m)
+-- the units of a smooth declaration's block so far, none where a block begins
+unfoldable pub blockBefore : SourceMeter → ℕ
+blockBefore x = pick (eqb (x .slot .0 % x .declaration .interval .0) 0) 0 (x .block .0)
 
-unfoldable pub countedBefore : SourceMeter → List ℕ → ℕ
-countedBefore x words = countsWith (x .declaration .kind) (x .declaration .interval .0) (x .slot .0) (x .block .0) words
+-- the word of the slot a + 1 slots before slot t, in a ring of so many words
+unfoldable pub wordBefore : ℕ → ℕ → List ℕ → ℕ → ℕ
+wordBefore ring t words a = wordAt words ((t + ring - suc a) % ring)
 
--- 13: with the units that count with it the input is above the quota
+-- the units that count with this slot's input in a row: the block's so far, or the words of the row's m − 1 slots before
+unfoldable pub countedBefore : SourceMeter → List ℕ → ℕ → ℕ
+countedBefore x words i =
+    pick (usesBlock (x .declaration .kind))
+    (blockBefore x)
+    (total (wordBefore (ringLength (x .declaration)) (x .slot .0) words) (rowAt (x .declaration) i .interval - 1))
+
+-- 13: in some row, with the units that count with it, the input is above the quota
 unfoldable pub inputBreaks : SourceMeter → List ℕ → ℕ → Bool
-inputBreaks x words input = ltb (x .declaration .quota .0) (countedBefore x words + input)
+inputBreaks x words input = not (every (λ i. leb (countedBefore x words i + input) (rowAt (x .declaration) i .quota)) (rowCount (x .declaration)))
 
--- the most that this slot's input may be, or the refusal: 1, 5, and 13 where not even 0 keeps the declaration
+-- the least of f 0 to f (n − 1), 0 where there is none
+unfoldable pub leastBelow : (ℕ → ℕ) → ℕ → ℕ
+leastBelow f zero = 0
+leastBelow f (suc zero) = f 0
+leastBelow f (suc (suc n)) = min (leastBelow f (suc n)) (f (suc n))
+
+-- the most that this slot's input may be: the least over the rows of what the quota leaves
+unfoldable pub roomIn : SourceMeter → List ℕ → ℕ
+roomIn x words = leastBelow (λ i. rowAt (x .declaration) i .quota - countedBefore x words i) (rowCount (x .declaration))
+
+-- 5 and 15 of a meter's declaration
+abbrev pub declarationCases : Declaration → List Case
+declarationCases declared = (not (declarationInRange declared) ⇒ OutOfRange 0) ∷ (not (rowsInOrder declared) ⇒ RowsOutOfOrder 0) ∷ []
+
+-- the room, or the refusal: 1, 5, 15, and 13 where not even 0 keeps the declaration
 unfoldable pub roomOf : SourceMeter → List ℕ → Room
 roomOf x words =
     firstOf
-    ((meterUnusable x words ⇒ Unusable)
-    ∷ (not (declarationInRange (x .declaration)) ⇒ OutOfRange 0)
-    ∷ (inputBreaks x words 0 ⇒ InputBreaksDeclaration)
-    ∷ [])
+    ((meterUnusable x words ⇒ Unusable) ∷ declarationCases (x .declaration) ++ ((inputBreaks x words 0 ⇒ InputBreaksDeclaration) ∷ []))
     Room.Refused
-    (Room.AtMost (record { 0 = x .declaration .quota .0 - countedBefore x words }))
+    (Room.AtMost (record { 0 = roomIn x words }))
 
--- a meter goes through 1, 5 and 13; what it then stores is at most the quota or the input, so no amount above the limit
+-- a meter goes through 1, 5, 15 and 13; what it then stores is at most the quota or the input, so no amount above the limit
 abbrev pub meterCases : SourceMeter → List ℕ → ℕ → List Case
 meterCases x words input =
-    (either (ltb largestAmount input) (meterUnusable x words) ⇒ Unusable)
-    ∷ (not (declarationInRange (x .declaration)) ⇒ OutOfRange 0)
-    ∷ (inputBreaks x words input ⇒ InputBreaksDeclaration)
-    ∷ []
+    (either (ltb largestAmount input) (meterUnusable x words) ⇒ Unusable) ∷ declarationCases (x .declaration) ++ ((inputBreaks x words input ⇒ InputBreaksDeclaration) ∷ [])
 
--- the state once the input is taken
-unfoldable pub meterNext : SourceMeter → List ℕ → ℕ → SourceMeter
-meterNext x words input =
-    record {
-      declaration = x .declaration;
-      slot = record { 0 = x .slot .0 + 1 };
-      block = record { 0 = pick (usesBlock (x .declaration .kind)) (countedBefore x words + input) 0 };
-    }
+-- the block's total once the input is taken, and the state
+unfoldable pub blockNext : SourceMeter → ℕ → ℕ
+blockNext x input = pick (usesBlock (x .declaration .kind)) (blockBefore x + input) 0
+
+unfoldable pub meterNext : SourceMeter → ℕ → SourceMeter
+meterNext x input = record { declaration = x .declaration; slot = record { 0 = x .slot .0 + 1 }; block = record { 0 = blockNext x input } }
 
 -- word j once the input is taken
 unfoldable pub meterWordNext : SourceMeter → List ℕ → ℕ → ℕ → ℕ
 meterWordNext x words input j =
     pick (usesBlock (x .declaration .kind)) (wordAt words j)
-    (pick (eqb j (x .slot .0 % x .declaration .interval .0)) input (wordAt words j))
+    (pick (eqb j (x .slot .0 % ringLength (x .declaration))) input (wordAt words j))
 
--- what a meter answers
+-- what a meter answers; refused, it hands back the state that it was given
 unfoldable pub meterOf : SourceMeter → List ℕ → ℕ → Metered
-meterOf x words input = firstOf (meterCases x words input) Metered.Refused (Metered.Taken (meterNext x words input))
+meterOf x words input =
+    firstOf (meterCases x words input) (λ why. record { intake = Intake.Refused why; state = x }) (record { intake = Intake.Taken; state = meterNext x input })
 
 -- what its words hold then; a refused input writes nothing
 unfoldable pub meterWordsAfter : SourceMeter → List ℕ → ℕ → List ℕ

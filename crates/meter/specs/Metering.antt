@@ -5,6 +5,7 @@ use lib.ListN.{replicate}
 use Rattle.meter.specs.Meter.{meterWordCount, meterOf, meterWordsAfter}
 use Rattle.flow.specs.declared.Declaration.{Declaration}
 use Rattle.meter.specs.declared.SourceMeter.{SourceMeter}
+use Rattle.meter.specs.declared.Intake.{Intake}
 use Rattle.meter.specs.declared.Metered.{Metered}
 
 -- a meter, its words, and the inputs that it took, in order
@@ -18,14 +19,16 @@ abbrev pub newMeter : Declaration → Fed
 newMeter declared =
     record { state = record { declaration = declared; slot = record { 0 = 0 }; block = record { 0 = 0 } }; words = replicate meterWordCount 0; taken = [] }
 
-afterAnswer : Metered → Fed → ℕ → Fed
-afterAnswer (Metered.Taken next) fed input = record { state = next; words = meterWordsAfter (fed .state) (fed .words) input; taken = fed .taken ++ (input ∷ []) }
-afterAnswer (Metered.Refused why) fed input = record { state = fed .state; words = meterWordsAfter (fed .state) (fed .words) input; taken = fed .taken }
+takenAfter : Intake → List ℕ → ℕ → List ℕ
+takenAfter Intake.Taken taken input = taken ++ (input ∷ [])
+takenAfter (Intake.Refused why) taken input = taken
 
 -- one more input is offered
 unfoldable pub offered : Fed → ℕ → Fed
-unfolding afterAnswer
-offered fed input = afterAnswer (meterOf (fed .state) (fed .words) input) fed input
+unfolding takenAfter
+offered fed input =
+    let answer = meterOf (fed .state) (fed .words) input in
+    record { state = answer .state; words = meterWordsAfter (fed .state) (fed .words) input; taken = takenAfter (answer .intake) (fed .taken) input }
 
 -- inputs are offered one after the other
 unfoldable pub offeredAll : Fed → List ℕ → Fed

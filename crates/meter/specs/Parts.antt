@@ -1,49 +1,45 @@
 -- The parts of a slot: test what is lent and stored and count, decide on numbers, write. Each is defined on all inputs, and answers the first of its tests that stands.
-use Prim.Native.Nat.{ℕ, _+_}
+use Prim.Native.Nat.{ℕ, _+_, _-_}
 use mathlib.Core.Bool.{Bool, not}
 use mathlib.Core.List.{List, [], _∷_}
 use lib.ListN.{length}
-use lib.Dec.{leb, ltb, eqb}
+use lib.Dec.{ltb, eqb}
 use Rattle.quantity.specs.Choice.{pick, anyOf}
 use Rattle.quantity.specs.Sums.{listOf}
 use Rattle.quantity.specs.Limits.{largestAmount, lastSlot}
-use Rattle.flow.specs.Declarations.{declarationInRange}
-use Rattle.meter.specs.Meter.{meterWordCount, usesBlock, meterUnusable, countedBefore, meterWordNext}
-use Rattle.flow.specs.declared.Declaration.{Declaration}
+use Rattle.flow.specs.Declarations.{rowCount, rowAt, declarationInRange, rowsInOrder}
+use Rattle.meter.specs.Meter.{meterWordCount, leastBelow, meterUnusable, countedBefore, blockNext, meterWordNext}
 use Rattle.meter.specs.declared.SourceMeter.{SourceMeter}
 use Rattle.meter.specs.declared.parts.Counted.{Counted}
+use Rattle.meter.specs.declared.parts.Counted.the-variants.{Below}
 use Rattle.meter.specs.declared.parts.Noted.{Noted}
 
--- Test: the units that count with the next input
+-- the inputs that keep every row are those below this: the least over the rows of the quota and 1 less what counts
+unfoldable pub inputsBelow : SourceMeter → List ℕ → ℕ
+inputsBelow x words = leastBelow (λ i. rowAt (x .declaration) i .quota + 1 - countedBefore x words i) (rowCount (x .declaration))
+
+-- Test: what the next input has to be below
 unfoldable pub countedOf : SourceMeter → List ℕ → Counted
 countedOf x words =
     pick (meterUnusable x words) Counted.Unusable
-    (pick (not (declarationInRange (x .declaration))) Counted.OutOfRange (Counted.Before (record { 0 = countedBefore x words })))
-
--- Decide: with the units that count with it, the input is within the quota
-unfoldable pub withinQuota : Declaration → ℕ → ℕ → Bool
-withinQuota declared counted input = leb (counted + input) (declared .quota .0)
+    (pick (not (declarationInRange (x .declaration))) Counted.OutOfRange
+    (pick (not (rowsInOrder (x .declaration))) Counted.OutOfOrder (Below (record { 0 = inputsBelow x words }))))
 
 -- the words have a wrong length, no slot number is left, or an amount is above the limit
-abbrev pub noteUnfit : SourceMeter → List ℕ → ℕ → ℕ → Bool
-noteUnfit x words counted input =
-    anyOf (not (eqb (length words) meterWordCount) ∷ ltb lastSlot (x .slot .0) ∷ ltb largestAmount counted ∷ ltb largestAmount input ∷ [])
+abbrev pub noteUnfit : SourceMeter → List ℕ → ℕ → Bool
+noteUnfit x words input =
+    anyOf (not (eqb (length words) meterWordCount) ∷ ltb lastSlot (x .slot .0) ∷ ltb largestAmount (x .block .0) ∷ ltb largestAmount input ∷ [])
 
--- the state of the slot after
-unfoldable pub meterNoted : SourceMeter → ℕ → ℕ → SourceMeter
-meterNoted x counted input =
-    record { declaration = x .declaration; slot = record { 0 = x .slot .0 + 1 }; block = record { 0 = pick (usesBlock (x .declaration .kind)) (counted + input) 0 } }
-
--- Write: the state of the slot after
-unfoldable pub notedOf : SourceMeter → List ℕ → ℕ → ℕ → Noted
-notedOf x words counted input =
-    pick (noteUnfit x words counted input) Noted.Unfit
+-- Write: the first test that stands, else the block's total behind this slot
+unfoldable pub notedOf : SourceMeter → List ℕ → ℕ → Noted
+notedOf x words input =
+    pick (noteUnfit x words input) Noted.Unfit
     (pick (not (declarationInRange (x .declaration))) Noted.OutOfRange
-    (pick (not (withinQuota (x .declaration) counted input)) Noted.AboveQuota (Noted.Next (meterNoted x counted input))))
+    (pick (not (rowsInOrder (x .declaration))) Noted.OutOfOrder (Noted.Block (record { 0 = blockNext x input }))))
 
 -- and what the words hold then; where a test stands, nothing is written
-unfoldable pub wordsNoted : SourceMeter → List ℕ → ℕ → ℕ → List ℕ
-wordsNoted x words counted input =
-    pick (noteUnfit x words counted input) words
+unfoldable pub wordsNoted : SourceMeter → List ℕ → ℕ → List ℕ
+wordsNoted x words input =
+    pick (noteUnfit x words input) words
     (pick (not (declarationInRange (x .declaration))) words
-    (pick (not (withinQuota (x .declaration) counted input)) words (listOf (meterWordNext x words input) meterWordCount)))
+    (pick (not (rowsInOrder (x .declaration))) words (listOf (meterWordNext x words input) meterWordCount)))

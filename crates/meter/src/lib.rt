@@ -4,12 +4,12 @@ use crate::parts::Counted;
 use crate::parts::Noted;
 use crate::parts::counted_before;
 use crate::parts::note;
-use crate::parts::within_quota;
 use flow::Declaration;
 use quantity::Slots;
 use quantity::Units;
 use quantity::refusal::Refusal;
 ghost use mathlib.Core.Path.{_≡_};
+ghost use Prim.Native.Nat.{_+_, _<_};
 ghost use Rattle.meter.specs.Meter.{roomOf, meterOf, meterWordsAfter};
 
 pub mod parts;
@@ -27,10 +27,16 @@ pub enum Room {
     Refused(Refusal),
 }
 
-// What a meter answers to an input: the next state.
-pub enum Metered {
-    Taken(SourceMeter),
+// Whether a meter takes an input.
+pub enum Intake {
+    Taken,
     Refused(Refusal),
+}
+
+// What a meter answers to an input: the next state beside it, or the one that was given where the input is refused. (An enum cannot hold the rows' array.)
+pub struct Metered {
+    pub intake: Intake,
+    pub state: SourceMeter,
 }
 
 // The most that the next slot's input may be.
@@ -40,13 +46,12 @@ pub fn room_left(state: SourceMeter, words: &[u32]) -> Room
     match counted_before(state, words) {
         Counted::Unusable => Room::Refused(Refusal::Unusable),
         Counted::OutOfRange => Room::Refused(Refusal::OutOfRange(0)),
-        Counted::Before(counted) => {
-            let declaration = state.declaration;
-            let quota = declaration.quota.0 as u64;
-            if quota < counted.0 {
+        Counted::OutOfOrder => Room::Refused(Refusal::RowsOutOfOrder(0)),
+        Counted::Below(end) => {
+            if end.0 == 0 {
                 return Room::Refused(Refusal::InputBreaksDeclaration);
             }
-            Room::AtMost(Units(quota - counted.0))
+            Room::AtMost(Units(end.0 - 1))
         }
     }
 }
@@ -56,23 +61,49 @@ pub fn take(state: SourceMeter, words: &mut [u32], input: Units) -> Metered
     ensures { λ r. ⌜ (r ≡ meterOf state (now (words .entry)) (input .0)) × (now (words .exit) ≡ meterWordsAfter state (now (words .entry)) (input .0)) ⌝ }
 {
     if Units::LARGEST < input.0 {
-        return Metered::Refused(Refusal::Unusable);
+        return refused(state, Refusal::Unusable);
     }
     match counted_before(state, &words[..]) {
-        Counted::Unusable => Metered::Refused(Refusal::Unusable),
-        Counted::OutOfRange => Metered::Refused(Refusal::OutOfRange(0)),
-        Counted::Before(counted) => {
-            let declaration = state.declaration;
-            // usable words may together be above the limit: refusal 13 here, and unfit where note is given so much
-            if !within_quota(declaration, counted, input) {
-                return Metered::Refused(Refusal::InputBreaksDeclaration);
+        Counted::Unusable => refused(state, Refusal::Unusable),
+        Counted::OutOfRange => refused(state, Refusal::OutOfRange(0)),
+        Counted::OutOfOrder => refused(state, Refusal::RowsOutOfOrder(0)),
+        Counted::Below(end) => {
+            if end.0 <= input.0 {
+                return refused(state, Refusal::InputBreaksDeclaration);
             }
-            match note(state, words, counted, input) {
-                Noted::Next(next) => Metered::Taken(next),
-                Noted::Unfit => Metered::Refused(Refusal::Unusable),
-                Noted::OutOfRange => Metered::Refused(Refusal::OutOfRange(0)),
-                Noted::AboveQuota => Metered::Refused(Refusal::InputBreaksDeclaration),
+            match note(state, words, input) {
+                Noted::Block(block) => taken(state, block),
+                Noted::Unfit => refused(state, Refusal::Unusable),
+                Noted::OutOfRange => refused(state, Refusal::OutOfRange(0)),
+                Noted::OutOfOrder => refused(state, Refusal::RowsOutOfOrder(0)),
             }
         }
+    }
+}
+
+// The input is refused, and the state stays.
+fn refused(state: SourceMeter, why: Refusal) -> Metered
+    ensures { λ r. ⌜ r ≡ record { intake = Intake.Refused why; state = state } ⌝ }
+{
+    Metered {
+        intake: Intake::Refused(why),
+        state,
+    }
+}
+
+// The input is taken, and the next slot follows, with so many units in the block.
+fn taken(state: SourceMeter, block: Units) -> Metered
+    requires { ⌜ state .slot .0 < 1073741823 ⌝ }
+    ensures { λ r. ⌜ r ≡ record { intake = Intake.Taken; state = record { declaration = state .declaration; slot = record { 0 = state .slot .0 + 1 }; block = block } } ⌝ }
+{
+    let declaration = state.declaration;
+    let next = SourceMeter {
+        declaration,
+        slot: Slots(state.slot.0 + 1),
+        block,
+    };
+    Metered {
+        intake: Intake::Taken,
+        state: next,
     }
 }

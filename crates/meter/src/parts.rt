@@ -1,5 +1,5 @@
-// Parts of a slot, for the crate that runs a path. They are no calls: who builds boxes calls take and room_left (document 01, sections 2, 6 and 7).
-// What is lent and stored is tested and counted, then the quota decides, then the input is written.
+// Parts of a slot, for the crate that runs a path. They are no calls: who builds boxes calls take and room_left (document 01, sections 2, 6 and 7; document 02, item 6).
+// What is lent and stored is tested and counted, then the rows' quotas decide, then the input is written.
 
 use crate::SourceMeter;
 use flow::Declaration;
@@ -8,33 +8,36 @@ use quantity::Slots;
 use quantity::Units;
 ghost use mathlib.Core.Path.{_≡_};
 ghost use mathlib.Core.Bool.{true, false};
-ghost use Prim.Native.Nat.{_+_, _<_};
+ghost use Prim.Native.Nat.{_+_, _-_, _≤_, _<_, min};
+ghost use lib.ListN.{length};
 ghost use Rattle.quantity.specs.Choice.{pick};
+ghost use Rattle.quantity.specs.Limits.{largestAmount};
 ghost use Rattle.quantity.specs.Sums.{total};
 ghost use Rattle.words.specs.Stored.{wordAt};
-ghost use Rattle.flow.specs.Declarations.{declarationInRange};
-ghost use Rattle.meter.specs.Meter.{meterUnusable, usesBlock, meterWordsUsed, countedBefore, meterWordCount};
-ghost use Rattle.meter.specs.Parts.{countedOf, withinQuota, notedOf, wordsNoted};
+ghost use Rattle.flow.specs.Declarations.{declarationInRange, rowsInOrder};
+ghost use Rattle.meter.specs.Meter.{meterWordCount, usesBlock, ringLength, meterUnusable, blockBefore, wordBefore};
+ghost use Rattle.meter.specs.Parts.{inputsBelow, countedOf, notedOf, wordsNoted};
 
 // The words of a meter.
 const WORDS: usize = 1024;
 
-// The units that count with the next input.
+// What the next input has to be below.
 pub enum Counted {
-    Before(Units),
+    Below(Units),
     Unusable,
     OutOfRange,
+    OutOfOrder,
 }
 
-// What noting answers: the next state.
+// What noting answers: the block's total behind the slot, 0 where there is a ring.
 pub enum Noted {
-    Next(SourceMeter),
+    Block(Units),
     Unfit,
     OutOfRange,
-    AboveQuota,
+    OutOfOrder,
 }
 
-// Test: the units that count with the next input.
+// Test: what the next input has to be below, so that it keeps every row.
 pub fn counted_before(state: SourceMeter, words: &[u32]) -> Counted
     ensures { λ r. ⌜ r ≡ countedOf state (now (words .entry)) ⌝ }
 {
@@ -45,56 +48,36 @@ pub fn counted_before(state: SourceMeter, words: &[u32]) -> Counted
             if !declaration.in_range() {
                 return Counted::OutOfRange;
             }
-            Counted::Before(Units(counts_with(state, words, units)))
+            if !declaration.in_order() {
+                return Counted::OutOfOrder;
+            }
+            Counted::Below(Units(inputs_below(state, words, units)))
         }
     }
 }
 
-// Decide: whether, with the units that count with it, an input is within the quota.
-pub fn within_quota(declaration: Declaration, counted: Units, input: Units) -> bool
-    ensures { λ r. ⌜ r ≡ withinQuota declaration (counted .0) (input .0) ⌝ }
+// Write: the block's total, and the input's word where there is a ring. No word is tested, and no quota.
+pub fn note(state: SourceMeter, words: &mut [u32], input: Units) -> Noted
+    ensures { λ r. ⌜ (r ≡ notedOf state (now (words .entry)) (input .0)) × (now (words .exit) ≡ wordsNoted state (now (words .entry)) (input .0)) ⌝ }
 {
-    let quota = declaration.quota.0 as u64;
-    if quota < counted.0 {
-        return false;
-    }
-    input.0 <= quota - counted.0
-}
-
-// Write: the next state, and the word of the input under a uniform declaration. `counted` is what counted_before answered; no word is tested.
-pub fn note(state: SourceMeter, words: &mut [u32], counted: Units, input: Units) -> Noted
-    ensures { λ r. ⌜ (r ≡ notedOf state (now (words .entry)) (counted .0) (input .0)) × (now (words .exit) ≡ wordsNoted state (now (words .entry)) (counted .0) (input .0)) ⌝ }
-{
-    if words::unfit(words.len(), WORDS, state.slot.0, counted.0, input.0) {
+    if words::unfit(words.len(), WORDS, state.slot.0, state.block.0, input.0) {
         return Noted::Unfit;
     }
     let declaration = state.declaration;
     if !declaration.in_range() {
         return Noted::OutOfRange;
     }
-    if !within_quota(declaration, counted, input) {
-        return Noted::AboveQuota;
+    if !declaration.in_order() {
+        return Noted::OutOfOrder;
     }
     let kind = declaration.kind;
     if uses_block(kind) {
-        return Noted::Next(next(state, counted.0 + input.0));
+        return Noted::Block(Units(block_before(state) + input.0));
     }
-    let at = (state.slot.0 % declaration.interval.0) as usize;
+    let last = declaration.last_row();
+    let at = (state.slot.0 % last.interval.0) as usize;
     words[at] = input.0 as u32;
-    Noted::Next(next(state, 0))
-}
-
-// The state of the slot after, with so many units in its block.
-fn next(state: SourceMeter, block: u64) -> SourceMeter
-    requires { ⌜ state .slot .0 < 1073741823 ⌝ }
-    ensures { λ r. ⌜ r ≡ record { declaration = state .declaration; slot = record { 0 = state .slot .0 + 1 }; block = record { 0 = block } } ⌝ }
-{
-    let declaration = state.declaration;
-    SourceMeter {
-        declaration,
-        slot: Slots(state.slot.0 + 1),
-        block: Units(block),
-    }
+    Noted::Block(Units(0))
 }
 
 // The sum of the words, unless what is lent and stored cannot be used.
@@ -113,32 +96,119 @@ fn stored_in(state: SourceMeter, words: &[u32]) -> Stored
         return Stored::Unusable;
     }
     let declaration = state.declaration;
+    if !declaration.unused_clear() {
+        return Stored::Unusable;
+    }
     let kind = declaration.kind;
     if !words::stored_fits(uses_block(kind), state.block.0) {
         return Stored::Unusable;
     }
-    let scanned = words::scan(words, words_used(kind, declaration.interval.0));
+    let scanned = words::scan(words, ring_length(declaration));
     if !scanned.fits {
         return Stored::Unusable;
     }
     Stored::Words(scanned.units)
 }
 
-// The units that count with the next input: the block's so far, or those of the words but the one that the input replaces.
-fn counts_with(state: SourceMeter, words: &[u32], units: u64) -> u64
-    requires { ⌜ (meterUnusable state (now words) ≡ false) × (declarationInRange (state .declaration) ≡ true) × (units ≡ total (wordAt (now words)) meterWordCount) ⌝ }
-    ensures { λ r. ⌜ r ≡ countedBefore state (now (words .entry)) ⌝ }
+// What the next input has to be below: by the block's total, or by the words of the ring.
+fn inputs_below(state: SourceMeter, words: &[u32], units: u64) -> u64
+    requires { ⌜ (meterUnusable state (now words) ≡ false) × (declarationInRange (state .declaration) ≡ true) × (rowsInOrder (state .declaration) ≡ true) × (units ≡ total (wordAt (now words)) meterWordCount) ⌝ }
+    ensures { λ r. ⌜ r ≡ inputsBelow state (now (words .entry)) ⌝ }
 {
     let declaration = state.declaration;
     let kind = declaration.kind;
-    let at = state.slot.0 % declaration.interval.0;
-    match kind {
-        Kind::Smooth => { if at == 0 { 0 } else { state.block.0 } }
-        Kind::Uniform => {
-            let replaced = at as usize;
-            units - words[replaced] as u64
-        }
+    if uses_block(kind) {
+        return left_below(declaration.quota.0, block_before(state));
     }
+    ring_below(state, words, units)
+}
+
+// The last row counts all words but the one that the input replaces. A row before it counts the words of the row before and those up to its own reach;
+// a uniform declaration has no row before its last, and its count is 0. Where the last row leaves something, no sum is above its quota, so 32 bits are enough.
+fn ring_below(state: SourceMeter, words: &[u32], units: u64) -> u64
+    requires { ⌜ (usesBlock (state .declaration .kind) ≡ false) × (meterUnusable state (now words) ≡ false) × (declarationInRange (state .declaration) ≡ true) × (rowsInOrder (state .declaration) ≡ true) × (units ≡ total (wordAt (now words)) meterWordCount) ⌝ }
+    ensures { λ r. ⌜ r ≡ inputsBelow state (now (words .entry)) ⌝ }
+{
+    let declaration = state.declaration;
+    let last = declaration.last_row();
+    let at = (state.slot.0 % last.interval.0) as usize;
+    let mut least = left_below(last.quota.0, units - words[at] as u64);
+    if least == 0 {
+        return 0;
+    }
+    let ring = last.interval.0 as usize;
+    let count = declaration.count;
+    let rows = declaration.rows;
+    let mut counted: u32 = 0;
+    let mut reach: usize = 0;
+    let mut i: usize = 0;
+    while i + 1 < count {
+        let row = rows[i];
+        let end = row.interval.0 as usize - 1;
+        counted = counted + ring_sum(words, ring, at, reach, end);
+        reach = end;
+        least = smaller(least, left_below(row.quota.0, counted as u64));
+        i = i + 1;
+    }
+    least
+}
+
+// The words of the slots before the one at `at`, from age `from` to below age `to`, in a ring: one part of the words, or two.
+fn ring_sum(words: &[u32], ring: usize, at: usize, from: usize, to: usize) -> u32
+    requires { ⌜ (length (now words) ≡ meterWordCount) × (ring ≤ meterWordCount) × (at < ring) × (from ≤ to) × (to ≤ ring) × (total (wordBefore ring at (now words)) to ≤ largestAmount) ⌝ }
+    ensures { λ r. ⌜ total (wordBefore ring at (now (words .entry))) from + r ≡ total (wordBefore ring at (now (words .entry))) to ⌝ }
+{
+    let start = at + ring - to;
+    if at <= from {
+        return sum_between(words, start, at + ring - from);
+    }
+    let end = at - from;
+    if at < to {
+        return sum_between(words, 0, end) + sum_between(words, start, ring);
+    }
+    sum_between(words, at - to, end)
+}
+
+// The sum of the words from one on to before another: in 32 bits a vector holds twice as many as in 64.
+fn sum_between(words: &[u32], start: usize, end: usize) -> u32
+    requires { ⌜ (start ≤ end) × (end ≤ length (now words)) × (length (now words) ≡ meterWordCount) × (total (wordAt (now words)) end ≤ total (wordAt (now words)) start + largestAmount) ⌝ }
+    ensures { λ r. ⌜ total (wordAt (now (words .entry))) start + r ≡ total (wordAt (now (words .entry))) end ⌝ }
+{
+    let mut units: u32 = 0;
+    let mut j = start;
+    while j < end {
+        units = units + words[j];
+        j = j + 1;
+    }
+    units
+}
+
+// What an input has to be below to be within a quota, with the units that count with it.
+fn left_below(quota: u32, counted: u64) -> u64
+    ensures { λ r. ⌜ r ≡ quota + 1 - counted ⌝ }
+{
+    let end = quota as u64 + 1;
+    if end < counted {
+        return 0;
+    }
+    end - counted
+}
+
+fn smaller(a: u64, b: u64) -> u64
+    ensures { λ r. ⌜ r ≡ min a b ⌝ }
+{
+    if a < b { a } else { b }
+}
+
+// The units of the block so far.
+fn block_before(state: SourceMeter) -> u64
+    requires { ⌜ 1 ≤ state .declaration .interval .0 ⌝ }
+    ensures { λ r. ⌜ r ≡ blockBefore state ⌝ }
+{
+    if state.slot.0 % state.declaration.interval.0 == 0 {
+        return 0;
+    }
+    state.block.0
 }
 
 fn uses_block(kind: Kind) -> bool
@@ -147,14 +217,28 @@ fn uses_block(kind: Kind) -> bool
     match kind {
         Kind::Smooth => true,
         Kind::Uniform => false,
+        Kind::Rows => false,
     }
 }
 
-fn words_used(kind: Kind, interval: u32) -> usize
-    ensures { λ r. ⌜ r ≡ meterWordsUsed kind interval ⌝ }
+// The words of the ring.
+fn ring_length(declaration: Declaration) -> usize
+    ensures { λ r. ⌜ r ≡ ringLength declaration ⌝ }
 {
+    let kind = declaration.kind;
     match kind {
         Kind::Smooth => 0,
-        Kind::Uniform => interval as usize,
+        Kind::Uniform => declaration.interval.0 as usize,
+        Kind::Rows => {
+            let count = declaration.count;
+            if count == 0 {
+                return 0;
+            }
+            if 4 < count {
+                return 0;
+            }
+            let last = declaration.last_row();
+            last.interval.0 as usize
+        }
     }
 }

@@ -5,7 +5,8 @@ use Prim.Native.Nat.{ℕ}
 use Rattle.quantity.specs.Rounding.{roundUp}
 use Rattle.quantity.specs.Divisors.{euclid, gcd}
 use Rattle.quantity.specs.Sums.{total, listOf}
-use Rattle.flow.specs.Classes.{burst, mostIn, blocksMet, changedTo}
+use Rattle.flow.specs.Classes.{mostIn, blocksMet, changedQuota, carries, burstAt}
+use Rattle.flow.specs.Declarations.{ofOneRow, classOf}
 use Rattle.operator.specs.FilterPart.{slower}
 use Rattle.operator.specs.Operators.{limiter, compactor, expander, filter, delayer}
 use Rattle.flow.specs.declared.Kind.{Kind}
@@ -34,7 +35,7 @@ on link operator = record { operator = operator; link = record { 0 = link } }
 abbrev frames : Path
 frames =
     record {
-      declaration = record { kind = Kind.Smooth; interval = record { 0 = 10 }; quota = record { 0 = 30 } };
+      declaration = ofOneRow Kind.Smooth 10 30;
       wanted = 30;
       operators = on 0 (compactor 10) ∷ on 0 (expander 10) ∷ on 1 (compactor 10) ∷ on 1 (expander 10) ∷ [];
     }
@@ -50,7 +51,7 @@ page-computed : readPage (pageOf frames) ≡ record {
   capacity = 120;
   delay = 30;
 }
-unfolding roundUp euclid gcd total listOf burst mostIn blocksMet changedTo slower withDigit withDigits valueOf operatorByte behind progressAt partCapacity partDelay capacity ownDelay pairs isFramed operatorAt before pairedAt capacityAt delayAt pathDelay figureAt digitsOf decimal column columns widths lineOf kindNames pathName operatorCells pathCells cellsAt sumCells rowsOf linesOf pageOf widthOf lineLength lineAt cut columnAt behindSpaces numberIn beforeSpaces same whichOf kindIn entryAt readLines readPage
+unfolding roundUp euclid gcd total listOf carries burstAt mostIn blocksMet changedQuota classOf slower withDigit withDigits valueOf operatorByte behind progressAt partCapacity partDelay capacity ownDelay pairs isFramed operatorAt before pairedAt capacityAt delayAt pathDelay figureAt digitsOf decimal column columns widths lineOf kindNames pathName operatorCells pathCells cellsAt sumCells rowsOf linesOf pageOf widthOf lineLength lineAt cut columnAt behindSpaces numberIn beforeSpaces same whichOf kindIn entryAt readLines readPage
 page-computed = refl
 
 -- the line of an operator of each kind, character by character

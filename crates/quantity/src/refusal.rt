@@ -1,4 +1,4 @@
-// The refusals of document 01, section 7, in checking order, each with its place where it has one.
+// The refusals of document 01, section 7, in checking order, and of document 02, each with its place where it has one.
 
 ghost use mathlib.Core.Path.{_≡_};
 ghost use Rattle.quantity.specs.Refusals.{refusalNumber, refusalPlace};
@@ -33,6 +33,8 @@ pub enum Refusal {
     InputBreaksDeclaration,
     // 14
     ChoiceAboveGreatest(usize),
+    // 15, tested behind 5 in its field (document 02, item 6).
+    RowsOutOfOrder(usize),
 }
 
 impl Refusal {
@@ -55,6 +57,7 @@ impl Refusal {
             Refusal::LinkShort => 12,
             Refusal::InputBreaksDeclaration => 13,
             Refusal::ChoiceAboveGreatest(_) => 14,
+            Refusal::RowsOutOfOrder(_) => 15,
         }
     }
 
@@ -77,6 +80,7 @@ impl Refusal {
             Refusal::LinkShort => 0,
             Refusal::InputBreaksDeclaration => 0,
             Refusal::ChoiceAboveGreatest(at) => at,
+            Refusal::RowsOutOfOrder(at) => at,
         }
     }
 }

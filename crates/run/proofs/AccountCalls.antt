@@ -9,10 +9,10 @@ use borrow.Author.Tests.{not-false}
 use Rattle.quantity.specs.Choice.{pick}
 use Rattle.quantity.specs.Refusals.{Case, firstOf}
 use Rattle.quantity.proofs.Refusals.{NoneStands, none-of-each}
-use Rattle.flow.specs.Classes.{Keeps}
+use Rattle.flow.specs.Classes.{Positive, Keeps}
 use Rattle.flow.specs.Flows.{flowOf}
 use Rattle.flow.specs.Declarations.{classOf}
-use Rattle.flow.proofs.Keeping.{keeps-decided}
+use Rattle.flow.proofs.Laws.{keeps-decided}
 use Rattle.sheet.specs.Paths.{Path}
 use Rattle.run.specs.Calls.{Call}
 use Rattle.run.specs.Account.{Account, breaksDeclaration, choiceTooLarge, choicesTooLarge, accountCases, accountNext, accountAfter}
@@ -49,7 +49,7 @@ module _ (path : Path) (P : Account → Type 0)
   all-holds account (call ∷ calls) holds = all-holds (accountAfter path account call) calls (after-holds account call holds)
 
 -- the account's test of the declaration decides just that: the inputs taken and this one keep it (section 2)
-pub declaration-tested : (path : Path) (account : Account) (call : Call) → 1 ≤ path .declaration .interval .0
+pub declaration-tested : (path : Path) (account : Account) (call : Call) → Positive (classOf (path .declaration))
     → (breaksDeclaration path account call ≡ false) ↔ Keeps (classOf (path .declaration)) (flowOf (account .entered ++ (call .input ∷ [])))
 unfolding breaksDeclaration
 declaration-tested path account call large =

@@ -20,13 +20,13 @@ use Rattle.operator.specs.OnFlows.{heldOn, outputOn, Fitting}
 use Rattle.flow.specs.Classes.{Keeps}
 use Rattle.flow.specs.Declarations.{classOf}
 use Rattle.flow.specs.Keeping.{keepsClass}
-use Rattle.flow.proofs.Keeping.{keeps-decided}
+use Rattle.flow.proofs.Laws.{keeps-decided}
 use Rattle.operator.proofs.Laws.{least-le-greatest, whole-on, none-fits}
 use Rattle.sheet.specs.Paths.{Path}
 use Rattle.sheet.specs.Sheets.{pathInRange}
 use Rattle.figures.specs.Answers.{operatorAt, capacityAt, pathDelay, pathCases}
 use Rattle.figures.specs.Along.{flowInto, AllFit, Promised}
-use Rattle.figures.proofs.Promise.{promised, interval-large}
+use Rattle.figures.proofs.Promise.{promised, declared-positive}
 use Rattle.run.specs.Calls.{Call, choiceFor}
 use Rattle.run.specs.Account.{Account, newAccount, arriving, breaksDeclaration, choiceTooLarge, accountCases, accountNext}
 use Rattle.run.specs.Lists.{accountAll}
@@ -167,7 +167,7 @@ follows-kept path account follows kept =
 
 module _ (path : Path) (inside : pathInRange path ≡ true) where
   declaration-kept : (units : List ℕ) → keepsClass (classOf (path .declaration)) units ≡ true → Keeps (classOf (path .declaration)) (flowOf units)
-  declaration-kept units = keeps-decided (classOf (path .declaration)) units (interval-large path inside) .0
+  declaration-kept units = keeps-decided (classOf (path .declaration)) units (declared-positive path inside) .0
 
   follows-new : Follows path newAccount
   unfolding heldOn keepsClass every

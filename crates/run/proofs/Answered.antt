@@ -21,8 +21,8 @@ use Rattle.quantity.proofs.Sums.{every-holds}
 use Rattle.quantity.proofs.Refusals.{NoneStands, none-of-both, firstOf-none, FirstIs, none-or-first, first-answered, first-of-more}
 use Rattle.operator.specs.Held.{nothing}
 use Rattle.operator.specs.Operators.{greatestOutput, heldAfter, numberInRange}
-use Rattle.flow.specs.Declarations.{declarationInRange, classOf}
-use Rattle.flow.specs.Classes.{Keeps}
+use Rattle.flow.specs.Declarations.{declarationInRange, rowsInOrder, unusedClear, classOf}
+use Rattle.flow.specs.Classes.{Positive, Keeps}
 use Rattle.flow.specs.Flows.{flowOf}
 use Rattle.operator.specs.Single.{holds, holdsNext, choiceAbove, leavesTooMuch}
 use Rattle.meter.specs.Meter.{meterWordCount, meterUnusable}
@@ -56,8 +56,10 @@ same-test false false p q = refl
 pub record Passes (path : Path) : Type 0 where
   pub some : 1 ≤ length (path .operators)
   pub few : length (path .operators) ≤ mostOperators
-  pub large : 1 ≤ path .declaration .interval .0
+  pub large : Positive (classOf (path .declaration))
   pub declared : declarationInRange (path .declaration) ≡ true
+  pub ordered : rowsInOrder (path .declaration) ≡ true
+  pub unused : unusedClear (path .declaration) ≡ true
   pub number : (k : ℕ) → k < length (path .operators) → numberInRange (operatorAt path k) ≡ true
   pub capacity : (k : ℕ) → k < length (path .operators) → capacityAt path k ≤ largestAmount
 
@@ -105,8 +107,9 @@ module _ (path : Path) (passes : Passes path) (run : Run) (words : List ℕ) (ac
       either-second (not (eqb (length words) runWordCount)) _
       (either-second (not (both (leb 1 (run .count)) (leb (run .count) mostOperators))) _
       (either-second (not (declarationInRange (run .declaration))) _
+      (either-second (not (rowsInOrder (run .declaration))) _
       (either-first _ _
-      (either-second (not (eqb (length (meterWords words)) meterWordCount)) _ (either-first (ltb lastSlot (run .slot .0)) _ (rw (joined .slot) used))))))
+      (either-second (not (eqb (length (meterWords words)) meterWordCount)) _ (either-first (ltb lastSlot (run .slot .0)) _ (rw (joined .slot) used)))))))
 
   usable-where-left : ltb lastSlot (account .slot) ≡ false → runUnusable run words ≡ false
   usable-where-left left =
@@ -117,6 +120,7 @@ module _ (path : Path) (passes : Passes path) (run : Run) (words : List ℕ) (ac
         some = rw (joined .counted) (passes .some);
         few = rw (joined .counted) (passes .few);
         declared = rw (joined .declared) (passes .declared);
+        ordered = rw (joined .declared) (passes .ordered);
         meter = sound-usable (meterFed run words (account .entered)) (joined .meter) (rw (kept .counted) within);
         stages = stages-usable within;
       })

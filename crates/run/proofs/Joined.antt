@@ -16,7 +16,7 @@ use Rattle.quantity.specs.Sums.{listOf}
 use Rattle.quantity.proofs.Laws.{pick-true, pick-false}
 use Rattle.quantity.proofs.Sums.{length-listOf, getD-listOf, listOf-ext}
 use Rattle.operator.specs.Operators.{leastOutput, greatestOutput, numberInRange}
-use Rattle.flow.specs.Declarations.{declarationInRange}
+use Rattle.flow.specs.Declarations.{declarationInRange, rowsInOrder, unusedClear}
 use Rattle.operator.specs.Whole.{Whole}
 use Rattle.words.specs.Stored.{wordAt}
 use Rattle.operator.specs.Single.{wordCount, holds, holdsNext, sent, stateNext, wordsNext}
@@ -124,18 +124,18 @@ module _ (path : Path) (few : length (path .operators) ≤ mostOperators) where
   unfolding newStage
   operator-new k = refl
 
-  meter-new : declarationInRange (path .declaration) ≡ true → Sound (meterFed (newRun path) clearWords [])
+  meter-new : unusedClear (path .declaration) ≡ true → declarationInRange (path .declaration) ≡ true → rowsInOrder (path .declaration) ≡ true → Sound (meterFed (newRun path) clearWords [])
   unfolding newRun meterIn
-  meter-new inside = rw clear-meter (sound-new (path .declaration) inside)
+  meter-new clear inside ordered = rw clear-meter (sound-new (path .declaration) (record { clear = clear; ranged = inside; ordered = ordered }))
 
-  pub joined-new : declarationInRange (path .declaration) ≡ true → Joined path (newRun path) clearWords newAccount
-  joined-new inside =
+  pub joined-new : unusedClear (path .declaration) ≡ true → declarationInRange (path .declaration) ≡ true → rowsInOrder (path .declaration) ≡ true → Joined path (newRun path) clearWords newAccount
+  joined-new clear inside ordered =
       record {
         declared = declared-new;
         slot = slot-new;
         counted = counted-new;
         sized = clear-sized;
-        meter = meter-new inside;
+        meter = meter-new clear inside ordered;
         operator = λ k less. ap (λ (stage : Stage). stage .operator) (new-stage k (omega arith)) ∙ operator-new k;
         stands =
             λ k less.

@@ -8,8 +8,6 @@ use native.Mathlib.Omega.{arith}
 use lib.ListN.{length, getD, take}
 use borrow.Author.Tests.{lt-ltb}
 use lib.Seq.{take-suc}
-use Rattle.quantity.specs.Choice.{both}
-use Rattle.quantity.specs.Ranges.{inRange, wantedDelayRange}
 use Rattle.quantity.specs.Sums.{listOf}
 use Rattle.quantity.specs.declared.refusal.Refusal.{Refusal}
 use Rattle.quantity.specs.declared.refusal.Refusal.the-variants.{Unusable}
@@ -18,13 +16,13 @@ use Rattle.quantity.proofs.Sums.{both-true, getD-listOf}
 use Rattle.quantity.proofs.Refusals.{NoneStands, none-of-each, none-where-result, firstOf-none, FirstIs, none-or-first, first-answered, first-of-each}
 use Rattle.flow.specs.Declarations.{declarationInRange}
 use Rattle.sheet.specs.Paths.{Path}
-use Rattle.sheet.specs.Sheets.{sheetCases, valueIn, pathIn, pathInRange, operatorsInRange}
+use Rattle.sheet.specs.Sheets.{sheetCases, valueIn, pathIn, restInRange, pathInRange}
 use Rattle.sheet.specs.declared.read.Verdict.{Verdict}
-use Rattle.sheet.proofs.Accepted.{sheet-path, never-accepted}
+use Rattle.sheet.proofs.Accepted.{sheet-path, order-of-sheet, unused-of-sheet, never-accepted}
 use Rattle.figures.specs.declared.Figure.{Figure}
 use Rattle.figures.specs.declared.PathFigures.{PathFigures}
 use Rattle.figures.specs.Answers.{capacityAt, pathCases, figureAt, figureIn, noFigure, refusedFigures, acceptedFigures, figuresOf}
-use Rattle.figures.proofs.Promise.{accepted-figures, interval-large, operator-inside, operator-capacity-le}
+use Rattle.figures.proofs.Promise.{accepted-figures, declared-positive, operator-inside, operator-capacity-le}
 use Rattle.run.specs.declared.opening.Opened.{Opened}
 use Rattle.run.specs.declared.slot.Outcome.{Outcome}
 use Rattle.run.specs.Calls.{Call, choicesMiscounted, amountTooLarge}
@@ -111,8 +109,10 @@ module _ (sheet words : List ℕ) (accepted : openedOf sheet words .verdict ≡ 
       record {
         some = sheet-path sheet sheet-stands .some;
         few = sheet-path sheet sheet-stands .few;
-        large = interval-large value path-inside;
-        declared = both-true (declarationInRange (value .declaration)) (both (inRange wantedDelayRange (value .wanted)) (operatorsInRange (value .operators))) path-inside .0;
+        large = declared-positive value path-inside;
+        declared = both-true (declarationInRange (value .declaration)) (restInRange value) path-inside .0;
+        ordered = order-of-sheet sheet sheet-stands;
+        unused = unused-of-sheet sheet sheet-stands;
         number = operator-inside value path-inside path-stands;
         capacity = operator-capacity-le value path-inside path-stands;
       }
@@ -132,7 +132,7 @@ module _ (sheet words : List ℕ) (accepted : openedOf sheet words .verdict ≡ 
         firstOf-none refusedOpening (record { verdict = Verdict.Accepted; run = newRun value }) (openCases sheet words) opening-stands,
         firstOf-none (λ why. words) (listOf (λ j. 0) runWordCount) (openCases sheet words) opening-stands,
       )
-      (joined-new value (passes .few) (passes .declared))
+      (joined-new value (passes .few) (passes .unused) (passes .declared) (passes .ordered))
 
   -- The account of every list of calls, and of one more call that it takes.
   account-within : (calls : List Call) → AccountKept value (accountAll value newAccount calls)

@@ -5,7 +5,7 @@ use mathlib.Core.List.{List, [], _∷_, _++_}
 use mathlib.Core.Logic.{inl, inr, ⊎-elim}
 use Prim.Native.Nat.{ℕ, _+_, _≤_, _<_}
 use native.Mathlib.Omega.{arith}
-use lib.Dec.{leb}
+use lib.Dec.{leb, ltb}
 use lib.ListN.{length, getD}
 use borrow.Author.Tests.{lt-ltb, le-ltb, eq-eqb, ne-eqb}
 use Rattle.quantity.specs.Choice.{pick, both}
@@ -17,8 +17,8 @@ use Rattle.quantity.specs.declared.refusal.Refusal.{Refusal}
 use Rattle.quantity.specs.declared.refusal.Refusal.the-variants.{Unusable, InputBreaksDeclaration}
 use Rattle.quantity.proofs.Sums.{every-next}
 use Rattle.quantity.proofs.Refusals.{NoneStands, none-where-result, firstOf-none, FirstIs, none-or-first, first-answered}
-use Rattle.meter.specs.Parts.{withinQuota}
 use Rattle.meter.proofs.PartsLaws.{within-breaks}
+use Rattle.run.proofs.UsableRun.{usable-run}
 use Rattle.run.specs.declared.Run.{Run}
 use Rattle.run.specs.declared.decide.Move.{Move}
 use Rattle.run.specs.declared.slot.Outcome.{Outcome}
@@ -27,7 +27,7 @@ use Rattle.run.specs.declared.test.Tested.{Tested}
 use Rattle.run.specs.Calls.{Call, choiceFor, choicesMiscounted, amountTooLarge}
 use Rattle.run.specs.Runs.{runWordCount, meterWords, meterIn, runUnusable}
 use Rattle.run.specs.Slots.{slotBreaks, choiceCases, slotLeavesTooMuch, slotCases, slotOutput, refusedSlot, takenSlot, slottedOf, wordsSlotted}
-use Rattle.run.specs.Steps.{notTested, countedIn, testedOf, noMove, moveOf, planOf, runWritten, wordWritten}
+use Rattle.run.specs.Steps.{notTested, belowIn, testedOf, noMove, moveOf, planOf, runWritten, wordWritten}
 use Rattle.run.specs.Taking.{Took}
 use Rattle.run.specs.Watching.{unitsHeld}
 use Rattle.run.proofs.SlotAnswers.{slot-taken, words-taken, slot-refused, words-refused}
@@ -83,7 +83,7 @@ module _ (operators : ℕ) (call : Call) where
 
 module _ (run : Run) (words : List ℕ) where
   abbrev passing : Tested
-  passing = record { usable = true; counted = record { 0 = countedIn run words }; held = listOf (unitsHeld run words) mostOperators }
+  passing = record { usable = true; below = record { 0 = belowIn run words }; held = listOf (unitsHeld run words) mostOperators }
 
   module _ {tested : Tested} (found : tested ≡ testedOf run words) where
     unusable-then : tested .usable ≡ false → runUnusable run words ≡ true
@@ -94,14 +94,14 @@ module _ (run : Run) (words : List ℕ) where
         by-test true same = refl
         by-test false same = absurd (never (sym (ap (λ (t : Tested). t .usable) same) ∙ unfit))
 
-    pub stored-passes : tested .usable ≡ true → (runUnusable run words ≡ false) × (tested .counted .0 ≡ countedIn run words) × (tested .held ≡ listOf (unitsHeld run words) mostOperators)
+    pub stored-passes : tested .usable ≡ true → (runUnusable run words ≡ false) × (tested .below .0 ≡ belowIn run words) × (tested .held ≡ listOf (unitsHeld run words) mostOperators)
     unfolding testedOf
     stored-passes fit = by-test (runUnusable run words) refl found
       where
         by-test : (t : Bool) → runUnusable run words ≡ t → tested ≡ pick t notTested passing
-            → (runUnusable run words ≡ false) × (tested .counted .0 ≡ countedIn run words) × (tested .held ≡ listOf (unitsHeld run words) mostOperators)
+            → (runUnusable run words ≡ false) × (tested .below .0 ≡ belowIn run words) × (tested .held ≡ listOf (unitsHeld run words) mostOperators)
         by-test true e same = absurd (never (sym fit ∙ ap (λ (t : Tested). t .usable) same))
-        by-test false e same = (e, ap (λ (t : Tested). t .counted .0) same, ap (λ (t : Tested). t .held) same)
+        by-test false e same = (e, ap (λ (t : Tested). t .below .0) same, ap (λ (t : Tested). t .held) same)
 
 -- The ways out.
 
@@ -125,15 +125,15 @@ module _ (run : Run) (words : List ℕ) (call : Call) where
     pub refused-stored : {tested : Tested} → tested ≡ testedOf run words → tested .usable ≡ false → {answer : Slotted} → answer ≡ refusedSlot run Unusable → Answer answer words
     refused-stored found unfit = refused-first (inr (counted, inr (small, inl (unusable-then run words found unfit, refl))))
 
-    module _ (usable : runUnusable run words ≡ false) {units : ℕ} (same-units : units ≡ countedIn run words) where
-      breaks-tested : not (withinQuota (run .declaration) units (call .input)) ≡ slotBreaks run words call
-      unfolding countedIn slotBreaks meterIn
-      breaks-tested = rw same-units (within-breaks (meterIn run) (meterWords words) (call .input))
+    module _ (usable : runUnusable run words ≡ false) {below : ℕ} (same-below : below ≡ belowIn run words) where
+      breaks-tested : not (ltb (call .input) below) ≡ slotBreaks run words call
+      unfolding belowIn slotBreaks meterIn
+      breaks-tested = rw same-below (within-breaks (meterIn run) (meterWords words) (call .input) (usable-run run words usable .declared))
 
-      pub refused-input : withinQuota (run .declaration) units (call .input) ≡ false → {answer : Slotted} → answer ≡ refusedSlot run InputBreaksDeclaration → Answer answer words
-      refused-input above = refused-first (inr (counted, inr (small, inr (usable, inl (sym breaks-tested ∙ ap not above, refl)))))
+      pub refused-input : below ≤ call .input → {answer : Slotted} → answer ≡ refusedSlot run InputBreaksDeclaration → Answer answer words
+      refused-input above = refused-first (inr (counted, inr (small, inr (usable, inl (sym breaks-tested ∙ ap not (le-ltb (call .input) below above), refl)))))
 
-      module _ (keeps : withinQuota (run .declaration) units (call .input) ≡ true) {planned : Outcome} (plan : planned ≡ planOf run words call) where
+      module _ (keeps : call .input < below) {planned : Outcome} (plan : planned ≡ planOf run words call) where
         abbrev decisions : List Case
         decisions = choiceCases run words call (run .count) ++ ((slotLeavesTooMuch run words call ⇒ Unusable) ∷ [])
 
@@ -145,7 +145,7 @@ module _ (run : Run) (words : List ℕ) (call : Call) where
         decided = plan
 
         kept-declared : slotBreaks run words call ≡ false
-        kept-declared = sym breaks-tested ∙ ap not keeps
+        kept-declared = sym breaks-tested ∙ ap not (lt-ltb (call .input) below keeps)
 
         pub refused-planned : {why : Refusal} → Outcome.Refused why ≡ planned → {answer : Slotted} → answer ≡ refusedSlot run why → Answer answer words
         refused-planned {why} refused = refused-first (inr (counted, inr (small, inr (usable, inr (kept-declared, ⊎-elim sent first (none-or-first decisions))))))
@@ -171,14 +171,14 @@ module _ (run : Run) (words : List ℕ) (call : Call) where
           none-stands = (counted, (small, (usable, (kept-declared, none-decided))))
 
           module _ (moves : List Move) (moved : Took planned → (k : ℕ) → k < run .count → getD moves k noMove ≡ moveOf run words call k) where
-            pub taken : {next : Run} → next ≡ runWritten run words units (call .input) moves → {after : List ℕ} → after ≡ listOf (wordWritten run words units (call .input) moves) runWordCount
+            pub taken : {next : Run} → next ≡ runWritten run words (call .input) moves → {after : List ℕ} → after ≡ listOf (wordWritten run words (call .input) moves) runWordCount
                 → Answer (record { outcome = Outcome.Sent output; run = next }) after
             unfolding takenSlot
             taken made left = (
               ap₂ (λ (outcome : Outcome) (run : Run). record { outcome = outcome; run = run }) (sent ∙ decided ∙ firstOf-none Outcome.Refused sends decisions none-decided)
-                  (made ∙ rw same-units (run-written run words call none-stands moves (moved took)))
+                  (made ∙ run-written run words call none-stands moves (moved took))
                   ∙ sym (slot-taken run words call none-stands),
               left
-                  ∙ rw same-units (ap (λ (word : ℕ → ℕ). listOf word runWordCount) (fun-ext (word-written run words call none-stands moves (moved took))))
+                  ∙ ap (λ (word : ℕ → ℕ). listOf word runWordCount) (fun-ext (word-written run words call none-stands moves (moved took)))
                   ∙ sym (words-taken run words call none-stands),
             )

@@ -1,12 +1,14 @@
 -- Demand 2: in any run that refusal 1 lets pass, a slot is taken if and only if its input keeps the declaration as the run has it and every choice lies in its operator's interval.
-use mathlib.Core.Path.{_≡_}
-use mathlib.Core.Bool.{false}
+use mathlib.Core.Path.{_≡_, ap}
+use mathlib.Core.Bool.{false, not}
 use mathlib.Core.List.{List}
 use mathlib.Core.Logic.{_↔_, ⊎-elim}
 use Prim.Native.Nat.{ℕ, zero, suc, _-_, _≤_, _<_}
 use native.Mathlib.Nat.{not-suc-le-zero, le-of-suc-le-suc, eq-or-lt-of-le}
 use native.Mathlib.Omega.{arith}
-use borrow.Author.Tests.{ltb-false, le-ltb}
+use borrow.Author.Tests.{leb-true, le-leb, not-false, ltb-false, le-ltb}
+use Rattle.quantity.proofs.Sums.{every-at, every-holds}
+use Rattle.flow.specs.Declarations.{rowCount}
 use Rattle.quantity.proofs.Refusals.{NoneStands, none-of-both, none-of-each, none-where-result}
 use Rattle.operator.specs.Operators.{leastOutput, greatestOutput}
 use Rattle.operator.specs.Single.{sent, choiceAbove}
@@ -64,14 +66,22 @@ module _ (run : Run) (words : List ℕ) (call : Call) where
   unfolding takenSlot
   stands-took none = rw (slot-taken run words call none) tt
 
-  pub taken-iff : LetPass run words call → Took (slottedOf run words call .outcome) ↔ (KeepsDeclared run words call × ((k : ℕ) → k < run .count → InInterval run words call k))
+  -- the input breaks the declaration where it is above the quota in some row
+  rows-kept : slotBreaks run words call ≡ false → KeepsDeclared run words call
   unfolding slotBreaks inputBreaks meterIn
+  rows-kept kept i less = leb-true _ _ (every-at _ (rowCount (run .declaration)) (not-false _ kept) i less)
+
+  kept-rows : KeepsDeclared run words call → slotBreaks run words call ≡ false
+  unfolding slotBreaks inputBreaks meterIn
+  kept-rows keeps = ap not (every-holds _ (rowCount (run .declaration)) (λ i less. le-leb _ _ (keeps i less)))
+
+  pub taken-iff : LetPass run words call → Took (slottedOf run words call .outcome) ↔ (KeepsDeclared run words call × ((k : ℕ) → k < run .count → InInterval run words call k))
   taken-iff passes =
       let passed = usable-run run words (passes .usable) in (
         λ took.
             let none = took-stands took in
             let fit = none-of-each (choiceCases run words call (run .count)) _ (none .1 .1 .1 .1) .0 in
-            (ltb-false _ _ (none .1 .1 .1 .0), λ k less. within-interval passed k less (choices-below (run .count) fit k less)),
+            (rows-kept (none .1 .1 .1 .0), λ k less. within-interval passed k less (choices-below (run .count) fit k less)),
         λ (keeps, within).
             stands-took (
               passes .counted,
@@ -80,7 +90,7 @@ module _ (run : Run) (words : List ℕ) (call : Call) where
                 (
                   passes .usable,
                   (
-                    le-ltb _ _ keeps,
+                    kept-rows keeps,
                     none-of-both (choiceCases run words call (run .count)) _ (below-choices (run .count) (λ k less. interval-within passed k less (within k less))) (passes .stored, tt),
                   ),
                 ),

@@ -20,16 +20,18 @@ use Rattle.quantity.proofs.Sums.{both-true, every-next, length-listOf, getD-lis
 use Rattle.operator.specs.Single.{usesHeld, holds, storedUnusable}
 use Rattle.operator.specs.Parts.{storedOf}
 use Rattle.operator.specs.Operators.{numberInRange}
-use Rattle.flow.specs.Declarations.{declarationInRange}
+use Rattle.flow.specs.Declarations.{declarationInRange, rowsInOrder}
 use Rattle.meter.specs.Meter.{meterUnusable}
 use Rattle.meter.specs.Parts.{countedOf}
 use Rattle.operator.specs.declared.Operator.{Operator}
 use Rattle.operator.specs.declared.Operator.the-variants.{Limiter, Compactor, Expander, Filter, Delayer}
 use Rattle.operator.specs.declared.SingleOperator.{SingleOperator}
 use Rattle.operator.specs.declared.parts.Stored.{Stored}
+use Rattle.meter.specs.declared.SourceMeter.{SourceMeter}
 use Rattle.meter.specs.declared.parts.Counted.{Counted}
+use Rattle.meter.specs.declared.parts.Counted.the-variants.{Below}
 use Rattle.operator.proofs.SingleLaws.{stored-usable, stored-holds, stored-is-unusable}
-use Rattle.meter.proofs.PartsLaws.{counted-unusable, counted-next}
+use Rattle.meter.proofs.PartsLaws.{counted-unusable, counted-outside, counted-unordered, counted-next}
 use Rattle.sheet.specs.declared.read.Verdict.{Verdict}
 use Rattle.run.specs.declared.Stage.{Stage}
 use Rattle.run.specs.declared.Run.{Run}
@@ -37,7 +39,7 @@ use Rattle.run.specs.declared.test.Tested.{Tested}
 use Rattle.run.specs.declared.watch.Watched.{Watched}
 use Rattle.run.specs.Runs.{meterIn, meterWords, operatorWords, noStage, noOperator, stageAt, singleOf, singleIn, stageMisplaced, stageUnusable, stageFits, runUnusable}
 use Rattle.run.specs.Watching.{runHolds, unitsHeld, watchedOf}
-use Rattle.run.specs.Steps.{notTested, countedIn, testedOf}
+use Rattle.run.specs.Steps.{notTested, belowIn, testedOf}
 use Rattle.run.proofs.UsableRun.{UsableRun, run-usable, run-unusable}
 
 abbrev none : Units
@@ -170,32 +172,37 @@ module _ (run : Run) (words : List ℕ) where
       listOf-ext none (unitsHeld run words) mostOperators (listOf unitsOf mostOperators) (length-listOf unitsOf mostOperators)
       (λ k less. getD-listOf none unitsOf mostOperators k less ∙ units-at k)
 
--- What the count before the next input tells of the run's meter, where the declaration is in range.
-module _ (run : Run) (words : List ℕ) (declared : declarationInRange (run .declaration) ≡ true) where
-  ranged : declarationInRange (meterIn run .declaration) ≡ true
+-- What the count before the next input tells of the run's meter and its declaration.
+module _ (run : Run) (words : List ℕ) where
+  abbrev meter : SourceMeter
+  meter = meterIn run
+
+  abbrev lent : List ℕ
+  lent = meterWords words
+
+  -- what is not counted cannot be used
+  pub meter-uncounted : {answer : Counted} → answer ≡ countedOf meter lent → ((below : Units) → answer ≡ Below below → ⊥) → UsableRun run words → ⊥
   unfolding meterIn
-  ranged = declared
+  meter-uncounted answered never usable = never _ (answered ∙ counted-next meter lent (usable .meter) (usable .declared) (usable .ordered))
 
-  counted-usable : meterUnusable (meterIn run) (meterWords words) ≡ false → countedOf (meterIn run) (meterWords words) ≡ Counted.Before (record { 0 = countedIn run words })
-  unfolding countedIn
-  counted-usable usable = counted-next (meterIn run) (meterWords words) usable ranged
+  -- and what is counted can
+  pub record MeterCounted (below : Units) : Type 0 where
+    pub meter : meterUnusable meter lent ≡ false
+    pub declared : declarationInRange (run .declaration) ≡ true
+    pub ordered : rowsInOrder (run .declaration) ≡ true
+    pub counted : below ≡ record { 0 = belowIn run words }
 
-  -- what is not counted is unusable
-  pub meter-uncounted : {answer : Counted} → answer ≡ countedOf (meterIn run) (meterWords words) → ((counted : Units) → answer ≡ Counted.Before counted → ⊥)
-      → meterUnusable (meterIn run) (meterWords words) ≡ true
-  meter-uncounted answered never = by-test (meterUnusable (meterIn run) (meterWords words)) refl
+  pub meter-counted : {below : Units} → Below below ≡ countedOf meter lent → MeterCounted below
+  unfolding belowIn meterIn
+  meter-counted {below} answered = by-tests (meterUnusable meter lent) (declarationInRange (run .declaration)) (rowsInOrder (run .declaration)) refl refl refl
     where
-      by-test : (t : Bool) → meterUnusable (meterIn run) (meterWords words) ≡ t → t ≡ true
-      by-test true e = refl
-      by-test false e = absurd (never _ (answered ∙ counted-usable e))
-
-  pub meter-counted : {counted : Units} → Counted.Before counted ≡ countedOf (meterIn run) (meterWords words)
-      → (meterUnusable (meterIn run) (meterWords words) ≡ false) × (counted ≡ record { 0 = countedIn run words })
-  meter-counted {counted} answered = by-test (meterUnusable (meterIn run) (meterWords words)) refl
-    where
-      by-test : (t : Bool) → meterUnusable (meterIn run) (meterWords words) ≡ t → (t ≡ false) × (counted ≡ record { 0 = countedIn run words })
-      by-test true e = let clash = answered ∙ sym (counted-unusable (meterIn run) (meterWords words) e) in ((cc), (cc))
-      by-test false e = let made = answered ∙ counted-usable e in (refl, (cc))
+      by-tests : (a b c : Bool) → meterUnusable meter lent ≡ a → declarationInRange (run .declaration) ≡ b → rowsInOrder (run .declaration) ≡ c → MeterCounted below
+      by-tests true b c unusable ranged ordered = absurd (let clash = answered ∙ sym (counted-unusable meter lent unusable) in let z : _≡_ {A = ℕ} 0 1 = cc in omega arith)
+      by-tests false false c usable ranged ordered = absurd (let clash = answered ∙ sym (counted-outside meter lent usable ranged) in let z : _≡_ {A = ℕ} 0 1 = cc in omega arith)
+      by-tests false true false usable ranged ordered = absurd (let clash = answered ∙ sym (counted-unordered meter lent usable ranged ordered) in let z : _≡_ {A = ℕ} 0 1 = cc in omega arith)
+      by-tests false true true usable ranged ordered =
+          let made = answered ∙ counted-next meter lent usable ranged ordered in
+          record { meter = usable; declared = ranged; ordered = ordered; counted = cc }
 
 -- What the test and the watch answer.
 module _ (run : Run) (words : List ℕ) where
@@ -203,8 +210,8 @@ module _ (run : Run) (words : List ℕ) where
   unfolding testedOf
   tested-not fails = sym (pick-true _ _ _ (run-unusable run words fails))
 
-  pub tested-usable : UsableRun run words → {counted : Units} {held : List Units} → counted ≡ record { 0 = countedIn run words } → held ≡ listOf (unitsHeld run words) mostOperators
-      → record { usable = true; counted = counted; held = held } ≡ testedOf run words
+  pub tested-usable : UsableRun run words → {below : Units} {held : List Units} → below ≡ record { 0 = belowIn run words } → held ≡ listOf (unitsHeld run words) mostOperators
+      → record { usable = true; below = below; held = held } ≡ testedOf run words
   unfolding testedOf
   tested-usable passed counts holds = rw (counts, holds) (sym (pick-false _ _ _ (run-usable run words passed)))
 
@@ -216,7 +223,7 @@ module _ (run : Run) (words : List ℕ) where
   unfolding testedOf watchedOf
   watched-by = by-test (runUnusable run words)
     where
-      by-test : (t : Bool) → watched (pick t notTested (record { usable = true; counted = record { 0 = countedIn run words }; held = listOf (unitsHeld run words) mostOperators }))
+      by-test : (t : Bool) → watched (pick t notTested (record { usable = true; below = record { 0 = belowIn run words }; held = listOf (unitsHeld run words) mostOperators }))
           ≡ pick t (record { verdict = Verdict.Refused Unusable; held = replicate mostOperators none }) (record { verdict = Verdict.Accepted; held = listOf (unitsHeld run words) mostOperators })
       by-test true = refl
       by-test false = refl

@@ -1,19 +1,19 @@
--- What the test of a run shows: the words' length, the count, the declaration, the meter, and each stage with its words; and that a run of which these hold passes it.
+-- What the test of a run shows: the words' length, the count, the declaration and the order of its rows, the meter, and each stage with its words; and that a run of which these hold passes it.
 use mathlib.Core.Path.{_≡_, refl, ap, sym, _∙_}
 use mathlib.Core.Bool.{Bool, true, false, not}
 use mathlib.Core.List.{List}
 use Prim.Native.Nat.{ℕ, _≤_, _<_}
 use lib.ListN.{length}
 use lib.Dec.{leb, ltb, eqb}
-use borrow.Author.Tests.{eqb-true, eq-eqb, leb-true, le-leb, lt-ltb, le-ltb, not-true, not-false}
-use Rattle.quantity.specs.Limits.{mostOperators}
+use borrow.Author.Tests.{eqb-true, eq-eqb, leb-true, le-leb, ltb-false, lt-ltb, le-ltb, not-true, not-false}
+use Rattle.quantity.specs.Limits.{mostOperators, lastSlot}
 use Rattle.quantity.specs.Choice.{pick, both}
 use Rattle.quantity.specs.Sums.{every}
 use Rattle.quantity.proofs.Laws.{pick-true, pick-false, either-false, either-none}
 use Rattle.quantity.proofs.Sums.{both-true, every-at}
-use Rattle.flow.specs.Declarations.{declarationInRange}
+use Rattle.flow.specs.Declarations.{declarationInRange, rowsInOrder}
 use Rattle.operator.specs.Operators.{numberInRange}
-use Rattle.meter.specs.Meter.{meterUnusable}
+use Rattle.meter.specs.Meter.{meterWordCount, meterUnusable}
 use Rattle.operator.proofs.SingleLaws.{Usable, usable}
 use Rattle.run.specs.declared.Run.{Run}
 use Rattle.run.specs.Runs.{runWordCount, meterWords, operatorWords, noOperator, stageAt, meterIn, singleIn, stageMisplaced, stageUnusable, stageFits, runUnusable}
@@ -23,6 +23,7 @@ pub record UsableRun (run : Run) (words : List ℕ) : Type 0 where
   pub some : 1 ≤ run .count
   pub few : run .count ≤ mostOperators
   pub declared : declarationInRange (run .declaration) ≡ true
+  pub ordered : rowsInOrder (run .declaration) ≡ true
   pub meter : meterUnusable (meterIn run) (meterWords words) ≡ false
   pub stages : every (stageFits run words) mostOperators ≡ true
 
@@ -32,6 +33,7 @@ usable-run run words passed =
     let (sized, rest) = either-false (not (eqb (length words) runWordCount)) _ passed in
     let (counted, rest) = either-false (not (both (leb 1 (run .count)) (leb (run .count) mostOperators))) _ rest in
     let (declared, rest) = either-false (not (declarationInRange (run .declaration))) _ rest in
+    let (ordered, rest) = either-false (not (rowsInOrder (run .declaration))) _ rest in
     let (meter, rest) = either-false (meterUnusable (meterIn run) (meterWords words)) _ rest in
     let (stages, rest) = either-false (not (every (stageFits run words) mostOperators)) _ rest in
     let (some, few) = both-true (leb 1 (run .count)) (leb (run .count) mostOperators) (not-false _ counted) in
@@ -40,6 +42,7 @@ usable-run run words passed =
       some = leb-true 1 (run .count) some;
       few = leb-true (run .count) mostOperators few;
       declared = not-false _ declared;
+      ordered = not-false _ ordered;
       meter = meter;
       stages = not-false _ stages;
     }
@@ -51,8 +54,9 @@ run-usable run words passed =
     (either-none (not (both (leb 1 (run .count)) (leb (run .count) mostOperators))) _
     (rw (le-leb 1 (run .count) (passed .some), le-leb (run .count) mostOperators (passed .few)))
     (either-none (not (declarationInRange (run .declaration))) _ (ap not (passed .declared))
+    (either-none (not (rowsInOrder (run .declaration))) _ (ap not (passed .ordered))
     (either-none (meterUnusable (meterIn run) (meterWords words)) _ (passed .meter)
-    (either-none (not (every (stageFits run words) mostOperators)) _ (ap not (passed .stages)) refl))))
+    (either-none (not (every (stageFits run words) mostOperators)) _ (ap not (passed .stages)) refl)))))
 
 -- any of these that fails makes a refusal
 pub run-unusable : (run : Run) (words : List ℕ) → (UsableRun run words → ⊥) → runUnusable run words ≡ true
@@ -90,3 +94,11 @@ module _ (run : Run) (words : List ℕ) (k : ℕ) (fits : stageFits run words k 
 module _ (run : Run) (words : List ℕ) (passed : UsableRun run words) (k : ℕ) (less : k < mostOperators) where
   pub fits-at : stageFits run words k ≡ true
   fits-at = every-at (stageFits run words) mostOperators (passed .stages) k less
+
+-- a slot number is left
+pub slot-left : (run : Run) (words : List ℕ) → UsableRun run words → run .slot .0 ≤ lastSlot
+unfolding meterUnusable meterIn
+slot-left run words passed =
+    let (sized, rest) = either-false (not (eqb (length (meterWords words)) meterWordCount)) _ (passed .meter) in
+    let (left, rest) = either-false (ltb lastSlot (run .slot .0)) _ rest in
+    ltb-false lastSlot (run .slot .0) left

@@ -15,15 +15,16 @@ use Rattle.quantity.specs.Limits.{mostOperators}
 use Rattle.quantity.specs.Choice.{pick}
 use Rattle.quantity.specs.Sums.{listOf}
 use Rattle.quantity.specs.declared.Slots.{Slots}
+use Rattle.quantity.specs.declared.Units.{Units}
 use Rattle.quantity.proofs.Laws.{pick-true, pick-false}
 use Rattle.quantity.proofs.Sums.{length-listOf, listOf-ext}
 use Rattle.words.specs.Stored.{wordAt}
 use Rattle.operator.specs.Operators.{numberInRange}
 use Rattle.operator.specs.Single.{wordCount}
 use Rattle.operator.specs.Parts.{keepUnfit, keptOf, wordKept, wordsKept}
-use Rattle.flow.specs.Declarations.{declarationInRange}
+use Rattle.flow.specs.Declarations.{declarationInRange, rowsInOrder}
 use Rattle.meter.specs.Meter.{meterWordCount, meterWordNext}
-use Rattle.meter.specs.Parts.{withinQuota, noteUnfit, notedOf, wordsNoted}
+use Rattle.meter.specs.Parts.{noteUnfit, notedOf, wordsNoted}
 use Rattle.operator.specs.declared.SingleOperator.{SingleOperator}
 use Rattle.meter.specs.declared.SourceMeter.{SourceMeter}
 use Rattle.operator.specs.declared.parts.Kept.{Kept}
@@ -33,7 +34,7 @@ use Rattle.run.specs.declared.Stage.{Stage}
 use Rattle.run.specs.declared.Run.{Run}
 use Rattle.run.specs.declared.decide.Move.{Move}
 use Rattle.run.specs.Runs.{runWordCount, meterWords, operatorAtWord, operatorWords, noStage, stageAt, meterIn, singleOf}
-use Rattle.run.specs.Steps.{noMove, withPart, meterWritten, stageWritten, stageWords, runWritten, stageWord, wordWritten}
+use Rattle.run.specs.Steps.{noMove, withPart, blockWritten, stageWritten, stageWords, runWritten, stageWord, wordWritten}
 use Rattle.run.proofs.Parts.{length-part, part-at}
 use Rattle.run.proofs.Joined.{length-operatorWords, operator-word}
 use Rattle.run.proofs.WithPart.{put-back, meter-sized, meter-replaced, meter-beside, operator-sized, operator-replaced, meter-before, operator-before, operator-behind}
@@ -44,12 +45,12 @@ length-either : (n : ℕ) (t : Bool) (words next : List ℕ) → length words �
 length-either n true words next was will = was
 length-either n false words next was will = will
 
-length-noted : (x : SourceMeter) (words : List ℕ) (counted input : ℕ) → length words ≡ meterWordCount → length (wordsNoted x words counted input) ≡ meterWordCount
+length-noted : (x : SourceMeter) (words : List ℕ) (input : ℕ) → length words ≡ meterWordCount → length (wordsNoted x words input) ≡ meterWordCount
 unfolding wordsNoted
-length-noted x words counted input size =
-    length-either meterWordCount (noteUnfit x words counted input) words _ size
+length-noted x words input size =
+    length-either meterWordCount (noteUnfit x words input) words _ size
     (length-either meterWordCount (not (declarationInRange (x .declaration))) words _ size
-    (length-either meterWordCount (not (withinQuota (x .declaration) counted input)) words _ size (length-listOf (meterWordNext x words input) meterWordCount)))
+    (length-either meterWordCount (not (rowsInOrder (x .declaration))) words _ size (length-listOf (meterWordNext x words input) meterWordCount)))
 
 length-stage : (stage : Stage) (slot : Slots) (words : List ℕ) (moved : Move) → length words ≡ wordCount → length (stageWords stage slot words moved) ≡ wordCount
 unfolding stageWords wordsKept
@@ -68,38 +69,38 @@ meter-word words sized j less = part-at 0 meterWordCount words (omega arith) j l
 
 -- The meter.
 
-abbrev pub meterThen : SourceMeter → Noted → SourceMeter
-meterThen meter (Noted.Next next) = next
-meterThen meter Noted.Unfit = meter
-meterThen meter Noted.OutOfRange = meter
-meterThen meter Noted.AboveQuota = meter
+abbrev pub blockThen : Units → Noted → Units
+blockThen block (Noted.Block next) = next
+blockThen block Noted.Unfit = block
+blockThen block Noted.OutOfRange = block
+blockThen block Noted.OutOfOrder = block
 
-pub meter-stays : (meter : SourceMeter) (answer : Noted) → ((next : SourceMeter) → answer ≡ Noted.Next next → ⊥) → meter ≡ meterThen meter answer
-meter-stays meter (Noted.Next next) never = absurd (never next refl)
-meter-stays meter Noted.Unfit never = refl
-meter-stays meter Noted.OutOfRange never = refl
-meter-stays meter Noted.AboveQuota never = refl
+pub block-stays : (block : Units) (answer : Noted) → ((next : Units) → answer ≡ Noted.Block next → ⊥) → block ≡ blockThen block answer
+block-stays block (Noted.Block next) never = absurd (never next refl)
+block-stays block Noted.Unfit never = refl
+block-stays block Noted.OutOfRange never = refl
+block-stays block Noted.OutOfOrder never = refl
 
-module _ (run : Run) (words : List ℕ) (counted input : ℕ) where
+module _ (run : Run) (words : List ℕ) (input : ℕ) where
   abbrev noted : List ℕ
-  noted = wordsNoted (meterIn run) (meterWords words) counted input
+  noted = wordsNoted (meterIn run) (meterWords words) input
 
-  meter-taken : (answer : Noted) → answer ≡ notedOf (meterIn run) (meterWords words) counted input → meterThen (meterIn run) answer ≡ meterWritten run words counted input
-  unfolding meterWritten
-  meter-taken (Noted.Next next) e = rw (← e)
-  meter-taken Noted.Unfit e = rw (← e)
-  meter-taken Noted.OutOfRange e = rw (← e)
-  meter-taken Noted.AboveQuota e = rw (← e)
+  block-taken : (answer : Noted) → answer ≡ notedOf (meterIn run) (meterWords words) input → blockThen (run .block) answer ≡ blockWritten run words input
+  unfolding blockWritten
+  block-taken (Noted.Block next) e = rw (← e)
+  block-taken Noted.Unfit e = rw (← e)
+  block-taken Noted.OutOfRange e = rw (← e)
+  block-taken Noted.OutOfOrder e = rw (← e)
 
-  pub meter-written : length words ≡ runWordCount → {meter : SourceMeter} → meter ≡ meterIn run → {answer : Noted} → answer ≡ notedOf meter (meterWords words) counted input
-      → {new : List ℕ} → new ≡ wordsNoted meter (meterWords words) counted input
-      → (meterThen meter answer ≡ meterWritten run words counted input) × (take 0 words ++ (new ++ drop meterWordCount (drop 0 words)) ≡ withPart 0 noted words)
+  pub meter-written : length words ≡ runWordCount → {meter : SourceMeter} → meter ≡ meterIn run → {answer : Noted} → answer ≡ notedOf meter (meterWords words) input
+      → {new : List ℕ} → new ≡ wordsNoted meter (meterWords words) input
+      → (blockThen (run .block) answer ≡ blockWritten run words input) × (take 0 words ++ (new ++ drop meterWordCount (drop 0 words)) ≡ withPart 0 noted words)
   meter-written sized same {answer} answered left =
-      let sizes = length-noted (meterIn run) (meterWords words) counted input (length-meterWords words sized) in
-      (rw same (meter-taken answer (rw same at answered)), rw (left, same) (put-back 0 meterWordCount noted words sizes))
+      let sizes = length-noted (meterIn run) (meterWords words) input (length-meterWords words sized) in
+      (block-taken answer (rw same at answered), rw (left, same) (put-back 0 meterWordCount noted words sizes))
 
   pub metered-size : length words ≡ runWordCount → {after : List ℕ} → after ≡ withPart 0 noted words → length after ≡ runWordCount
-  metered-size sized same = rw same (meter-sized words noted sized (length-noted (meterIn run) (meterWords words) counted input (length-meterWords words sized)))
+  metered-size sized same = rw same (meter-sized words noted sized (length-noted (meterIn run) (meterWords words) input (length-meterWords words sized)))
 
 -- A stage.
 
@@ -232,27 +233,27 @@ module _ {run : Run} {words : List ℕ} {moves : List Move} {k : ℕ} {after : L
 
 -- Behind the last stage.
 
-module _ (run : Run) (first : List ℕ) (counted input : ℕ) (moves : List Move) (sized : length first ≡ runWordCount)
-    {metered : List ℕ} (after-meter : metered ≡ withPart 0 (noted run first counted input) first) {k : ℕ} (ends : k ≡ run .count)
+module _ (run : Run) (first : List ℕ) (input : ℕ) (moves : List Move) (sized : length first ≡ runWordCount)
+    {metered : List ℕ} (after-meter : metered ≡ withPart 0 (noted run first input) first) {k : ℕ} (ends : k ≡ run .count)
     {after : List ℕ} {stages : List Stage} (before-k : Written run metered moves k after stages) where
   written : Written run metered moves (run .count) after stages
   written = rw ends at before-k
 
-  noted-size : length (noted run first counted input) ≡ meterWordCount
-  noted-size = length-noted (meterIn run) (meterWords first) counted input (length-meterWords first sized)
+  noted-size : length (noted run first input) ≡ meterWordCount
+  noted-size = length-noted (meterIn run) (meterWords first) input (length-meterWords first sized)
 
   same-operator : (i : ℕ) → i < mostOperators → operatorWords metered i ≡ operatorWords first i
-  same-operator i less = rw after-meter (meter-beside first (noted run first counted input) sized noted-size i less)
+  same-operator i less = rw after-meter (meter-beside first (noted run first input) sized noted-size i less)
 
-  same-meter : meterWords metered ≡ noted run first counted input
-  same-meter = rw after-meter (meter-replaced first (noted run first counted input) sized noted-size)
+  same-meter : meterWords metered ≡ noted run first input
+  same-meter = rw after-meter (meter-replaced first (noted run first input) sized noted-size)
 
   stage-end : (i : ℕ) → i < mostOperators → getD stages i noStage ≡ pick (ltb i (run .count)) (stageDone run first moves i) (stageAt run i)
   stage-end i less = rw (← same-operator i less) (written .stage i less)
 
   -- the run
-  pub run-end : {meter : SourceMeter} → meter ≡ meterWritten run first counted input
-      → record { declaration = run .declaration; slot = meter .slot; block = meter .block; count = run .count; stages = stages } ≡ runWritten run first counted input moves
+  pub run-end : {block : Units} → block ≡ blockWritten run first input
+      → record { declaration = run .declaration; slot = record { 0 = run .slot .0 + 1 }; block = block; count = run .count; stages = stages } ≡ runWritten run first input moves
   unfolding runWritten
   run-end made = rw (made, listOf-ext noStage (λ i. pick (ltb i (run .count)) (stageDone run first moves i) (stageAt run i)) mostOperators stages (written .filled) stage-end)
 
@@ -268,16 +269,16 @@ module _ (run : Run) (first : List ℕ) (counted input : ℕ) (moves : List Move
       ∙ pick-word (ltb i (run .count)) _ _ a
       ∙ rw (same-operator i less)
 
-  meter-end : (j : ℕ) → j < meterWordCount → wordAt after j ≡ wordAt (noted run first counted input) j
+  meter-end : (j : ℕ) → j < meterWordCount → wordAt after j ≡ wordAt (noted run first input) j
   meter-end j less =
       sym (meter-word after (written .sized) j less) ∙ ap (λ (xs : List ℕ). wordAt xs j) (written .meter ∙ same-meter)
 
-  word-end : (j : ℕ) → j < runWordCount → wordAt after j ≡ wordWritten run first counted input moves j
+  word-end : (j : ℕ) → j < runWordCount → wordAt after j ≡ wordWritten run first input moves j
   unfolding wordWritten
   word-end j less = by-part (ltb j meterWordCount) refl
     where
       by-part : (t : Bool) → ltb j meterWordCount ≡ t
-          → wordAt after j ≡ pick t (wordAt (noted run first counted input) j) (stageWord run first moves ((j - meterWordCount) / wordCount) ((j - meterWordCount) % wordCount))
+          → wordAt after j ≡ pick t (wordAt (noted run first input) j) (stageWord run first moves ((j - meterWordCount) / wordCount) ((j - meterWordCount) % wordCount))
       by-part true e = meter-end j (ltb-true j meterWordCount e)
       by-part false e =
           let behind = ltb-false j meterWordCount e in
@@ -289,5 +290,5 @@ module _ (run : Run) (first : List ℕ) (counted input : ℕ) (moves : List Move
           ap (wordAt after) linked ∙ operator-end i a (omega arith) inside
 
   -- and its words
-  pub words-end : after ≡ listOf (wordWritten run first counted input moves) runWordCount
-  words-end = listOf-ext 0 (wordWritten run first counted input moves) runWordCount after (written .sized) word-end
+  pub words-end : after ≡ listOf (wordWritten run first input moves) runWordCount
+  words-end = listOf-ext 0 (wordWritten run first input moves) runWordCount after (written .sized) word-end

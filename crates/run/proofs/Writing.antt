@@ -16,7 +16,7 @@ use Rattle.quantity.proofs.Refusals.{NoneStands, none-of-each}
 use Rattle.words.specs.Stored.{wordAt}
 use Rattle.operator.specs.Single.{wordCount, holds, holdsNext, leavesTooMuch, stateNext, wordsNext}
 use Rattle.operator.specs.Parts.{keptOf, wordsKept}
-use Rattle.meter.specs.Meter.{meterWordCount, meterNext, meterWordNext}
+use Rattle.meter.specs.Meter.{meterWordCount, blockNext, meterNext, meterWordNext}
 use Rattle.meter.specs.Parts.{notedOf, wordsNoted}
 use Rattle.operator.specs.declared.SingleOperator.{SingleOperator}
 use Rattle.operator.specs.declared.parts.Kept.{Kept}
@@ -29,9 +29,9 @@ use Rattle.run.specs.declared.Run.{Run}
 use Rattle.run.specs.declared.decide.Move.{Move}
 use Rattle.run.specs.Calls.{Call, amountTooLarge}
 use Rattle.run.specs.Runs.{meterWords, operatorWords, stageAt, meterIn, singleIn}
-use Rattle.run.specs.Slots.{inputInto, slotBreaks, choiceCases, leavesTooMuchAt, slotLeavesTooMuch, slotCases, singleNext, stageNext, runNext, operatorWordNext, wordNext}
+use Rattle.run.specs.Slots.{inputInto, choiceCases, leavesTooMuchAt, slotLeavesTooMuch, slotCases, singleNext, stageNext, runNext, operatorWordNext, wordNext}
 use Rattle.run.specs.Watching.{runHolds}
-use Rattle.run.specs.Steps.{countedIn, noMove, runHoldsNext, moveOf, meterWritten, stageWritten, stageWords, runWritten, stageWord, wordWritten}
+use Rattle.run.specs.Steps.{noMove, runHoldsNext, moveOf, blockWritten, stageWritten, stageWords, runWritten, stageWord, wordWritten}
 use Rattle.run.proofs.UsableRun.{UsableRun, usable-run, stage-usable, stage-number, fits-at}
 use Rattle.run.proofs.Taking.{choices-below, within-interval}
 
@@ -47,10 +47,10 @@ module _ (run : Run) (words : List ℕ) (call : Call) (none : NoneStands (slotCa
   unfolding amountTooLarge
   input-small = ltb-false largestAmount (call .input) (either-false (ltb largestAmount (call .input)) _ (none .1 .0) .0)
 
-  meter-noted : (notedOf (meterIn run) (meterWords words) (countedIn run words) (call .input) ≡ Noted.Next (meterNext (meterIn run) (meterWords words) (call .input)))
-      × (wordsNoted (meterIn run) (meterWords words) (countedIn run words) (call .input) ≡ listOf (meterWordNext (meterIn run) (meterWords words) (call .input)) meterWordCount)
-  unfolding countedIn meterIn slotBreaks
-  meter-noted = noted-next (meterIn run) (meterWords words) (call .input) (passed .meter) (passed .declared) input-small (none .1 .1 .1 .0)
+  meter-noted : (notedOf (meterIn run) (meterWords words) (call .input) ≡ Noted.Block (record { 0 = blockNext (meterIn run) (call .input) }))
+      × (wordsNoted (meterIn run) (meterWords words) (call .input) ≡ listOf (meterWordNext (meterIn run) (meterWords words) (call .input)) meterWordCount)
+  unfolding meterIn
+  meter-noted = noted-next (meterIn run) (meterWords words) (call .input) (passed .meter) (passed .declared) (passed .ordered) input-small
 
   module _ (k : ℕ) (less : k < run .count) where
     abbrev x : SingleOperator
@@ -100,15 +100,15 @@ module _ (run : Run) (words : List ℕ) (call : Call) (none : NoneStands (slotCa
     stage-next k true e = let less = ltb-true k (run .count) e in rw (moved k less) (stage-written k less)
     stage-next k false e = refl
 
-    meter-next : meterWritten run words (countedIn run words) (call .input) ≡ meterNext (meterIn run) (meterWords words) (call .input)
-    unfolding meterWritten
-    meter-next = rw (meter-noted .0)
+    block-next : blockWritten run words (call .input) ≡ record { 0 = blockNext (meterIn run) (call .input) }
+    unfolding blockWritten
+    block-next = rw (meter-noted .0)
 
-    pub run-written : runWritten run words (countedIn run words) (call .input) moves ≡ runNext run words call
-    unfolding runWritten runNext meterNext meterIn
+    pub run-written : runWritten run words (call .input) moves ≡ runNext run words call
+    unfolding runWritten runNext meterNext
     run-written =
-        rw meter-next
-        (ap (λ (stages : ℕ → Stage). record { declaration = run .declaration; slot = record { 0 = run .slot .0 + 1 }; block = meterNext (meterIn run) (meterWords words) (call .input) .block; count = run .count; stages = listOf stages mostOperators })
+        rw block-next
+        (ap (λ (stages : ℕ → Stage). record { declaration = run .declaration; slot = record { 0 = run .slot .0 + 1 }; block = record { 0 = blockNext (meterIn run) (call .input) }; count = run .count; stages = listOf stages mostOperators })
         (fun-ext (λ k. stage-next k (ltb k (run .count)) refl)))
 
     word-next : (k a : ℕ) (t : Bool) → ltb k (run .count) ≡ t
@@ -117,12 +117,12 @@ module _ (run : Run) (words : List ℕ) (call : Call) (none : NoneStands (slotCa
     word-next k a true e = let less = ltb-true k (run .count) e in rw (moved k less, words-written k less)
     word-next k a false e = refl
 
-    pub word-written : (j : ℕ) → wordWritten run words (countedIn run words) (call .input) moves j ≡ wordNext run words call j
+    pub word-written : (j : ℕ) → wordWritten run words (call .input) moves j ≡ wordNext run words call j
     unfolding wordWritten wordNext stageWord operatorWordNext
     word-written j = by-part (ltb j meterWordCount) refl
       where
         by-part : (t : Bool) → ltb j meterWordCount ≡ t
-            → pick t (wordAt (wordsNoted (meterIn run) (meterWords words) (countedIn run words) (call .input)) j) (stageWord run words moves ((j - meterWordCount) / wordCount) ((j - meterWordCount) % wordCount))
+            → pick t (wordAt (wordsNoted (meterIn run) (meterWords words) (call .input)) j) (stageWord run words moves ((j - meterWordCount) / wordCount) ((j - meterWordCount) % wordCount))
             ≡ pick t (meterWordNext (meterIn run) (meterWords words) (call .input) j) (operatorWordNext run words call ((j - meterWordCount) / wordCount) ((j - meterWordCount) % wordCount))
         by-part true e = rw (meter-noted .1) (getD-listOf 0 (meterWordNext (meterIn run) (meterWords words) (call .input)) meterWordCount j (ltb-true j meterWordCount e))
         by-part false e = word-next ((j - meterWordCount) / wordCount) ((j - meterWordCount) % wordCount) (ltb ((j - meterWordCount) / wordCount) (run .count)) refl

@@ -9,6 +9,7 @@ use Rattle.quantity.specs.Sums.{listOf}
 use Rattle.quantity.specs.Refusals.{Case, _⇒_, firstOf}
 use Rattle.quantity.specs.declared.refusal.Refusal.{Refusal}
 use Rattle.quantity.specs.declared.refusal.Refusal.the-variants.{Unusable}
+use Rattle.flow.specs.Declarations.{ofOneRow}
 use Rattle.flow.specs.declared.Kind.{Kind}
 use Rattle.sheet.specs.Paths.{Path}
 use Rattle.sheet.specs.Sheets.{pathIn}
@@ -32,7 +33,7 @@ newRun path =
 abbrev pub noRun : Run
 noRun =
     record {
-      declaration = record { kind = Kind.Smooth; interval = record { 0 = 0 }; quota = record { 0 = 0 } };
+      declaration = ofOneRow Kind.Smooth 0 0;
       slot = record { 0 = 0 };
       block = record { 0 = 0 };
       count = 0;

@@ -9,7 +9,7 @@ use Rattle.quantity.specs.Choice.{pick, both, anyOf}
 use Rattle.quantity.specs.Sums.{every}
 use Rattle.quantity.specs.declared.Slots.{Slots}
 use Rattle.operator.specs.Operators.{numberInRange}
-use Rattle.flow.specs.Declarations.{declarationInRange}
+use Rattle.flow.specs.Declarations.{declarationInRange, rowsInOrder}
 use Rattle.operator.specs.Single.{wordCount, storedUnusable}
 use Rattle.meter.specs.Meter.{meterWordCount, meterUnusable}
 use Rattle.operator.specs.declared.Operator.{Operator}
@@ -71,7 +71,7 @@ stageUnusable run words k = storedUnusable (singleIn run k) (operatorWords words
 unfoldable pub stageFits : Run → List ℕ → ℕ → Bool
 stageFits run words k = both (not (stageMisplaced (stageAt run k) (ltb k (run .count)))) (not (stageUnusable run words k))
 
--- 1 of what is lent and stored: the words have a wrong length; the count, the declaration or a stage's number is out of its range;
+-- 1 of what is lent and stored: the words have a wrong length; the count, the declaration or a stage's number is out of its range, or the declaration's rows do not rise;
 -- no slot number is left; an amount stored is above the limit; a word or field that should be 0 is not
 unfoldable pub runUnusable : Run → List ℕ → Bool
 runUnusable run words =
@@ -79,6 +79,7 @@ runUnusable run words =
     (not (eqb (length words) runWordCount)
     ∷ not (both (leb 1 (run .count)) (leb (run .count) mostOperators))
     ∷ not (declarationInRange (run .declaration))
+    ∷ not (rowsInOrder (run .declaration))
     ∷ meterUnusable (meterIn run) (meterWords words)
     ∷ not (every (stageFits run words) mostOperators)
     ∷ [])

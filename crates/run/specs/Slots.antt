@@ -68,7 +68,7 @@ runNext run words call =
     record {
       declaration = run .declaration;
       slot = record { 0 = run .slot .0 + 1 };
-      block = meterNext (meterIn run) (meterWords words) (call .input) .block;
+      block = meterNext (meterIn run) (call .input) .block;
       count = run .count;
       stages = listOf (λ k. pick (ltb k (run .count)) (stageNext run words call k) (stageAt run k)) mostOperators;
     }

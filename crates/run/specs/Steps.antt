@@ -10,14 +10,14 @@ use Rattle.quantity.specs.Limits.{largestAmount, mostOperators}
 use Rattle.quantity.specs.Sums.{listOf}
 use Rattle.quantity.specs.Refusals.{_⇒_, firstOf}
 use Rattle.quantity.specs.declared.Slots.{Slots}
+use Rattle.quantity.specs.declared.Units.{Units}
 use Rattle.quantity.specs.declared.refusal.Refusal.the-variants.{Unusable}
 use Rattle.operator.specs.Held.{Held}
 use Rattle.operator.specs.Single.{wordCount, holdsNext}
 use Rattle.operator.specs.Parts.{keptOf, wordsKept}
-use Rattle.meter.specs.Meter.{meterWordCount, countedBefore}
-use Rattle.meter.specs.Parts.{notedOf, wordsNoted}
+use Rattle.meter.specs.Meter.{meterWordCount}
+use Rattle.meter.specs.Parts.{inputsBelow, notedOf, wordsNoted}
 use Rattle.words.specs.Stored.{wordAt}
-use Rattle.meter.specs.declared.SourceMeter.{SourceMeter}
 use Rattle.operator.specs.declared.parts.Kept.{Kept}
 use Rattle.meter.specs.declared.parts.Noted.{Noted}
 use Rattle.run.specs.Calls.{Call}
@@ -33,15 +33,15 @@ use Rattle.run.specs.declared.decide.Move.{Move}
 -- Test.
 
 abbrev pub notTested : Tested
-notTested = record { usable = false; counted = record { 0 = 0 }; held = replicate mostOperators (record { 0 = 0 }) }
+notTested = record { usable = false; below = record { 0 = 0 }; held = replicate mostOperators (record { 0 = 0 }) }
 
--- the units that count with the next input
-unfoldable pub countedIn : Run → List ℕ → ℕ
-countedIn run words = countedBefore (meterIn run) (meterWords words)
+-- what the next input has to be below
+unfoldable pub belowIn : Run → List ℕ → ℕ
+belowIn run words = inputsBelow (meterIn run) (meterWords words)
 
 unfoldable pub testedOf : Run → List ℕ → Tested
 testedOf run words =
-    pick (runUnusable run words) notTested (record { usable = true; counted = record { 0 = countedIn run words }; held = listOf (unitsHeld run words) mostOperators })
+    pick (runUnusable run words) notTested (record { usable = true; below = record { 0 = belowIn run words }; held = listOf (unitsHeld run words) mostOperators })
 
 -- Decide.
 
@@ -72,16 +72,16 @@ planOf run words call =
 unfoldable pub withPart : ℕ → List ℕ → List ℕ → List ℕ
 withPart at new words = take at words ++ (new ++ drop (at + length new) words)
 
-meterNamed : SourceMeter → Noted → SourceMeter
-meterNamed meter (Noted.Next next) = next
-meterNamed meter Noted.Unfit = meter
-meterNamed meter Noted.OutOfRange = meter
-meterNamed meter Noted.AboveQuota = meter
+blockNamed : Units → Noted → Units
+blockNamed block (Noted.Block next) = next
+blockNamed block Noted.Unfit = block
+blockNamed block Noted.OutOfRange = block
+blockNamed block Noted.OutOfOrder = block
 
--- the meter once the input is noted
-unfoldable pub meterWritten : Run → List ℕ → ℕ → ℕ → SourceMeter
-unfolding meterNamed
-meterWritten run words counted input = meterNamed (meterIn run) (notedOf (meterIn run) (meterWords words) counted input)
+-- the meter's block once the input is noted
+unfoldable pub blockWritten : Run → List ℕ → ℕ → Units
+unfolding blockNamed
+blockWritten run words input = blockNamed (run .block) (notedOf (meterIn run) (meterWords words) input)
 
 stageNamed : Stage → Kept → Stage
 stageNamed stage (Kept.Next next) = record { operator = next .operator; held = next .held; beside = next .beside }
@@ -97,12 +97,12 @@ unfoldable pub stageWords : Stage → Slots → List ℕ → Move → List ℕ
 stageWords stage slot words moved = wordsKept (singleOf stage slot) words (moved .input .0) (moved .kept .0) (moved .beside .0)
 
 -- the run, and word j of all, once meter and stages are written
-unfoldable pub runWritten : Run → List ℕ → ℕ → ℕ → List Move → Run
-runWritten run words counted input moves =
+unfoldable pub runWritten : Run → List ℕ → ℕ → List Move → Run
+runWritten run words input moves =
     record {
       declaration = run .declaration;
-      slot = meterWritten run words counted input .slot;
-      block = meterWritten run words counted input .block;
+      slot = record { 0 = run .slot .0 + 1 };
+      block = blockWritten run words input;
       count = run .count;
       stages = listOf (λ k. pick (ltb k (run .count)) (stageWritten (stageAt run k) (run .slot) (operatorWords words k) (getD moves k noMove)) (stageAt run k)) mostOperators;
     }
@@ -111,8 +111,8 @@ unfoldable pub stageWord : Run → List ℕ → List Move → ℕ → ℕ → �
 stageWord run words moves k a =
     pick (ltb k (run .count)) (wordAt (stageWords (stageAt run k) (run .slot) (operatorWords words k) (getD moves k noMove)) a) (wordAt (operatorWords words k) a)
 
-unfoldable pub wordWritten : Run → List ℕ → ℕ → ℕ → List Move → ℕ → ℕ
-wordWritten run words counted input moves j =
+unfoldable pub wordWritten : Run → List ℕ → ℕ → List Move → ℕ → ℕ
+wordWritten run words input moves j =
     pick (ltb j meterWordCount)
-    (wordAt (wordsNoted (meterIn run) (meterWords words) counted input) j)
+    (wordAt (wordsNoted (meterIn run) (meterWords words) input) j)
     (stageWord run words moves ((j - meterWordCount) / wordCount) ((j - meterWordCount) % wordCount))

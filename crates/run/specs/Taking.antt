@@ -1,9 +1,10 @@
 -- Demand 2: when a slot is taken, in any run that refusal 1 lets pass, opened or not.
-use Prim.Native.Nat.{ℕ, suc, _+_, _≤_}
+use Prim.Native.Nat.{ℕ, suc, _+_, _≤_, _<_}
 use mathlib.Core.Path.{_≡_}
 use mathlib.Core.Bool.{false}
 use mathlib.Core.List.{List}
 use Rattle.operator.specs.Operators.{leastOutput, greatestOutput}
+use Rattle.flow.specs.Declarations.{rowCount, rowAt}
 use Rattle.meter.specs.Meter.{countedBefore}
 use Rattle.run.specs.declared.Run.{Run}
 use Rattle.run.specs.declared.slot.Outcome.{Outcome}
@@ -25,9 +26,10 @@ module _ (run : Run) (words : List ℕ) (call : Call) where
     pub usable : runUnusable run words ≡ false
     pub stored : slotLeavesTooMuch run words call ≡ false
 
-  -- the input keeps the declaration as the run has it: with the units that count with it, it is within the quota
+  -- the input keeps the declaration as the run has it: in each row, with the units that count with it, it is within the quota
   abbrev pub KeepsDeclared : Type 0
-  KeepsDeclared = countedBefore (meterIn run) (meterWords words) + call .input ≤ run .declaration .quota .0
+  KeepsDeclared =
+      (i : ℕ) → i < rowCount (run .declaration) → countedBefore (meterIn run) (meterWords words) i + call .input ≤ rowAt (run .declaration) i .quota
 
   -- operator k's output, its least plus its choice, lies in its interval
   abbrev pub InInterval : ℕ → Type 0

@@ -101,11 +101,7 @@ fn refused(why: Refusal) -> Opened
 pub fn no_run() -> Run
     ensures { λ r. ⌜ r ≡ noRun ⌝ }
 {
-    let declaration = Declaration {
-        kind: Kind::Smooth,
-        interval: Interval(0),
-        quota: Quota(0),
-    };
+    let declaration = Declaration::of_one_row(Kind::Smooth, Interval(0), Quota(0));
     let none = no_stage();
     let stages = [none; 16];
     Run {

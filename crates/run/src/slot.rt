@@ -4,7 +4,6 @@ use crate::Run;
 use crate::decide::decide_all;
 use crate::test::test;
 use crate::write::write;
-use meter::parts::within_quota;
 use quantity::Units;
 use quantity::refusal::Refusal;
 ghost use mathlib.Core.Path.{_≡_};
@@ -40,9 +39,7 @@ pub fn slot(run: Run, words: &mut [u32], input: Units, choices: &[u64]) -> Slott
     if !tested.usable {
         return refused(run, Refusal::Unusable);
     }
-    let declaration = run.declaration;
-    let counted = tested.counted;
-    if !within_quota(declaration, counted, input) {
+    if tested.below.0 <= input.0 {
         return refused(run, Refusal::InputBreaksDeclaration);
     }
     let held = tested.held;
@@ -52,7 +49,7 @@ pub fn slot(run: Run, words: &mut [u32], input: Units, choices: &[u64]) -> Slott
         Outcome::Refused(why) => refused(run, why),
         Outcome::Sent(output) => {
             let moves = planned.moves;
-            let next = write(run, words, counted, input, moves);
+            let next = write(run, words, input, moves);
             Slotted {
                 outcome: Outcome::Sent(output),
                 run: next,

@@ -22,10 +22,10 @@ ghost use Rattle.run.specs.Runs.{runWordCount, operatorWords, noOperator
 ghost use Rattle.run.specs.Watching.{unitsHeld};
 ghost use Rattle.run.specs.Steps.{notTested, testedOf};
 
-// Whether what is lent and stored can be used; then the units that count with the next input, and section 3's b of each operator, 0 behind them.
+// Whether what is lent and stored can be used; then what the next input has to be below, and section 3's b of each operator, 0 behind them.
 pub struct Tested {
     pub usable: bool,
-    pub counted: Units,
+    pub below: Units,
     pub held: [Units; 16],
 }
 
@@ -42,12 +42,7 @@ pub(crate) fn test(run: Run, words: &[u32]) -> Tested
     if crate::OPERATORS < count {
         return not_tested();
     }
-    let declaration = run.declaration;
-    if !declaration.in_range() {
-        return not_tested();
-    }
-    let Counted::Before(counted) = counted_before(meter_of(run), &words[0..crate::METER_WORDS])
-    else {
+    let Counted::Below(below) = counted_before(meter_of(run), &words[0..crate::METER_WORDS]) else {
         return not_tested();
     };
     let stages = test_stages(run, words);
@@ -57,7 +52,7 @@ pub(crate) fn test(run: Run, words: &[u32]) -> Tested
     let held = stages.held;
     Tested {
         usable: true,
-        counted,
+        below,
         held,
     }
 }
@@ -69,7 +64,7 @@ fn not_tested() -> Tested
     let held = [none; 16];
     Tested {
         usable: false,
-        counted: Units(0),
+        below: Units(0),
         held,
     }
 }

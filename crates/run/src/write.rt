@@ -5,7 +5,6 @@ use crate::Stage;
 use crate::decide::Move;
 use crate::meter_of;
 use crate::single_of;
-use meter::SourceMeter;
 use meter::parts::Noted;
 use meter::parts::note;
 use operator::parts::Kept;
@@ -15,24 +14,18 @@ use quantity::Units;
 ghost use mathlib.Core.Path.{_≡_};
 ghost use Prim.Native.Nat.{_≤_, _<_};
 ghost use lib.ListN.{length};
-ghost use Rattle.quantity.specs.Limits.{mostOperators};
+ghost use Rattle.quantity.specs.Limits.{mostOperators, lastSlot};
 ghost use Rattle.quantity.specs.Sums.{listOf};
 ghost use Rattle.meter.specs.Parts.{wordsNoted};
 ghost use Rattle.run.specs.Runs.{runWordCount, operatorAtWord, meterWords, operatorWords, meterIn};
-ghost use Rattle.run.specs.Steps.{withPart, meterWritten, stageWritten, stageWords, runWritten, wordWritten};
+ghost use Rattle.run.specs.Steps.{withPart, blockWritten, stageWritten, stageWords, runWritten, wordWritten};
 
-pub(crate) fn write(
-    run: Run,
-    words: &mut [u32],
-    counted: Units,
-    input: Units,
-    moves: [Move; 16],
-) -> Run
-    requires { ⌜ (length (now words) ≡ runWordCount) × (run .count ≤ mostOperators) ⌝ }
-    ensures { λ r. ⌜ r ≡ runWritten run (now (words .entry)) (counted .0) (input .0) moves ⌝ }
-    ensures { λ r. ⌜ now (words .exit) ≡ listOf (wordWritten run (now (words .entry)) (counted .0) (input .0) moves) runWordCount ⌝ }
+pub(crate) fn write(run: Run, words: &mut [u32], input: Units, moves: [Move; 16]) -> Run
+    requires { ⌜ (length (now words) ≡ runWordCount) × (run .count ≤ mostOperators) × (run .slot .0 ≤ lastSlot) ⌝ }
+    ensures { λ r. ⌜ r ≡ runWritten run (now (words .entry)) (input .0) moves ⌝ }
+    ensures { λ r. ⌜ now (words .exit) ≡ listOf (wordWritten run (now (words .entry)) (input .0) moves) runWordCount ⌝ }
 {
-    let meter = write_meter(run, words, counted, input);
+    let block = write_meter(run, words, input);
     let slot = run.slot;
     let count = run.count;
     let mut stages = run.stages;
@@ -44,28 +37,25 @@ pub(crate) fn write(
         k += 1;
     }
     let declaration = run.declaration;
-    let next_slot = meter.slot;
-    let block = meter.block;
     Run {
         declaration,
-        slot: next_slot,
+        slot: Slots(slot.0 + 1),
         block,
         count,
         stages,
     }
 }
 
-// The meter and its words.
-fn write_meter(run: Run, words: &mut [u32], counted: Units, input: Units) -> SourceMeter
+// The meter's block and its words.
+fn write_meter(run: Run, words: &mut [u32], input: Units) -> Units
     requires { ⌜ length (now words) ≡ runWordCount ⌝ }
-    ensures { λ r. ⌜ r ≡ meterWritten run (now (words .entry)) (counted .0) (input .0) ⌝ }
-    ensures { λ r. ⌜ now (words .exit) ≡ withPart 0 (wordsNoted (meterIn run) (meterWords (now (words .entry))) (counted .0) (input .0)) (now (words .entry)) ⌝ }
+    ensures { λ r. ⌜ r ≡ blockWritten run (now (words .entry)) (input .0) ⌝ }
+    ensures { λ r. ⌜ now (words .exit) ≡ withPart 0 (wordsNoted (meterIn run) (meterWords (now (words .entry))) (input .0)) (now (words .entry)) ⌝ }
 {
-    let meter = meter_of(run);
-    let Noted::Next(next) = note(meter, &mut words[0..crate::METER_WORDS], counted, input) else {
-        return meter;
+    let Noted::Block(block) = note(meter_of(run), &mut words[0..crate::METER_WORDS], input) else {
+        return run.block;
     };
-    next
+    block
 }
 
 // Stage k and its words.

@@ -30,11 +30,11 @@ pub record FieldRead (sheet : List ℕ) (at : ℕ) (due : Format) (body rest : L
   pub long : length sheet ≡ at + 3 + due .width + length rest
 
 module _ (sheet : List ℕ) (at : ℕ) (due : Format) (body rest : List ℕ) (narrow : due .width < 65536) (size : length body ≡ due .width) (written : drop at sheet ≡ fieldOf (due .tag) body ++ rest) where
-  tag-read : getD sheet at 0 ≡ due .tag
+  pub tag-read : getD sheet at 0 ≡ due .tag
   unfolding fieldOf
   tag-read = ap (λ (k : ℕ). getD sheet k 0) (sym (add-zero at)) ∙ sym (getD-drop at sheet 0 0) ∙ ap (λ (bytes : List ℕ). getD bytes 0 0) written
 
-  width-read : valueOfBytes (part (at + 1) 2 sheet) ≡ due .width
+  pub width-read : valueOfBytes (part (at + 1) 2 sheet) ≡ due .width
   unfolding part fieldOf bytesOf
   width-read = ap valueOfBytes (part-behind at 1 2 sheet ∙ ap (part 1 2) written) ∙ valueOfBytes-bytesOf 2 (length body) (omega arith) ∙ size
 

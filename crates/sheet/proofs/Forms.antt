@@ -9,8 +9,9 @@ use lib.Seq.{take-take, take-append-seam}
 use lib.Dec.{ltb, eqb}
 use Rattle.quantity.specs.Choice.{either}
 use Rattle.quantity.specs.Refusals.{_⇒_}
-use Rattle.quantity.specs.declared.refusal.Refusal.the-variants.{Unusable, FieldUnexpected, OutOfRange}
+use Rattle.quantity.specs.declared.refusal.Refusal.the-variants.{Unusable, FieldUnexpected, OutOfRange, RowsOutOfOrder}
 use Rattle.quantity.proofs.Laws.{pick-true, pick-false}
+use Rattle.flow.specs.Declarations.{declarationInRange, rowsInOrder, cleared}
 use Rattle.sheet.specs.declared.House.{House}
 use Rattle.sheet.specs.declared.Form.{Form}
 use Rattle.sheet.specs.declared.PathValue.{PathValue}
@@ -18,14 +19,14 @@ use Rattle.sheet.specs.Paths.{Path, noLinkedOperator}
 use Rattle.sheet.specs.House.{houseIn, houseBody, houseInRange, housePath}
 use Rattle.sheet.specs.Forms.{inFull, standsFor, valueOfPath, houseValue}
 use Rattle.sheet.specs.Fields.{fieldOf, bodyAt}
-use Rattle.sheet.specs.Sheets.{fieldsCases, houseCases, inHouseForm, sheetCases, fieldsPath, valueIn, sheetOf, pathInRange, sheetOfValue, writeCases}
+use Rattle.sheet.specs.Sheets.{fieldsCases, houseCases, inHouseForm, sheetCases, fieldsPath, valueIn, sheetOf, restInRange, sheetOfValue, writeCases}
 
--- the value of a path has it written out
-pub value-full : (form : Form) (path : Path) → length (path .operators) ≤ 16 → inFull (valueOfPath form path) ≡ path
+-- the value of a path whose declaration is cleared has it written out
+pub value-full : (form : Form) (path : Path) → cleared (path .declaration) ≡ path .declaration → length (path .operators) ≤ 16 → inFull (valueOfPath form path) ≡ path
 unfolding inFull valueOfPath
-value-full form path few =
+value-full form path clear few =
     let operators : take (length (path .operators)) (take 16 (path .operators ++ replicate 16 noLinkedOperator)) ≡ path .operators = rw take-take (take-append-seam (path .operators) (replicate 16 noLinkedOperator)) in
-    λ i. record { declaration = path .declaration; wanted = path .wanted; operators = operators i }
+    λ i. record { declaration = clear i; wanted = path .wanted; operators = operators i }
 
 pub either-form : (form : Form) → (form ≡ Form.Fields) ⊎ ((h : House) × (form ≡ Form.House h))
 either-form Form.Fields = inl refl
@@ -44,7 +45,9 @@ module _ (value : PathValue) (fields : value .form ≡ Form.Fields) where
       → writeCases value lent
       ≡ (not (eqb (length lent) 256) ⇒ Unusable)
       ∷ (either (eqb (value .count) 0) (ltb 16 (value .count)) ⇒ FieldUnexpected 0)
-      ∷ (not (pathInRange (standsFor value)) ⇒ OutOfRange 0)
+      ∷ (not (declarationInRange (standsFor value .declaration)) ⇒ OutOfRange 0)
+      ∷ (not (rowsInOrder (standsFor value .declaration)) ⇒ RowsOutOfOrder 0)
+      ∷ (not (restInRange (standsFor value)) ⇒ OutOfRange 0)
       ∷ []
   unfolding writeCases
   refusals-in-fields lent = rw fields

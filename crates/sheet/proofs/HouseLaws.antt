@@ -16,7 +16,9 @@ use Rattle.quantity.specs.Sums.{listOf}
 use Rattle.quantity.proofs.Laws.{least-le, le-largest}
 use Rattle.quantity.proofs.Sums.{both-true, length-listOf}
 use Rattle.operator.specs.Operators.{limiter, compactor, expander, filter, delayer, numberInRange}
-use Rattle.flow.specs.Declarations.{declarationInRange}
+use Rattle.flow.specs.Declarations.{rowInRange, rowsInOrder, cleared}
+use Rattle.flow.specs.declared.Kind.{Kind}
+use Rattle.flow.proofs.Declarations.{one-range, one-order}
 use Rattle.operator.specs.declared.Operator.{Operator}
 use Rattle.sheet.specs.declared.LinkedOperator.{LinkedOperator}
 use Rattle.sheet.specs.declared.House.{House}
@@ -27,6 +29,7 @@ use Rattle.sheet.specs.House.{houseIn, houseBody, delayerSlots, packetsU
 use Rattle.sheet.specs.Forms.{inFull, standsFor, houseValue}
 use Rattle.sheet.specs.Sheets.{operatorsInRange, pathInRange}
 use Rattle.sheet.proofs.Numbers.{AreBytes, part-join, drop-last, valueOfBytes-bytesOf, bytesOf-part}
+use Rattle.sheet.proofs.Cleared.{cleared-one}
 use Rattle.sheet.proofs.Forms.{value-full, stands-in-house}
 
 -- a number from a range's least to its largest
@@ -278,6 +281,16 @@ unfolding operatorsInRange listOf
 listed-inside f zero each = refl
 listed-inside f (suc n) each = one-more (listOf f n) (f n) (listed-inside f n (λ k before. each k (omega arith))) (each n (omega arith))
 
+-- its declaration is smooth, with 0 in all that such a one does not use
+module _ (h : House) where
+  pub house-clear : cleared (housePath h .declaration) ≡ housePath h .declaration
+  unfolding housePath
+  house-clear = cleared-one Kind.Smooth (h .interval .0) (h .quota .0) refl
+
+  pub house-order : rowsInOrder (housePath h .declaration) ≡ true
+  unfolding housePath
+  house-order = one-order (housePath h .declaration) refl
+
 module _ (h : House) (inside : houseInRange h ≡ true) where
   pub house-some : 1 ≤ length (housePath h .operators)
   house-some =
@@ -292,17 +305,17 @@ module _ (h : House) (inside : houseInRange h ≡ true) where
       rw (length-houseOperators h) (omega (arith, mul-le-mul-right {m = h .hops .0} {n = 5} (hopLength h) (omega arith)))
 
   pub house-inside : pathInRange (housePath h) ≡ true
-  unfolding pathInRange housePath declarationInRange
+  unfolding pathInRange housePath rowInRange
   house-inside =
       let within = house-within h inside in
-      let declared = ap₂ both (m-inside h within) (in-range quotaRange (h .quota .0) (within .quota)) in
+      let declared = one-range (housePath h .declaration) refl ∙ ap₂ both (m-inside h within) (in-range quotaRange (h .quota .0) (within .quota)) in
       let wanted = in-range wantedDelayRange (h .wanted .0) (within .wanted) in
       ap₂ both declared (ap₂ both wanted (listed-inside (houseOperator h) (h .hops .0 * hopLength h) (linked-inside h within)))
 
   -- its value has that path written out
   pub house-full : inFull (houseValue h) ≡ housePath h
   unfolding houseValue
-  house-full = value-full (Form.House h) (housePath h) (let few = house-few in omega arith)
+  house-full = value-full (Form.House h) (housePath h) (house-clear h) (let few = house-few in omega arith)
 
 pub house-stands : (h : House) → standsFor (houseValue h) ≡ housePath h
 unfolding houseValue

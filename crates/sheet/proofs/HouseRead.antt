@@ -1,10 +1,8 @@
 -- What is read of a sheet of one field 04, and which of the two readers answers.
-use Prim.Native.Nat.{ℕ, _+_, _≤_}
-use mathlib.Core.Path.{_≡_, sym, ap, ap₂, _∙_}
+use Prim.Native.Nat.{ℕ, _+_}
+use mathlib.Core.Path.{_≡_, sym, ap₂, _∙_}
 use mathlib.Core.Bool.{true, false}
 use mathlib.Core.List.{List}
-use lib.ListN.{length, List·getD-eq-default}
-use lib.Dec.{eqb}
 use Rattle.quantity.specs.Refusals.{Case, firstOf}
 use Rattle.quantity.specs.declared.refusal.Refusal.{Refusal}
 use Rattle.quantity.specs.declared.refusal.Refusal.the-variants.{OutOfRange}
@@ -18,10 +16,6 @@ use Rattle.sheet.specs.Fields.{houseFormat, bodyAt, fieldCases}
 use Rattle.sheet.specs.Sheets.{houseAt, houseLength, furtherCases, inHouseForm, refusedRead, readFields, readHouse, readSheet}
 use Rattle.sheet.proofs.Forms.{cases-in-house, value-in-house, cases-in-fields, value-in-fields}
 use Rattle.sheet.proofs.ReadLaws.{any, judged-answer, field-refused, field-outside, field-passed}
-
-pub no-tag : (sheet : List ℕ) → length sheet ≤ 0 → inHouseForm sheet ≡ false
-unfolding inHouseForm
-no-tag sheet none = ap (λ (byte : ℕ). eqb byte 4) (List·getD-eq-default sheet 0 {n = 0} none)
 
 module _ (sheet : List ℕ) where
   abbrev answered : List Case → PathValue → ReadSheet

@@ -1,4 +1,4 @@
--- Path values that no sheet has, lent bytes of a wrong length and house profiles, as tables that are computed from the definitions: what writing answers, and the bytes around a sheet's end; a house profile written and read.
+-- Path values that no sheet has, lent bytes of a wrong length, house profiles and several rows, as tables that are computed from the definitions: what writing answers, and the bytes around a sheet's end; a house profile and three rows written and read, and what such sheets are refused for.
 use mathlib.Core.Path.{_≡_, refl}
 use mathlib.Core.List.{List, [], _∷_, _++_, map}
 use Prim.Native.Nat.{ℕ}
@@ -6,10 +6,12 @@ use lib.ListN.{getD, take, replicate}
 use Rattle.quantity.specs.Ranges.{inRange}
 use Rattle.quantity.specs.Refusals.{refusalNumber, refusalPlace}
 use Rattle.quantity.specs.Rounding.{roundUp}
-use Rattle.quantity.specs.Sums.{listOf}
-use Rattle.operator.specs.Operators.{numberInRange, compactor, filter, delayer}
-use Rattle.flow.specs.Declarations.{declarationInRange}
+use Rattle.quantity.specs.Sums.{every, listOf}
+use Rattle.operator.specs.Operators.{numberInRange, limiter, compactor, filter, delayer}
+use Rattle.flow.specs.Declarations.{emptyRow, rowCount, rowAt, rowInRange, declarationInRange, rises, rowsInOrder, ofOneRow, cleared}
 use Rattle.flow.specs.declared.Kind.{Kind}
+use Rattle.flow.specs.declared.DeclaredRow.{DeclaredRow}
+use Rattle.flow.specs.declared.Declaration.{Declaration}
 use Rattle.operator.specs.declared.Operator.{Operator}
 use Rattle.sheet.specs.declared.LinkedOperator.{LinkedOperator}
 use Rattle.sheet.specs.declared.House.{House}
@@ -20,18 +22,18 @@ use Rattle.sheet.specs.declared.write.Written.{Written}
 use Rattle.sheet.specs.Numbers as number
 use Rattle.sheet.specs.Numbers.{bytesOf}
 use Rattle.sheet.specs.Paths.{noLinkedOperator}
-use Rattle.sheet.specs.Bodies.{part, kindByte, declarationBody, wantedBody, operatorByte, operatorNumber, operatorBody, operatorInRange}
+use Rattle.sheet.specs.Bodies.{part, declarationIn, declarationFits, rowIn, rowsIn, rowsFit, rowBodies, pairBody, declarationTag, declarationBody, wantedIn, wantedFits, operatorOf, operatorIn, operatorFits, wantedBody, operatorByte, operatorNumber, operatorBody, operatorInRange}
 use Rattle.sheet.specs.House.{houseIn, houseBody, delayerSlots, houseInRange, houseFits, housePath}
-use Rattle.sheet.specs.Forms.{inFull, standsFor, houseValue, noPath}
+use Rattle.sheet.specs.Forms.{inFull, standsFor, valueOfPath, houseValue, noPath}
 use Rattle.sheet.specs.Fields.{fieldOf, bodyAt, fieldMissing, headerCutOff, fieldUnexpected, bodyCutOff, bodyOutOfRange}
-use Rattle.sheet.specs.Sheets.{furtherCases, inHouseForm, sheetCases, valueIn, pathIn, readSheet, operatorFields, sheetOf, operatorsInRange, pathInRange, sheetOfValue, writeCases, writeAnswer, bytesWritten}
+use Rattle.sheet.specs.Sheets.{inRowsForm, rowsGiven, firstFormat, declaredIn, declarationCases, wantedAt, furtherCases, inHouseForm, sheetCases, operatorsFrom, fieldsPath, valueIn, pathIn, readSheet, operatorFields, sheetOf, operatorsInRange, restInRange, sheetOfValue, writeCases, writeAnswer, bytesWritten}
 
 -- a path of smooth (m, 30), its delay wanted, its count and an operator on link 0
 abbrev pub path : ℕ → ℕ → ℕ → Operator → PathValue
 path m wanted count operator =
     record {
       form = Form.Fields;
-      declaration = record { kind = Kind.Smooth; interval = record { 0 = m }; quota = record { 0 = 30 } };
+      declaration = ofOneRow Kind.Smooth m 30;
       wanted = record { 0 = wanted };
       count = count;
       operators = record { operator = operator; link = record { 0 = 0 } } ∷ replicate 15 noLinkedOperator;
@@ -112,7 +114,7 @@ expected =
     ∷ []
 
 pub reference-sheets : computed ≡ expected
-unfolding computed expected inRange roundUp numberInRange declarationInRange bytesOf inFull standsFor kindByte declarationBody wantedBody operatorByte operatorNumber operatorBody operatorInRange houseBody delayerSlots houseInRange fieldOf operatorFields sheetOf operatorsInRange pathInRange sheetOfValue writeCases writeAnswer bytesWritten
+unfolding computed expected inRange roundUp every listOf numberInRange rowCount rowAt rowInRange declarationInRange rises rowsInOrder cleared bytesOf inFull standsFor rowBodies pairBody declarationTag declarationBody wantedBody operatorByte operatorNumber operatorBody operatorInRange houseBody delayerSlots houseInRange fieldOf operatorFields sheetOf operatorsInRange restInRange sheetOfValue writeCases writeAnswer bytesWritten
 reference-sheets = refl
 
 -- profile 2 of three hops, written and read
@@ -135,7 +137,7 @@ abbrev pub placed : Operator → ℕ → LinkedOperator
 placed operator link = record { operator = operator; link = record { 0 = link } }
 
 pub house-path : pathIn houseSheet ≡ record {
-  declaration = record { kind = Kind.Smooth; interval = record { 0 = 10 }; quota = record { 0 = 30 } };
+  declaration = ofOneRow Kind.Smooth 10 30;
   wanted = 60;
   operators = placed (filter 2) 0 ∷ placed (delayer 1) 0 ∷ placed (filter 2) 1 ∷ placed (delayer 1) 1 ∷ placed (filter 2) 2 ∷ placed (delayer 1) 2 ∷ [];
 }
@@ -152,3 +154,169 @@ pub house-refusals : map (λ sheet. against (readSheet sheet .verdict)) ((houseS
     ≡ (2 ∷ 25 ∷ []) ∷ (3 ∷ 25 ∷ []) ∷ (4 ∷ 0 ∷ []) ∷ (2 ∷ 0 ∷ []) ∷ (3 ∷ 0 ∷ []) ∷ []
 unfolding inRange roundUp number.valueOfBytes part houseIn delayerSlots houseInRange houseFits bodyAt fieldMissing headerCutOff fieldUnexpected bodyCutOff bodyOutOfRange furtherCases inHouseForm sheetCases readSheet
 house-refusals = refl
+
+-- document 02, item 6: rows (1, 9), (3, 15), (12, 48), delay wanted 30, limiter 4 on link 5
+abbrev pub row : ℕ → ℕ → DeclaredRow
+row m Q = record { interval = record { 0 = m }; quota = record { 0 = Q } }
+
+abbrev pub camera : List DeclaredRow
+camera = row 1 9 ∷ row 3 15 ∷ row 12 48 ∷ emptyRow ∷ []
+
+abbrev pub severalRows : ℕ → List DeclaredRow → Declaration
+severalRows count rows = record { kind = Kind.Rows; interval = record { 0 = 0 }; quota = record { 0 = 0 }; count = count; rows = rows }
+
+-- the delay wanted and the operator as they are written
+abbrev pub wantedField : List ℕ
+wantedField = 2 ∷ 0 ∷ 4 ∷ 0 ∷ 0 ∷ 0 ∷ 30 ∷ []
+
+abbrev pub limiterField : List ℕ
+limiterField = 3 ∷ 0 ∷ 6 ∷ 0 ∷ 5 ∷ 0 ∷ 0 ∷ 0 ∷ 4 ∷ []
+
+-- a row's six bytes where the interval is below 256 and the quota too
+abbrev pub rowBytes : ℕ → ℕ → List ℕ
+rowBytes m Q = 0 ∷ m ∷ 0 ∷ 0 ∷ 0 ∷ Q ∷ []
+
+-- a sheet that begins with a field 05 of so many bytes
+abbrev pub begunBy : ℕ → List ℕ → List ℕ
+begunBy width body = 5 ∷ 0 ∷ width ∷ body ++ wantedField ++ limiterField
+
+abbrev pub cameraSheet : List ℕ
+cameraSheet = begunBy 18 (rowBytes 1 9 ++ rowBytes 3 15 ++ rowBytes 12 48)
+
+pub rows-path : pathIn cameraSheet ≡ record { declaration = severalRows 3 camera; wanted = 30; operators = placed (limiter 4) 5 ∷ [] }
+unfolding listOf number.valueOfBytes cleared part rowIn rowsIn wantedIn operatorOf operatorIn bodyAt inRowsForm rowsGiven firstFormat declaredIn wantedAt inHouseForm operatorsFrom fieldsPath inFull standsFor valueOfPath valueIn pathIn
+rows-path = refl
+
+-- sheets with the tag 05
+pub rowsSheets : List (List ℕ)
+rowsSheets =
+    -- three rows, two of one quota, and four of which the last has the largest numbers
+    cameraSheet
+    ∷ begunBy 12 (rowBytes 1 9 ++ rowBytes 3 9)
+    ∷ begunBy 24 (rowBytes 1 9 ++ rowBytes 3 15 ++ rowBytes 12 48 ++ (4 ∷ 0 ∷ 0 ∷ 0 ∷ 255 ∷ 255 ∷ []))
+    -- one row, two and a byte, and five
+    ∷ begunBy 6 (rowBytes 1 9)
+    ∷ begunBy 13 (rowBytes 1 9 ++ rowBytes 3 15 ++ (0 ∷ []))
+    ∷ begunBy 30 (rowBytes 1 9 ++ rowBytes 3 15 ++ rowBytes 12 48 ++ rowBytes 13 48 ++ rowBytes 14 48)
+    -- the first three bytes and the body cut off
+    ∷ take 2 cameraSheet
+    ∷ take 20 cameraSheet
+    -- intervals 0 and 1,025, quotas 0 and 65,536
+    ∷ begunBy 12 (rowBytes 0 9 ++ rowBytes 3 15)
+    ∷ begunBy 12 (rowBytes 1 9 ++ (4 ∷ 1 ∷ 0 ∷ 0 ∷ 0 ∷ 15 ∷ []))
+    ∷ begunBy 12 (rowBytes 1 0 ++ rowBytes 3 15)
+    ∷ begunBy 12 (rowBytes 1 9 ++ (0 ∷ 3 ∷ 0 ∷ 1 ∷ 0 ∷ 0 ∷ []))
+    -- equal intervals; a quota that falls, and one that falls from the third row to the fourth
+    ∷ begunBy 12 (rowBytes 3 9 ++ rowBytes 3 15)
+    ∷ begunBy 12 (rowBytes 1 9 ++ rowBytes 3 8)
+    ∷ begunBy 24 (rowBytes 1 9 ++ rowBytes 3 15 ++ rowBytes 12 48 ++ rowBytes 13 47)
+    -- 5 before 15, and 15 before the 3 of what is missing behind it
+    ∷ begunBy 12 (rowBytes 3 9 ++ rowBytes 3 0)
+    ∷ take 15 (begunBy 12 (rowBytes 3 9 ++ rowBytes 3 15))
+    -- behind three rows the field 02 begins at byte 21 and the first 03 at byte 28: nothing, a body cut off, another 05; limiter 0
+    ∷ take 21 cameraSheet
+    ∷ take 27 cameraSheet
+    ∷ (take 21 cameraSheet ++ cameraSheet)
+    ∷ (take 36 cameraSheet ++ (0 ∷ []))
+    -- 05 behind 01
+    ∷ (1 ∷ 0 ∷ 7 ∷ 0 ∷ 0 ∷ 10 ∷ 0 ∷ 0 ∷ 0 ∷ 30 ∷ cameraSheet)
+    ∷ []
+
+pub rows-refusals : map (λ sheet. against (readSheet sheet .verdict)) rowsSheets
+    ≡ []
+    ∷ []
+    ∷ []
+    ∷ (3 ∷ 0 ∷ [])
+    ∷ (3 ∷ 0 ∷ [])
+    ∷ (3 ∷ 0 ∷ [])
+    ∷ (2 ∷ 0 ∷ [])
+    ∷ (4 ∷ 0 ∷ [])
+    ∷ (5 ∷ 0 ∷ [])
+    ∷ (5 ∷ 0 ∷ [])
+    ∷ (5 ∷ 0 ∷ [])
+    ∷ (5 ∷ 0 ∷ [])
+    ∷ (15 ∷ 0 ∷ [])
+    ∷ (15 ∷ 0 ∷ [])
+    ∷ (15 ∷ 0 ∷ [])
+    ∷ (5 ∷ 0 ∷ [])
+    ∷ (15 ∷ 0 ∷ [])
+    ∷ (3 ∷ 21 ∷ [])
+    ∷ (4 ∷ 21 ∷ [])
+    ∷ (3 ∷ 21 ∷ [])
+    ∷ (5 ∷ 28 ∷ [])
+    ∷ (3 ∷ 10 ∷ [])
+    ∷ []
+unfolding rowsSheets inRange every listOf numberInRange rowCount rowAt rowInRange declarationInRange rises rowsInOrder number.valueOfBytes part declarationIn declarationFits rowIn rowsIn rowsFit wantedIn wantedFits operatorOf operatorIn operatorInRange operatorFits bodyAt fieldMissing headerCutOff fieldUnexpected bodyCutOff bodyOutOfRange inRowsForm rowsGiven firstFormat declaredIn declarationCases wantedAt furtherCases inHouseForm sheetCases readSheet
+rows-refusals = refl
+
+-- a path of a declaration, its delay wanted and its count, with the limiter
+abbrev pub declaredPath : Declaration → ℕ → ℕ → PathValue
+declaredPath declared wanted count =
+    record {
+      form = Form.Fields;
+      declaration = declared;
+      wanted = record { 0 = wanted };
+      count = count;
+      operators = placed (limiter 4) 5 ∷ replicate 15 noLinkedOperator;
+    }
+
+-- two rows
+abbrev pub pairOfRows : DeclaredRow → DeclaredRow → Declaration
+pairOfRows first second = severalRows 2 (first ∷ second ∷ emptyRow ∷ emptyRow ∷ [])
+
+-- the three rows with other numbers in what is not used, and a smooth declaration with rows
+abbrev pub cluttered : Declaration
+cluttered = record { kind = Kind.Rows; interval = record { 0 = 7 }; quota = record { 0 = 7 }; count = 3; rows = row 1 9 ∷ row 3 15 ∷ row 12 48 ∷ row 2 0 ∷ [] }
+
+abbrev pub smoothCluttered : Declaration
+smoothCluttered = record { kind = Kind.Smooth; interval = record { 0 = 10 }; quota = record { 0 = 30 }; count = 9; rows = row 12 48 ∷ row 3 15 ∷ row 1 0 ∷ emptyRow ∷ [] }
+
+pub rowsComputed : List Outcome
+rowsComputed =
+    into 256 (declaredPath (severalRows 3 camera) 30 1)
+    -- one row and five
+    ∷ into 256 (declaredPath (severalRows 1 camera) 30 1)
+    ∷ into 256 (declaredPath (severalRows 5 (row 1 9 ∷ row 3 15 ∷ row 12 48 ∷ row 13 48 ∷ [])) 30 1)
+    -- numbers out of their ranges
+    ∷ into 256 (declaredPath (pairOfRows (row 1 9) (row 1025 15)) 30 1)
+    ∷ into 256 (declaredPath (pairOfRows (row 1 9) (row 3 65_536)) 30 1)
+    -- equal intervals, a quota that falls, equal quotas
+    ∷ into 256 (declaredPath (pairOfRows (row 3 9) (row 3 15)) 30 1)
+    ∷ into 256 (declaredPath (pairOfRows (row 1 9) (row 3 8)) 30 1)
+    ∷ into 256 (declaredPath (pairOfRows (row 1 9) (row 3 9)) 30 1)
+    -- 5 of the declaration before 15, 15 before the 5 of the delay wanted, 3 before them
+    ∷ into 256 (declaredPath (pairOfRows (row 3 9) (row 3 0)) 30 1)
+    ∷ into 256 (declaredPath (pairOfRows (row 3 9) (row 3 15)) 65_536 1)
+    ∷ into 256 (declaredPath (pairOfRows (row 1 9) (row 3 15)) 65_536 1)
+    ∷ into 256 (declaredPath (pairOfRows (row 3 9) (row 3 15)) 65_536 17)
+    -- what the kind does not use is not looked at
+    ∷ into 256 (declaredPath cluttered 30 1)
+    ∷ into 256 (declaredPath smoothCluttered 30 1)
+    ∷ []
+
+pub rowsExpected : List Outcome
+rowsExpected =
+    written 37 (0 ∷ 0 ∷ [])
+    ∷ refused 5 0 (7 ∷ 7 ∷ [])
+    ∷ refused 5 0 (7 ∷ 7 ∷ [])
+    ∷ refused 5 0 (7 ∷ 7 ∷ [])
+    ∷ refused 5 0 (7 ∷ 7 ∷ [])
+    ∷ refused 15 0 (7 ∷ 7 ∷ [])
+    ∷ refused 15 0 (7 ∷ 7 ∷ [])
+    ∷ written 31 (0 ∷ 5 ∷ [])
+    ∷ refused 5 0 (7 ∷ 7 ∷ [])
+    ∷ refused 15 0 (7 ∷ 7 ∷ [])
+    ∷ refused 5 0 (7 ∷ 7 ∷ [])
+    ∷ refused 3 0 (7 ∷ 7 ∷ [])
+    ∷ written 37 (0 ∷ 0 ∷ [])
+    ∷ written 26 (4 ∷ 7 ∷ [])
+    ∷ []
+
+pub reference-rows : rowsComputed ≡ rowsExpected
+unfolding rowsComputed rowsExpected inRange every listOf numberInRange rowCount rowAt rowInRange declarationInRange rises rowsInOrder cleared bytesOf inFull standsFor rowBodies pairBody declarationTag declarationBody wantedBody operatorByte operatorNumber operatorBody operatorInRange fieldOf operatorFields sheetOf operatorsInRange restInRange sheetOfValue writeCases writeAnswer bytesWritten
+reference-rows = refl
+
+-- the three rows are written as their sheet, whatever stands in what is not used
+pub rows-sheet : take 38 (bytesWritten (declaredPath cluttered 30 1) (replicate 256 7)) ≡ cameraSheet ++ (7 ∷ [])
+unfolding inRange every listOf numberInRange rowCount rowAt rowInRange declarationInRange rises rowsInOrder cleared bytesOf inFull standsFor rowBodies declarationTag declarationBody wantedBody operatorByte operatorNumber operatorBody operatorInRange fieldOf operatorFields sheetOf operatorsInRange restInRange sheetOfValue writeCases bytesWritten
+rows-sheet = refl

@@ -1,5 +1,5 @@
--- A whole sheet, in either form: what is written of a path in range is accepted and read as that path; an accepted sheet is what is written of the path in it; and what the writer answers where it does not refuse.
-use Prim.Native.Nat.{ℕ, _≤_, _<_}
+-- A whole sheet, in either form: what is written of a path in range and in order is accepted and read as that path; an accepted sheet is what is written of the path in it; and what the writer answers where it does not refuse.
+use Prim.Native.Nat.{ℕ, _+_, _≤_, _<_}
 use mathlib.Core.Path.{_≡_, refl, sym, ap, subst, _∙_}
 use mathlib.Core.Bool.{Bool, true, false}
 use mathlib.Core.List.{List, [], _++_, append-assoc, append-nil}
@@ -9,13 +9,13 @@ use lib.ListN.{length, take, drop}
 use lib.Seq.{length-take-le, take-append-seam}
 use lib.Dec.{ltb, eqb}
 use borrow.Author.Tests.{eqb-false, ltb-false, not-false, eq-eqb, ne-eqb, le-ltb}
-use Rattle.quantity.specs.Choice.{both}
 use Rattle.quantity.specs.Ranges.{inRange, wantedDelayRange}
 use Rattle.quantity.specs.declared.refusal.Refusal.{Refusal}
 use Rattle.quantity.proofs.Laws.{either-false}
 use Rattle.quantity.proofs.Sums.{both-true}
 use Rattle.quantity.proofs.Refusals.{NoneStands, none-of-both, none-of-each, firstOf-none, none-where-result}
-use Rattle.flow.specs.Declarations.{declarationInRange}
+use Rattle.flow.specs.Declarations.{byKind, declarationInRange, rowsInOrder, cleared}
+use Rattle.flow.specs.declared.Kind.{Kind}
 use Rattle.sheet.specs.declared.House.{House}
 use Rattle.sheet.specs.declared.Form.{Form}
 use Rattle.sheet.specs.declared.PathValue.{PathValue}
@@ -23,67 +23,69 @@ use Rattle.sheet.specs.declared.read.Verdict.{Verdict}
 use Rattle.sheet.specs.declared.read.ReadSheet.{ReadSheet}
 use Rattle.sheet.specs.declared.write.Written.{Written}
 use Rattle.sheet.specs.Paths.{Path}
-use Rattle.sheet.specs.Bodies.{declarationIn, wantedIn, declarationBody, wantedBody}
+use Rattle.sheet.specs.Bodies.{wantedIn, declarationTag, declarationBody, wantedBody}
 use Rattle.sheet.specs.House.{houseIn, houseBody, houseInRange}
 use Rattle.sheet.specs.Forms.{inFull, standsFor, valueOfPath, houseValue, noPath}
-use Rattle.sheet.specs.Fields.{declarationFormat, wantedFormat, operatorFormat, houseFormat, fieldOf, bodyAt, fieldCases}
-use Rattle.sheet.specs.Sheets.{fieldsCases, houseCases, inHouseForm, sheetCases, furtherCases, operatorsFrom, fieldsPath, valueIn, readSheet, operatorFields, operatorsInRange, sheetOf, pathInRange, sheetOfValue, writeCases, writeAnswer, bytesWritten}
+use Rattle.sheet.specs.Fields.{wantedFormat, houseFormat, fieldOf, bodyAt, fieldCases}
+use Rattle.sheet.specs.Sheets.{declarationCases, wantedAt, operatorsAt, fieldsCases, houseCases, inHouseForm, sheetCases, furtherCases, operatorsFrom, fieldsPath, valueIn, readSheet, operatorFields, operatorsInRange, sheetOf, restInRange, sheetOfValue, writeCases, writeAnswer, bytesWritten}
 use Rattle.sheet.proofs.Numbers.{AreBytes}
-use Rattle.sheet.proofs.Bodies.{length-declarationBody, declaration-read, declaration-fits, declaration-written, length-wantedBody, wanted-read, wanted-fits, wanted-written}
+use Rattle.sheet.proofs.Bodies.{length-wantedBody, wanted-read, wanted-fits, wanted-written}
+use Rattle.sheet.proofs.Cleared.{cleared-twice}
 use Rattle.sheet.proofs.Forms.{value-full, either-form, stands-in-fields, sheet-in-fields, refusals-in-fields, stands-in-house, sheet-in-house, refusals-in-house, cases-in-house, value-in-house, cases-in-fields, value-in-fields}
 use Rattle.sheet.proofs.HouseLaws.{length-houseBody, house-read, house-fits, house-written, house-stands}
 use Rattle.sheet.proofs.Fields.{field-read, field-accepted, field-written}
+use Rattle.sheet.proofs.DeclarationField.{declared-read, declared-written}
 use Rattle.sheet.proofs.OperatorRows.{length-operatorFields, further-begun, further-ended, operators-read, operators-written}
-use Rattle.sheet.proofs.Accepted.{fields-path, profile-inside, never-accepted}
+use Rattle.sheet.proofs.Accepted.{fields-stand, fields-path, profile-inside, fields-clear, never-accepted}
+use Rattle.sheet.proofs.InRange.{declaration-of-path, rest-of-path}
 
--- fields 01, 02 and 03
+-- a path written out in fields
 
 -- their cases where the first operator has begun
-begun-cases : (sheet : List ℕ) → 17 < length sheet → fieldCases sheet 0 declarationFormat ++ (fieldCases sheet 10 wantedFormat ++ furtherCases 16 17 sheet) ≡ fieldsCases sheet
-begun-cases sheet begun = rw (further-begun sheet 15 17 begun)
+begun-cases : (sheet : List ℕ) → operatorsAt sheet < length sheet
+    → declarationCases sheet ++ (fieldCases sheet (wantedAt sheet) wantedFormat ++ furtherCases 16 (operatorsAt sheet) sheet) ≡ fieldsCases sheet
+unfolding declarationCases
+begun-cases sheet begun = rw (further-begun sheet 15 (operatorsAt sheet) begun)
+
+-- the first operator stands behind the field 02
+behind-wanted : (sheet : List ℕ) → wantedAt sheet + 3 + 4 ≡ operatorsAt sheet
+behind-wanted sheet = omega arith
 
 -- a path as it is written is accepted, and read as it is
-fields-read : (path : Path) → 1 ≤ length (path .operators) → length (path .operators) ≤ 16 → pathInRange path ≡ true
+fields-read : (path : Path) → cleared (path .declaration) ≡ path .declaration → 1 ≤ length (path .operators) → length (path .operators) ≤ 16
+    → declarationInRange (path .declaration) ≡ true → rowsInOrder (path .declaration) ≡ true → restInRange path ≡ true
     → NoneStands (fieldsCases (sheetOf path)) × (fieldsPath (sheetOf path) ≡ path)
-unfolding pathInRange sheetOf fieldsPath
-fields-read path some few inside =
+unfolding restInRange sheetOf fieldsPath
+fields-read path clear some few inside order rest =
     let sheet = sheetOf path in
     let declared = path .declaration in
     let wanted = path .wanted in
     let operators = path .operators in
     let fields = operatorFields operators in
-    let (declared-inside, others) = both-true (declarationInRange declared) (both (inRange wantedDelayRange wanted) (operatorsInRange operators)) inside in
-    let (wanted-in, operators-inside) = both-true (inRange wantedDelayRange wanted) (operatorsInRange operators) others in
+    let (wanted-in, operators-in) = both-true (inRange wantedDelayRange wanted) (operatorsInRange operators) rest in
     let first =
-    field-read sheet 0 declarationFormat (declarationBody declared) (fieldOf 2 (wantedBody wanted) ++ fields) (omega arith) (length-declarationBody declared)
-    (append-assoc (fieldOf 1 (declarationBody declared)) (fieldOf 2 (wantedBody wanted)) fields) (declaration-fits declared declared-inside) in
-    let second = field-read sheet 10 wantedFormat (wantedBody wanted) fields (omega arith) (length-wantedBody wanted) (first .behind) (wanted-fits wanted wanted-in) in
+    declared-read sheet declared (fieldOf 2 (wantedBody wanted) ++ fields) (append-assoc (fieldOf (declarationTag declared) (declarationBody declared)) (fieldOf 2 (wantedBody wanted)) fields) inside order in
+    let second = field-read sheet (wantedAt sheet) wantedFormat (wantedBody wanted) fields (omega arith) (length-wantedBody wanted) (first .behind) (wanted-fits wanted wanted-in) in
     let long = second .long in
-    let third = operators-read sheet 16 17 operators few (omega arith) (sym (second .behind), operators-inside) in
-    let declared-read = ap declarationIn (first .read) ∙ declaration-read declared declared-inside in
-    let wanted-read = ap wantedIn (second .read) ∙ wanted-read wanted wanted-in in (
+    let third = operators-read sheet 16 (operatorsAt sheet) operators few (omega arith) (sym (rw (behind-wanted sheet) at (second .behind)), operators-in) in
+    let declared-back = first .read ∙ clear in
+    let wanted-back = ap wantedIn (second .read) ∙ wanted-read wanted wanted-in in (
       subst NoneStands (begun-cases sheet (omega (arith, length-operatorFields operators)))
-          (none-of-both (fieldCases sheet 0 declarationFormat) (fieldCases sheet 10 wantedFormat ++ furtherCases 16 17 sheet) (first .stands)
-          (none-of-both (fieldCases sheet 10 wantedFormat) (furtherCases 16 17 sheet) (second .stands) (third .0))),
-      λ i. record { declaration = declared-read i; wanted = wanted-read i; operators = third .1 i },
+          (none-of-both (declarationCases sheet) (fieldCases sheet (wantedAt sheet) wantedFormat ++ furtherCases 16 (operatorsAt sheet) sheet) (first .stands)
+          (none-of-both (fieldCases sheet (wantedAt sheet) wantedFormat) (furtherCases 16 (operatorsAt sheet) sheet) (second .stands) (third .0))),
+      λ i. record { declaration = declared-back i; wanted = wanted-back i; operators = third .1 i },
     )
 
 -- and accepted fields are what is written of the path that they are read as
 fields-written : (sheet : List ℕ) → AreBytes sheet → NoneStands (fieldsCases sheet) → sheetOf (fieldsPath sheet) ≡ sheet
 unfolding sheetOf fieldsPath
 fields-written sheet each stands =
-    let (first-stands, others) = none-of-each (fieldCases sheet 0 declarationFormat) (fieldCases sheet 10 wantedFormat ++ (fieldCases sheet 17 operatorFormat ++ furtherCases 15 26 sheet)) stands in
-    let (second-stands, third-stands) = none-of-each (fieldCases sheet 10 wantedFormat) (fieldCases sheet 17 operatorFormat ++ furtherCases 15 26 sheet) others in
-    let first = field-accepted sheet 0 declarationFormat first-stands in
-    let first-bytes = field-written sheet 0 declarationFormat each first-stands in
-    let second = field-accepted sheet 10 wantedFormat second-stands in
-    let second-bytes = field-written sheet 10 wantedFormat each second-stands in
-    let third = field-accepted sheet 17 operatorFormat (none-of-each (fieldCases sheet 17 operatorFormat) (furtherCases 15 26 sheet) third-stands .0) in
-    let begun : 17 < length sheet = let ends = third .ends in omega arith in
-    let written = operators-written sheet 16 17 each (omega arith) (rw (further-begun sheet 15 17 begun) third-stands) in
-    let declared = declaration-written (bodyAt sheet 0 7) (first .fits) (first-bytes .bytes) (first .size) in
-    let wanted = wanted-written (bodyAt sheet 10 4) (second-bytes .bytes) (second .size) in
-    rw (declared, wanted, written, append-assoc, second-bytes .written) (first-bytes .written)
+    let record { declared = declared-stands; wanted = wanted-stands; begun = begun; operators = operators-stand } = fields-stand sheet stands in
+    let second = field-accepted sheet (wantedAt sheet) wantedFormat wanted-stands in
+    let second-bytes = field-written sheet (wantedAt sheet) wantedFormat each wanted-stands in
+    let written = operators-written sheet 16 (operatorsAt sheet) each (omega arith) operators-stand in
+    let wanted = wanted-written (bodyAt sheet (wantedAt sheet) 4) (second-bytes .bytes) (second .size) in
+    rw (wanted, written, append-assoc, ← behind-wanted sheet, second-bytes .written) (declared-written sheet declared-stands each)
 
 -- a field 04
 
@@ -109,8 +111,13 @@ profile-written sheet each stands =
 
 -- the sheet of a path written out does not begin with the tag 04, that of a profile does
 path-form : (path : Path) → inHouseForm (sheetOf path) ≡ false
-unfolding inHouseForm sheetOf fieldOf
-path-form path = refl
+unfolding inHouseForm sheetOf fieldOf declarationTag
+path-form path = by-kind (path .declaration .kind)
+  where
+    by-kind : (kind : Kind) → eqb (byKind kind 0x01 0x01 0x05) 0x04 ≡ false
+    by-kind Kind.Smooth = refl
+    by-kind Kind.Uniform = refl
+    by-kind Kind.Rows = refl
 
 profile-form : (h : House) → inHouseForm (fieldOf 0x04 (houseBody h)) ≡ true
 unfolding inHouseForm fieldOf
@@ -134,13 +141,17 @@ module _ (value : PathValue) (lent : List ℕ) (stands : NoneStands (writeCases 
       let few : value .count ≤ 16 = ltb-false 16 (value .count) fits in
       let some : value .count ≢ 0 = eqb-false (value .count) 0 full in
       let size = length-take-le (value .count) (value .operators) (omega arith) in
-      let (accepted, same) = fields-read path (omega arith) (omega arith) (rw stood at (not-false (pathInRange (standsFor value)) (tests .1 .1 .0))) in
+      let inside : declarationInRange (path .declaration) ≡ true = rw stood at (not-false (declarationInRange (standsFor value .declaration)) (tests .1 .1 .0)) in
+      let order : rowsInOrder (path .declaration) ≡ true = rw stood at (not-false (rowsInOrder (standsFor value .declaration)) (tests .1 .1 .1 .0)) in
+      let rest : restInRange path ≡ true = rw stood at (not-false (restInRange (standsFor value)) (tests .1 .1 .1 .1 .0)) in
+      let clear : cleared (path .declaration) ≡ path .declaration = cleared-twice (value .declaration) in
+      let (accepted, same) = fields-read path clear (omega arith) (omega arith) inside order rest in
       let read : valueIn sheet ≡ valueOfPath Form.Fields path = value-in-fields sheet (path-form path) ∙ ap (valueOfPath Form.Fields) same in
       rw (sheet-in-fields value fields, stood)
       (record {
         stands = rw (cases-in-fields sheet (path-form path)) accepted;
         form = ap (λ (back : PathValue). back .form) read ∙ sym fields;
-        path = ap standsFor read ∙ stands-in-fields (valueOfPath Form.Fields path) refl ∙ value-full Form.Fields path (omega arith) ∙ sym stood;
+        path = ap standsFor read ∙ stands-in-fields (valueOfPath Form.Fields path) refl ∙ value-full Form.Fields path clear (omega arith) ∙ sym stood;
       })
 
   read-in-house : (h : House) → value .form ≡ Form.House h → PathRead value (sheetOfValue value)
@@ -172,13 +183,15 @@ module _ (sheet : List ℕ) (stands : NoneStands (sheetCases sheet)) where
       let path = fieldsPath sheet in
       let value = valueOfPath Form.Fields path in
       let accepted = rw (cases-in-fields sheet fields) at stands in
-      let record { some = some; few = few; inside = inside } = fields-path sheet accepted in
-      let stood : standsFor value ≡ path = stands-in-fields value refl ∙ value-full Form.Fields path few in
+      let record { some = some; few = few; inside = inside; order = order } = fields-path sheet accepted in
+      let stood : standsFor value ≡ path = stands-in-fields value refl ∙ value-full Form.Fields path (fields-clear sheet) few in
       let full : eqb (value .count) 0 ≡ false = ne-eqb (value .count) 0 (omega arith) in
       let fits : ltb 16 (value .count) ≡ false = le-ltb 16 (value .count) few in
       rw (value-in-fields sheet fields)
       (record {
-        stands = λ lent size. rw (refusals-in-fields value refl lent) (rw (eq-eqb _ _ size), (rw (full, fits), (rw (stood, inside), tt)));
+        stands = λ lent size.
+            rw (refusals-in-fields value refl lent)
+            (rw (eq-eqb _ _ size), (rw (full, fits), (rw (stood, declaration-of-path path inside), (rw (stood, order), (rw (stood, rest-of-path path inside), tt)))));
         written = λ each. sheet-in-fields value refl ∙ ap sheetOf stood ∙ fields-written sheet each accepted;
       })
 

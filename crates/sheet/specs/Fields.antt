@@ -1,5 +1,5 @@
 -- Sections 5 and 7: a field is a tag (1 byte), the body's length (2 bytes) and the body; and why one is refused where it is expected.
-use Prim.Native.Nat.{ℕ, _+_}
+use Prim.Native.Nat.{ℕ, _+_, _*_}
 use mathlib.Core.Bool.{Bool, not}
 use mathlib.Core.List.{List, [], _∷_, _++_}
 use lib.ListN.{length, getD}
@@ -8,7 +8,7 @@ use Rattle.quantity.specs.Choice.{both}
 use Rattle.quantity.specs.Refusals.{Case, _⇒_}
 use Rattle.quantity.specs.declared.refusal.Refusal.the-variants.{HeaderCutOff, FieldUnexpected, BodyCutOff, OutOfRange}
 use Rattle.sheet.specs.Numbers.{valueOfBytes, bytesOf}
-use Rattle.sheet.specs.Bodies.{part, declarationFits, wantedFits, operatorFits}
+use Rattle.sheet.specs.Bodies.{part, declarationFits, rowLength, rowsFit, wantedFits, operatorFits}
 use Rattle.sheet.specs.House.{houseFits}
 
 -- a field's tag, its body's length, and whether a body's kind and numbers are in their ranges
@@ -19,6 +19,10 @@ pub record Format : Type 0 where
 
 abbrev pub declarationFormat : Format
 declarationFormat = record { tag = 0x01; width = 7; fits = declarationFits }
+
+-- 05 with so many rows
+abbrev pub rowsFormat : ℕ → Format
+rowsFormat count = record { tag = 0x05; width = count * rowLength; fits = rowsFit count }
 
 abbrev pub wantedFormat : Format
 wantedFormat = record { tag = 0x02; width = 4; fits = wantedFits }

@@ -9,6 +9,7 @@ use Rattle.quantity.specs.Rounding.{roundUp}
 use Rattle.quantity.specs.Sums.{listOf}
 use Rattle.quantity.specs.Ranges.{inRange, hopsRange, wantedDelayRange, intervalRange, quotaRange, rateRange, packetRange, delayRange}
 use Rattle.operator.specs.Operators.{limiter, compactor, expander, filter, delayer}
+use Rattle.flow.specs.Declarations.{ofOneRow}
 use Rattle.flow.specs.declared.Kind.{Kind}
 use Rattle.operator.specs.declared.Operator.{Operator}
 use Rattle.sheet.specs.declared.LinkedOperator.{LinkedOperator}
@@ -103,7 +104,7 @@ unfoldable pub housePath : House → Path
 unfolding houseOperator
 housePath h =
     record {
-      declaration = record { kind = Kind.Smooth; interval = h .interval; quota = h .quota };
+      declaration = ofOneRow Kind.Smooth (h .interval .0) (h .quota .0);
       wanted = h .wanted .0;
       operators = listOf (houseOperator h) (h .hops .0 * hopLength h);
     }

@@ -1,4 +1,4 @@
--- Section 5: one field 01, one 02, then 1 to 16 of 03, or one 04 (document 02, item 2); what reading and writing a sheet answer (section 7).
+-- Section 5: one field 01, or 05 in its place (document 02, item 6), one 02, then 1 to 16 of 03, or one 04 (item 2); what reading and writing a sheet answer (section 7).
 use Prim.Native.Nat.{ℕ, zero, suc, _+_, _-_}
 use mathlib.Core.Bool.{Bool, true, not}
 use mathlib.Core.List.{List, [], _∷_, _++_}
@@ -9,8 +9,9 @@ use Rattle.quantity.specs.Lent.{writtenOver}
 use Rattle.quantity.specs.Limits.{mostOperators}
 use Rattle.quantity.specs.Ranges.{inRange, wantedDelayRange}
 use Rattle.quantity.specs.Refusals.{Case, _⇒_, firstOf}
-use Rattle.quantity.specs.declared.refusal.Refusal.the-variants.{Unusable, HeaderCutOff, FieldUnexpected, OutOfRange}
-use Rattle.flow.specs.Declarations.{declarationInRange}
+use Rattle.quantity.specs.declared.refusal.Refusal.the-variants.{Unusable, HeaderCutOff, FieldUnexpected, OutOfRange, RowsOutOfOrder}
+use Rattle.flow.specs.Declarations.{declarationInRange, rowsInOrder}
+use Rattle.flow.specs.declared.Declaration.{Declaration}
 use Rattle.sheet.specs.declared.LinkedOperator.{LinkedOperator}
 use Rattle.sheet.specs.declared.PathValue.{PathValue}
 use Rattle.sheet.specs.declared.read.Verdict.{Verdict}
@@ -18,21 +19,46 @@ use Rattle.sheet.specs.declared.read.ReadSheet.{ReadSheet}
 use Rattle.sheet.specs.declared.write.Written.{Written}
 use Rattle.sheet.specs.declared.House.{House}
 use Rattle.sheet.specs.declared.Form.{Form}
+use Rattle.sheet.specs.Numbers.{valueOfBytes}
 use Rattle.sheet.specs.Paths.{Path}
 use Rattle.sheet.specs.House.{houseIn, houseBody, houseInRange}
 use Rattle.sheet.specs.Forms.{standsFor, valueOfPath, houseValue, noPath}
-use Rattle.sheet.specs.Bodies.{declarationIn, wantedIn, operatorIn, operatorInRange, declarationBody, wantedBody, operatorBody}
-use Rattle.sheet.specs.Fields.{declarationFormat, wantedFormat, operatorFormat, houseFormat, fieldOf, bodyAt, headerCutOff, fieldCases}
+use Rattle.sheet.specs.Bodies.{part, declarationIn, rowsIn, wantedIn, operatorIn, operatorInRange, declarationTag, declarationBody, wantedBody, operatorBody}
+use Rattle.sheet.specs.Fields.{Format, declarationFormat, rowsFormat, wantedFormat, operatorFormat, houseFormat, fieldOf, bodyAt, headerCutOff, fieldCases}
 
--- where the fields begin: 01 at the sheet's start, 02 behind its 10 bytes, the first 03 behind 7 more, each next one 9 bytes on
+-- the declaration begins at the sheet's start
 abbrev pub declarationAt : ℕ
 declarationAt = 0
 
-abbrev pub wantedAt : ℕ
-wantedAt = 10
+-- with the tag 05 it has rows: by the length of its body four, three or two; a body of another length is refused
+unfoldable pub inRowsForm : List ℕ → Bool
+inRowsForm sheet = eqb (getD sheet declarationAt 0) 0x05
 
-abbrev pub operatorsAt : ℕ
-operatorsAt = 17
+unfoldable pub rowsGiven : List ℕ → ℕ
+rowsGiven sheet = let width = valueOfBytes (part (declarationAt + 1) 2 sheet) in pick (eqb width (rowsFormat 4 .width)) 4 (pick (eqb width (rowsFormat 3 .width)) 3 2)
+
+unfoldable pub firstFormat : List ℕ → Format
+firstFormat sheet = pick (inRowsForm sheet) (rowsFormat (rowsGiven sheet)) declarationFormat
+
+unfoldable pub declaredIn : List ℕ → Declaration
+declaredIn sheet =
+    pick (inRowsForm sheet)
+    (rowsIn (rowsGiven sheet) (bodyAt sheet declarationAt (rowsFormat (rowsGiven sheet) .width)))
+    (declarationIn (bodyAt sheet declarationAt (declarationFormat .width)))
+
+-- it goes through 2, 3, 4 and 5, then 15
+unfoldable pub declarationCases : List ℕ → List Case
+declarationCases sheet = fieldCases sheet declarationAt (firstFormat sheet) ++ ((not (rowsInOrder (declaredIn sheet)) ⇒ RowsOutOfOrder declarationAt) ∷ [])
+
+-- the field 02 stands behind it, the first 03 behind the 7 bytes of that, and each next one 9 bytes on
+unfoldable pub wantedAt : List ℕ → ℕ
+wantedAt sheet = declarationAt + 3 + firstFormat sheet .width
+
+abbrev pub wantedLength : ℕ
+wantedLength = 7
+
+abbrev pub operatorsAt : List ℕ → ℕ
+operatorsAt sheet = wantedAt sheet + wantedLength
 
 abbrev pub operatorLength : ℕ
 operatorLength = 9
@@ -42,13 +68,13 @@ unfoldable pub furtherCases : ℕ → ℕ → List ℕ → List Case
 furtherCases zero at sheet = pick (eqb at (length sheet)) [] ((headerCutOff sheet at ⇒ HeaderCutOff at) ∷ (true ⇒ FieldUnexpected at) ∷ [])
 furtherCases (suc more) at sheet = pick (eqb at (length sheet)) [] (fieldCases sheet at operatorFormat ++ furtherCases more (at + operatorLength) sheet)
 
--- fields 01 and 02, and the operators
+-- the declaration, the field 02, and the operators
 abbrev pub fieldsCases : List ℕ → List Case
 fieldsCases sheet =
-    fieldCases sheet declarationAt declarationFormat
-    ++ fieldCases sheet wantedAt wantedFormat
-    ++ fieldCases sheet operatorsAt operatorFormat
-    ++ furtherCases (mostOperators - 1) (operatorsAt + operatorLength) sheet
+    declarationCases sheet
+    ++ fieldCases sheet (wantedAt sheet) wantedFormat
+    ++ fieldCases sheet (operatorsAt sheet) operatorFormat
+    ++ furtherCases (mostOperators - 1) (operatorsAt sheet + operatorLength) sheet
 
 -- one field 04 begins at the sheet's start and is 25 bytes long; what begins behind it is refused as behind the sixteenth operator
 abbrev pub houseAt : ℕ
@@ -73,13 +99,13 @@ unfoldable pub operatorsFrom : ℕ → ℕ → List ℕ → List LinkedOperator
 operatorsFrom zero at sheet = []
 operatorsFrom (suc more) at sheet = pick (leb (length sheet) at) [] (operatorIn (bodyAt sheet at (operatorFormat .width)) ∷ operatorsFrom more (at + operatorLength) sheet)
 
--- the path of a sheet of fields 01, 02 and 03 that is not refused
+-- the path of a sheet written out in fields that is not refused
 unfoldable pub fieldsPath : List ℕ → Path
 fieldsPath sheet =
     record {
-      declaration = declarationIn (bodyAt sheet declarationAt (declarationFormat .width));
-      wanted = wantedIn (bodyAt sheet wantedAt (wantedFormat .width));
-      operators = operatorsFrom mostOperators operatorsAt sheet;
+      declaration = declaredIn sheet;
+      wanted = wantedIn (bodyAt sheet (wantedAt sheet) (wantedFormat .width));
+      operators = operatorsFrom mostOperators (operatorsAt sheet) sheet;
     }
 
 -- the value of the path of a sheet that is not refused
@@ -93,7 +119,7 @@ pathIn sheet = standsFor (valueIn sheet)
 unfoldable pub refusedRead : Rattle.quantity.specs.declared.refusal.Refusal.Refusal → ReadSheet
 refusedRead why = record { verdict = Verdict.Refused why; path = noPath }
 
--- what reading a sheet of fields 01, 02 and 03 answers, and one of a field 04
+-- what reading a sheet written out in fields answers, and one of a field 04
 unfoldable pub readFields : List ℕ → ReadSheet
 unfolding refusedRead
 readFields sheet = firstOf (fieldsCases sheet) refusedRead (record { verdict = Verdict.Accepted; path = valueOfPath Form.Fields (fieldsPath sheet) })
@@ -115,7 +141,7 @@ operatorFields (linked ∷ operators) = fieldOf (operatorFormat .tag) (operatorB
 unfoldable pub sheetOf : Path → List ℕ
 unfolding operatorFields
 sheetOf path =
-    fieldOf (declarationFormat .tag) (declarationBody (path .declaration))
+    fieldOf (declarationTag (path .declaration)) (declarationBody (path .declaration))
     ++ fieldOf (wantedFormat .tag) (wantedBody (path .wanted))
     ++ operatorFields (path .operators)
 
@@ -123,10 +149,14 @@ unfoldable pub operatorsInRange : List LinkedOperator → Bool
 operatorsInRange [] = true
 operatorsInRange (linked ∷ operators) = both (operatorInRange linked) (operatorsInRange operators)
 
--- every number of the path is in its range
-unfoldable pub pathInRange : Path → Bool
+-- every number of the path behind its declaration is in its range, and with it every number
+unfoldable pub restInRange : Path → Bool
 unfolding operatorsInRange
-pathInRange path = both (declarationInRange (path .declaration)) (both (inRange wantedDelayRange (path .wanted)) (operatorsInRange (path .operators)))
+restInRange path = both (inRange wantedDelayRange (path .wanted)) (operatorsInRange (path .operators))
+
+unfoldable pub pathInRange : Path → Bool
+unfolding restInRange
+pathInRange path = both (declarationInRange (path .declaration)) (restInRange path)
 
 -- the sheet of a path value: in the house form the field of its nine numbers
 sheetIn : Form → Path → List ℕ
@@ -137,11 +167,14 @@ unfoldable pub sheetOfValue : PathValue → List ℕ
 unfolding sheetIn
 sheetOfValue value = sheetIn (value .form) (standsFor value)
 
--- 3: a path written out has 0 or over 16 operators; 5: a number is out of its range
+-- 3: a path written out has 0 or over 16 operators; then field by field: 5, a number of the declaration is out of its range, and 15, its rows do not rise;
+-- 5 of what is behind it
 formCases : Form → PathValue → List Case
 formCases Form.Fields value =
     (either (eqb (value .count) 0) (ltb mostOperators (value .count)) ⇒ FieldUnexpected 0)
-    ∷ (not (pathInRange (standsFor value)) ⇒ OutOfRange 0)
+    ∷ (not (declarationInRange (standsFor value .declaration)) ⇒ OutOfRange 0)
+    ∷ (not (rowsInOrder (standsFor value .declaration)) ⇒ RowsOutOfOrder 0)
+    ∷ (not (restInRange (standsFor value)) ⇒ OutOfRange 0)
     ∷ []
 formCases (Form.House h) value = (not (houseInRange h) ⇒ OutOfRange 0) ∷ []
 

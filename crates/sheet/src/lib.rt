@@ -21,7 +21,7 @@ mod profile;
 pub mod read;
 pub mod write;
 
-// Section 5: a field's first bytes are its tag and its body's length; where the fields begin, their tags and their bodies' lengths.
+// Section 5: a field's first bytes are its tag and its body's length; where the first field begins, the tags and the bodies' lengths.
 const HEADER: usize = 3;
 
 const DECLARATION_AT: usize = 0;
@@ -30,13 +30,14 @@ const DECLARATION_TAG: u8 = 0x01;
 
 const DECLARATION_WIDTH: usize = 7;
 
-const WANTED_AT: usize = 10;
+// Document 02, item 6: 05 stands in place of 01, with a body of so many bytes for each row.
+const ROWS_TAG: u8 = 0x05;
+
+const ROW_WIDTH: usize = 6;
 
 const WANTED_TAG: u8 = 0x02;
 
 const WANTED_WIDTH: usize = 4;
-
-const OPERATORS_AT: usize = 17;
 
 const OPERATOR_TAG: u8 = 0x03;
 
@@ -76,7 +77,7 @@ impl House {
     }
 }
 
-// A path is written out in fields 01, 02 and 03, or it is a house profile.
+// A path is written out in fields 01 or 05, 02 and 03, or it is a house profile.
 pub enum Form {
     Fields,
     House(House),
@@ -101,15 +102,18 @@ fn no_linked_operator() -> LinkedOperator
     }
 }
 
+// The declaration of the empty path.
+fn no_declaration() -> Declaration
+    ensures { λ r. ⌜ r ≡ noPath .declaration ⌝ }
+{
+    Declaration::of_one_row(Kind::Smooth, Interval(0), Quota(0))
+}
+
 // The empty path, which is handed back beside a refusal.
 pub fn no_path() -> PathValue
     ensures { λ r. ⌜ r ≡ noPath ⌝ }
 {
-    let declaration = Declaration {
-        kind: Kind::Smooth,
-        interval: Interval(0),
-        quota: Quota(0),
-    };
+    let declaration = no_declaration();
     let linked = no_linked_operator();
     let operators = [linked; 16];
     PathValue {

@@ -231,11 +231,7 @@ pub(crate) fn path_of(house: House) -> PathValue
         k += 1;
     }
     let form = Form::House(house);
-    let declaration = Declaration {
-        kind: Kind::Smooth,
-        interval,
-        quota,
-    };
+    let declaration = Declaration::of_one_row(Kind::Smooth, interval, quota);
     PathValue {
         form,
         declaration,

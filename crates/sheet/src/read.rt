@@ -11,17 +11,19 @@ use crate::HOUSE_WIDTH;
 use crate::LinkedOperator;
 use crate::OPERATOR_TAG;
 use crate::OPERATOR_WIDTH;
-use crate::OPERATORS_AT;
 use crate::PathValue;
-use crate::WANTED_AT;
+use crate::ROW_WIDTH;
+use crate::ROWS_TAG;
 use crate::WANTED_TAG;
 use crate::WANTED_WIDTH;
+use crate::no_declaration;
 use crate::no_linked_operator;
 use crate::no_path;
 use crate::profile::ReadHouse;
 use crate::profile::path_of;
 use crate::profile::read_house;
 use flow::Declaration;
+use flow::DeclaredRow;
 use flow::Kind;
 use operator::Operator;
 use quantity::CheckedDelay;
@@ -38,20 +40,22 @@ use quantity::Rate;
 use quantity::WantedDelay;
 use quantity::refusal::Refusal;
 ghost use mathlib.Core.Path.{_≡_};
-ghost use mathlib.Core.Bool.{true, not};
+ghost use mathlib.Core.Bool.{true, false, not};
 ghost use mathlib.Core.List.{_++_};
-ghost use Prim.Native.Nat.{_+_, _-_, _≤_, _<_};
-ghost use lib.ListN.{length, drop, replicate};
+ghost use Prim.Native.Nat.{_+_, _*_, _≤_, _<_, min};
+ghost use lib.ListN.{length, getD};
 ghost use lib.Dec.{leb, eqb};
 ghost use Rattle.quantity.specs.Choice.{pick, both};
+ghost use Rattle.quantity.specs.Rounding.{roundUp};
 ghost use Rattle.quantity.specs.Ranges.{checkedWantedDelay};
 ghost use Rattle.quantity.specs.Refusals.{firstOf};
 ghost use Rattle.operator.specs.Operators.{numberInRange};
+ghost use Rattle.flow.specs.Declarations.{rowOf, rowInRange};
 ghost use Rattle.sheet.specs.Numbers.{valueOfBytes};
-ghost use Rattle.sheet.specs.Paths.{noLinkedOperator};
-ghost use Rattle.sheet.specs.Bodies.{part, declarationIn, declarationFits, wantedIn, operatorOf, operatorIn, operatorFits};
-ghost use Rattle.sheet.specs.Fields.{fieldUnexpected, fieldCases, declarationFormat, wantedFormat};
-ghost use Rattle.sheet.specs.Sheets.{declarationAt, wantedAt, inHouseForm, furtherCases, fieldsPath, refusedRead, readFields, readHouse, readSheet};
+ghost use Rattle.sheet.specs.Forms.{valueOfPath, noPath};
+ghost use Rattle.sheet.specs.Bodies.{part, declarationIn, declarationFits, rowIn, rowsIn, rowsFit, wantedIn, operatorOf, operatorIn, operatorFits};
+ghost use Rattle.sheet.specs.Fields.{fieldUnexpected, fieldCases, wantedFormat, operatorFormat};
+ghost use Rattle.sheet.specs.Sheets.{inRowsForm, rowsGiven, declaredIn, declarationCases, wantedAt, operatorsAt, furtherCases, operatorsFrom, fieldsPath, refusedRead, readFields, readHouse, readSheet};
 
 // What reading a sheet answers. Beside a refusal the path is the empty one.
 pub enum Verdict {
@@ -70,20 +74,29 @@ enum Due {
     Refused(Refusal),
 }
 
-// What a sheet says before its operators.
-struct Head {
+// What the first field declares, and the byte behind it. Beside a refusal all is empty.
+struct ReadFirst {
+    due: Due,
+    declaration: Declaration,
+    end: usize,
+}
+
+// What a sheet says before its operators, and where these begin. Beside a refusal all is empty.
+struct ReadHead {
+    due: Due,
     declaration: Declaration,
     wanted: WantedDelay,
+    end: usize,
 }
 
-enum ReadHead {
-    Fits(Head),
-    Refused(Refusal),
+// What the readers of the bodies answer. Beside numbers out of range the declaration is the empty one.
+struct ReadDeclaration {
+    fits: bool,
+    declaration: Declaration,
 }
 
-// What the readers of the bodies answer.
-enum ReadDeclaration {
-    Fits(Declaration),
+enum ReadRow {
+    Fits(DeclaredRow),
     OutOfRange,
 }
 
@@ -170,25 +183,69 @@ fn kind_of(byte: u8) -> Kind
     }
 }
 
+fn out_of_range() -> ReadDeclaration
+    ensures { λ r. ⌜ r ≡ record { fits = false; declaration = noPath .declaration } ⌝ }
+{
+    ReadDeclaration {
+        fits: false,
+        declaration: no_declaration(),
+    }
+}
+
 fn read_declaration(body: &[u8]) -> ReadDeclaration
     requires { ⌜ length (now body) ≡ 7 ⌝ }
-    ensures { λ r. ⌜ r ≡ pick (declarationFits (now (body .entry))) (ReadDeclaration.Fits (declarationIn (now (body .entry)))) ReadDeclaration.OutOfRange ⌝ }
+    ensures { λ r. ⌜ r ≡ pick (declarationFits (now (body .entry))) (record { fits = true; declaration = declarationIn (now (body .entry)) }) (record { fits = false; declaration = noPath .declaration }) ⌝ }
 {
     let kind = body[0];
     if 1 < kind {
-        return ReadDeclaration::OutOfRange;
+        return out_of_range();
     }
     let CheckedInterval::InRange(interval) = Interval::checked(number_at(body, 1, 2)) else {
-        return ReadDeclaration::OutOfRange;
+        return out_of_range();
     };
     let CheckedQuota::InRange(quota) = Quota::checked(number_at(body, 3, 4)) else {
-        return ReadDeclaration::OutOfRange;
+        return out_of_range();
     };
-    ReadDeclaration::Fits(Declaration {
-        kind: kind_of(kind),
-        interval,
-        quota,
-    })
+    ReadDeclaration {
+        fits: true,
+        declaration: Declaration::of_one_row(kind_of(kind), interval, quota),
+    }
+}
+
+// Row i of a body.
+fn read_row(body: &[u8], i: usize) -> ReadRow
+    requires { ⌜ (i ≤ 3) × (i * 6 + 6 ≤ length (now body)) ⌝ }
+    ensures { λ r. ⌜ r ≡ pick (rowInRange (rowOf (rowIn (now (body .entry)) i))) (ReadRow.Fits (rowIn (now (body .entry)) i)) ReadRow.OutOfRange ⌝ }
+{
+    let at = i * ROW_WIDTH;
+    let CheckedInterval::InRange(interval) = Interval::checked(number_at(body, at, 2)) else {
+        return ReadRow::OutOfRange;
+    };
+    let CheckedQuota::InRange(quota) = Quota::checked(number_at(body, at + 2, 4)) else {
+        return ReadRow::OutOfRange;
+    };
+    ReadRow::Fits(DeclaredRow { interval, quota })
+}
+
+// So many rows; behind them the declaration's rows are empty.
+fn read_rows(body: &[u8], count: usize) -> ReadDeclaration
+    requires { ⌜ (2 ≤ count) × (count ≤ 4) × (length (now body) ≡ count * 6) ⌝ }
+    ensures { λ r. ⌜ r ≡ pick (rowsFit count (now (body .entry))) (record { fits = true; declaration = rowsIn count (now (body .entry)) }) (record { fits = false; declaration = noPath .declaration }) ⌝ }
+{
+    let empty = no_declaration();
+    let mut rows = empty.rows;
+    let mut k = 0;
+    while k < count {
+        let ReadRow::Fits(row) = read_row(body, k) else {
+            return out_of_range();
+        };
+        rows[k] = row;
+        k += 1;
+    }
+    ReadDeclaration {
+        fits: true,
+        declaration: Declaration::of_rows(count, rows),
+    }
 }
 
 fn read_wanted(body: &[u8]) -> CheckedWantedDelay
@@ -247,30 +304,139 @@ fn read_linked(body: &[u8]) -> ReadLinked
     ReadLinked::Fits(LinkedOperator { operator, link })
 }
 
-// The first two fields.
-fn read_head(sheet: &[u8]) -> ReadHead
-    ensures { λ r. ⌜ r ≡ firstOf (fieldCases (now (sheet .entry)) declarationAt declarationFormat ++ fieldCases (now (sheet .entry)) wantedAt wantedFormat) ReadHead.Refused (ReadHead.Fits (record { declaration = fieldsPath (now (sheet .entry)) .declaration; wanted = record { 0 = fieldsPath (now (sheet .entry)) .wanted } })) ⌝ }
+// The tag of the first field; a sheet of no byte has none, which 0 stands for.
+fn first_tag(sheet: &[u8]) -> u8
+    ensures { λ r. ⌜ r ≡ getD (now (sheet .entry)) 0 0 ⌝ }
+{
+    if sheet.len() == 0 {
+        return 0;
+    }
+    sheet[0]
+}
+
+fn first_refused(why: Refusal) -> ReadFirst
+    ensures { λ r. ⌜ r ≡ record { due = Due.Refused why; declaration = noPath .declaration; end = 0 } ⌝ }
+{
+    ReadFirst {
+        due: Due::Refused(why),
+        declaration: no_declaration(),
+        end: 0,
+    }
+}
+
+// A field 01.
+fn read_one_row(sheet: &[u8]) -> ReadFirst
+    requires { ⌜ inRowsForm (now sheet) ≡ false ⌝ }
+    ensures { λ r. ⌜ r ≡ firstOf (declarationCases (now (sheet .entry))) (λ why. record { due = Due.Refused why; declaration = noPath .declaration; end = 0 }) (record { due = Due.Whole; declaration = declaredIn (now (sheet .entry)); end = wantedAt (now (sheet .entry)) }) ⌝ }
 {
     if let Due::Refused(why) = field_at(sheet, DECLARATION_AT, DECLARATION_TAG, DECLARATION_WIDTH) {
-        return ReadHead::Refused(why);
+        return first_refused(why);
     }
     let start = DECLARATION_AT + HEADER;
     let end = start + DECLARATION_WIDTH;
-    let ReadDeclaration::Fits(declaration) = read_declaration(&sheet[start..end]) else {
-        return ReadHead::Refused(Refusal::OutOfRange(DECLARATION_AT));
-    };
-    if let Due::Refused(why) = field_at(sheet, WANTED_AT, WANTED_TAG, WANTED_WIDTH) {
-        return ReadHead::Refused(why);
+    let read = read_declaration(&sheet[start..end]);
+    if !read.fits {
+        return first_refused(Refusal::OutOfRange(DECLARATION_AT));
     }
-    let start = WANTED_AT + HEADER;
+    let declaration = read.declaration;
+    ReadFirst {
+        due: Due::Whole,
+        declaration,
+        end,
+    }
+}
+
+// How many rows the body of a field 05 has: by its length four, three or two. A body of another length is refused.
+fn rows_given(sheet: &[u8]) -> usize
+    requires { ⌜ 3 ≤ length (now sheet) ⌝ }
+    ensures { λ r. ⌜ r ≡ rowsGiven (now (sheet .entry)) ⌝ }
+{
+    let width = number_at(sheet, DECLARATION_AT + 1, 2) as usize;
+    if width == 4 * ROW_WIDTH {
+        return 4;
+    }
+    if width == 3 * ROW_WIDTH {
+        return 3;
+    }
+    2
+}
+
+// A field 05. Its rows are in order too (15).
+fn read_several_rows(sheet: &[u8]) -> ReadFirst
+    requires { ⌜ inRowsForm (now sheet) ≡ true ⌝ }
+    ensures { λ r. ⌜ r ≡ firstOf (declarationCases (now (sheet .entry))) (λ why. record { due = Due.Refused why; declaration = noPath .declaration; end = 0 }) (record { due = Due.Whole; declaration = declaredIn (now (sheet .entry)); end = wantedAt (now (sheet .entry)) }) ⌝ }
+{
+    if sheet.len() < HEADER {
+        return first_refused(Refusal::HeaderCutOff(DECLARATION_AT));
+    }
+    let count = rows_given(sheet);
+    let width = count * ROW_WIDTH;
+    if let Due::Refused(why) = field_at(sheet, DECLARATION_AT, ROWS_TAG, width) {
+        return first_refused(why);
+    }
+    let start = DECLARATION_AT + HEADER;
+    let end = start + width;
+    let read = read_rows(&sheet[start..end], count);
+    if !read.fits {
+        return first_refused(Refusal::OutOfRange(DECLARATION_AT));
+    }
+    let declaration = read.declaration;
+    if !declaration.in_order() {
+        return first_refused(Refusal::RowsOutOfOrder(DECLARATION_AT));
+    }
+    ReadFirst {
+        due: Due::Whole,
+        declaration,
+        end,
+    }
+}
+
+// The declaration, in either field.
+fn read_first(sheet: &[u8]) -> ReadFirst
+    ensures { λ r. ⌜ r ≡ firstOf (declarationCases (now (sheet .entry))) (λ why. record { due = Due.Refused why; declaration = noPath .declaration; end = 0 }) (record { due = Due.Whole; declaration = declaredIn (now (sheet .entry)); end = wantedAt (now (sheet .entry)) }) ⌝ }
+{
+    if first_tag(sheet) == ROWS_TAG {
+        return read_several_rows(sheet);
+    }
+    read_one_row(sheet)
+}
+
+fn head_refused(why: Refusal) -> ReadHead
+    ensures { λ r. ⌜ r ≡ record { due = Due.Refused why; declaration = noPath .declaration; wanted = noPath .wanted; end = 0 } ⌝ }
+{
+    ReadHead {
+        due: Due::Refused(why),
+        declaration: no_declaration(),
+        wanted: WantedDelay(0),
+        end: 0,
+    }
+}
+
+// The first two fields.
+fn read_head(sheet: &[u8]) -> ReadHead
+    ensures { λ r. ⌜ r ≡ firstOf (declarationCases (now (sheet .entry)) ++ fieldCases (now (sheet .entry)) (wantedAt (now (sheet .entry))) wantedFormat) (λ why. record { due = Due.Refused why; declaration = noPath .declaration; wanted = noPath .wanted; end = 0 }) (record { due = Due.Whole; declaration = fieldsPath (now (sheet .entry)) .declaration; wanted = record { 0 = fieldsPath (now (sheet .entry)) .wanted }; end = operatorsAt (now (sheet .entry)) }) ⌝ }
+{
+    let first = read_first(sheet);
+    let due = first.due;
+    if let Due::Refused(why) = due {
+        return head_refused(why);
+    }
+    let at = first.end;
+    if let Due::Refused(why) = field_at(sheet, at, WANTED_TAG, WANTED_WIDTH) {
+        return head_refused(why);
+    }
+    let start = at + HEADER;
     let end = start + WANTED_WIDTH;
     let CheckedWantedDelay::InRange(wanted) = read_wanted(&sheet[start..end]) else {
-        return ReadHead::Refused(Refusal::OutOfRange(WANTED_AT));
+        return head_refused(Refusal::OutOfRange(at));
     };
-    ReadHead::Fits(Head {
+    let declaration = first.declaration;
+    ReadHead {
+        due: Due::Whole,
         declaration,
         wanted,
-    })
+        end,
+    }
 }
 
 // Behind the last operator the sheet ends, or a seventeenth begins, which is refused (section 7, 2 and 3).
@@ -288,67 +454,24 @@ fn ended(sheet: &[u8], at: usize) -> Due
     Due::Refused(Refusal::FieldUnexpected(at))
 }
 
-// A refusal with the empty path: the first `count` operators are emptied again, so that every answer is a copy of the same array.
-fn refused(why: Refusal, stored: [LinkedOperator; 16], count: usize) -> ReadSheet
-    requires { ⌜ (count ≤ 16) × (drop count stored ≡ replicate (16 - count) noLinkedOperator) ⌝ }
-    ensures { λ r. ⌜ r ≡ refusedRead why ⌝ }
+// How many operators begin in so many bytes, 9 to each; 16 at the most.
+fn operators_begun(bytes: usize) -> usize
+    ensures { λ r. ⌜ r ≡ min (roundUp bytes 9) 16 ⌝ }
 {
-    let none = no_linked_operator();
-    let mut operators = stored;
-    let mut k = 0;
-    while k < count {
-        operators[k] = none;
-        k += 1;
+    if 144 <= bytes {
+        return 16;
     }
-    let empty = no_path();
-    let declaration = empty.declaration;
-    let wanted = empty.wanted;
-    let path = PathValue {
-        form: Form::Fields,
-        declaration,
-        wanted,
-        count: 0,
-        operators,
-    };
-    ReadSheet {
-        verdict: Verdict::Refused(why),
-        path,
-    }
+    (bytes + 8) / 9
 }
 
-// Fields 01, 02 and 03: behind the first two an operator is due, and behind each the sheet may end.
-fn read_fields(sheet: &[u8]) -> ReadSheet
-    ensures { λ r. ⌜ r ≡ readFields (now (sheet .entry)) ⌝ }
+fn accepted(
+    declaration: Declaration,
+    wanted: WantedDelay,
+    count: usize,
+    operators: [LinkedOperator; 16],
+) -> ReadSheet
+    ensures { λ r. ⌜ r ≡ record { verdict = Verdict.Accepted; path = record { form = Form.Fields; declaration = declaration; wanted = wanted; count = count; operators = operators } } ⌝ }
 {
-    let none = no_linked_operator();
-    let mut operators = [none; 16];
-    let mut count = 0;
-    let head = match read_head(sheet) {
-        ReadHead::Refused(why) => return refused(why, operators, count),
-        ReadHead::Fits(head) => head,
-    };
-    let mut at = OPERATORS_AT;
-    loop {
-        if let Due::Refused(why) = field_at(sheet, at, OPERATOR_TAG, OPERATOR_WIDTH) {
-            return refused(why, operators, count);
-        }
-        let start = at + HEADER;
-        let end = start + OPERATOR_WIDTH;
-        let ReadLinked::Fits(linked) = read_linked(&sheet[start..end]) else {
-            return refused(Refusal::OutOfRange(at), operators, count);
-        };
-        operators[count] = linked;
-        count += 1;
-        at = end;
-        if count == 16 || at == sheet.len() {
-            break;
-        }
-    }
-    if let Due::Refused(why) = ended(sheet, at) {
-        return refused(why, operators, count);
-    }
-    let declaration = head.declaration;
-    let wanted = head.wanted;
     let path = PathValue {
         form: Form::Fields,
         declaration,
@@ -360,6 +483,57 @@ fn read_fields(sheet: &[u8]) -> ReadSheet
         verdict: Verdict::Accepted,
         path,
     }
+}
+
+// The operators from a byte on: one is due, and behind each the sheet may end. How many begin is counted first, so that a turn has one test less.
+fn read_operators(
+    sheet: &[u8],
+    from: usize,
+    declaration: Declaration,
+    wanted: WantedDelay,
+) -> ReadSheet
+    requires { ⌜ (from ≤ 34) × (from ≤ length (now sheet)) ⌝ }
+    ensures { λ r. ⌜ r ≡ firstOf (fieldCases (now (sheet .entry)) from operatorFormat ++ furtherCases 15 (from + 9) (now (sheet .entry))) refusedRead (record { verdict = Verdict.Accepted; path = valueOfPath Form.Fields (record { declaration = declaration; wanted = wanted .0; operators = operatorsFrom 16 from (now (sheet .entry)) }) }) ⌝ }
+{
+    let none = no_linked_operator();
+    let mut operators = [none; 16];
+    let mut count = 0;
+    let mut at = from;
+    let begun = operators_begun(sheet.len() - from);
+    loop {
+        if let Due::Refused(why) = field_at(sheet, at, OPERATOR_TAG, OPERATOR_WIDTH) {
+            return without_path(why);
+        }
+        let start = at + HEADER;
+        let end = start + OPERATOR_WIDTH;
+        let ReadLinked::Fits(linked) = read_linked(&sheet[start..end]) else {
+            return without_path(Refusal::OutOfRange(at));
+        };
+        operators[count] = linked;
+        count += 1;
+        at = end;
+        if count == begun {
+            break;
+        }
+    }
+    if let Due::Refused(why) = ended(sheet, at) {
+        return without_path(why);
+    }
+    accepted(declaration, wanted, count, operators)
+}
+
+// Fields 01 or 05, 02 and 03.
+fn read_fields(sheet: &[u8]) -> ReadSheet
+    ensures { λ r. ⌜ r ≡ readFields (now (sheet .entry)) ⌝ }
+{
+    let head = read_head(sheet);
+    let due = head.due;
+    if let Due::Refused(why) = due {
+        return without_path(why);
+    }
+    let declaration = head.declaration;
+    let wanted = head.wanted;
+    read_operators(sheet, head.end, declaration, wanted)
 }
 
 // One field 04, and behind it the sheet ends.
@@ -392,20 +566,10 @@ fn without_path(why: Refusal) -> ReadSheet
     }
 }
 
-// Whether a sheet begins with the tag 04.
-fn in_house_form(sheet: &[u8]) -> bool
-    ensures { λ r. ⌜ r ≡ inHouseForm (now (sheet .entry)) ⌝ }
-{
-    if sheet.len() == 0 {
-        return false;
-    }
-    sheet[HOUSE_AT] == HOUSE_TAG
-}
-
 pub fn read(sheet: &[u8]) -> ReadSheet
     ensures { λ r. ⌜ r ≡ readSheet (now (sheet .entry)) ⌝ }
 {
-    if in_house_form(sheet) {
+    if first_tag(sheet) == HOUSE_TAG {
         return read_profile(sheet);
     }
     read_fields(sheet)

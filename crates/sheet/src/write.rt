@@ -10,31 +10,31 @@ use crate::House;
 use crate::LinkedOperator;
 use crate::OPERATOR_TAG;
 use crate::OPERATOR_WIDTH;
-use crate::OPERATORS_AT;
 use crate::PathValue;
-use crate::WANTED_AT;
+use crate::ROW_WIDTH;
+use crate::ROWS_TAG;
 use crate::WANTED_TAG;
 use crate::WANTED_WIDTH;
 use crate::profile::in_range;
 use crate::profile::write_house;
 use flow::Declaration;
+use flow::DeclaredRow;
 use flow::Kind;
 use operator::Operator;
 use quantity::WantedDelay;
 use quantity::refusal::Refusal;
 ghost use mathlib.Core.Path.{_≡_};
 ghost use mathlib.Core.Bool.{true};
-ghost use mathlib.Core.List.{_∷_};
+ghost use mathlib.Core.List.{_∷_, _++_};
 ghost use Prim.Native.Nat.{_+_, _≤_};
 ghost use lib.ListN.{length, take};
 ghost use lib.Seq.{sets};
-ghost use Rattle.quantity.specs.Choice.{pick, both};
-ghost use Rattle.quantity.specs.Ranges.{inRange, wantedDelayRange};
+ghost use Rattle.quantity.specs.Choice.{pick};
 ghost use Rattle.flow.specs.Declarations.{declarationInRange};
 ghost use Rattle.sheet.specs.Numbers.{bytesOf};
-ghost use Rattle.sheet.specs.Bodies.{kindByte, declarationBody, wantedBody, operatorBody, operatorInRange};
+ghost use Rattle.sheet.specs.Bodies.{rowBodies, pairBody, declarationTag, declarationBody, wantedBody, operatorBody, operatorInRange};
 ghost use Rattle.sheet.specs.Fields.{fieldOf};
-ghost use Rattle.sheet.specs.Sheets.{declarationAt, wantedAt, operatorsAt, operatorFields, operatorsInRange, writeAnswer, bytesWritten};
+ghost use Rattle.sheet.specs.Sheets.{declarationAt, operatorFields, operatorsInRange, writeAnswer, bytesWritten};
 
 // What writing a sheet answers: the sheet's length.
 pub enum Written {
@@ -46,12 +46,6 @@ pub enum Written {
 enum WrittenOperators {
     End(usize),
     OutOfRange,
-}
-
-fn head_in_range(declaration: Declaration, wanted: WantedDelay) -> bool
-    ensures { λ r. ⌜ r ≡ both (declarationInRange declaration) (inRange wantedDelayRange (wanted .0)) ⌝ }
-{
-    declaration.in_range() && wanted.in_range()
 }
 
 // A number in `width` bytes from `at` on, the high byte first: written from the low byte, which is what is left of it modulo 256.
@@ -76,18 +70,10 @@ pub(crate) fn write_header(sheet: &mut [u8], at: usize, tag: u8, width: u32)
     write_number(sheet, at + 1, 2, width);
 }
 
-fn kind_byte(kind: Kind) -> u8
-    ensures { λ r. ⌜ r ≡ kindByte kind ⌝ }
-{
-    match kind {
-        Kind::Smooth => 0,
-        Kind::Uniform => 1,
-    }
-}
-
-fn write_declaration(sheet: &mut [u8], declaration: Declaration)
+// A field 01.
+fn write_one_row(sheet: &mut [u8], kind: u8, declaration: Declaration)
     requires { ⌜ 10 ≤ length (now sheet) ⌝ }
-    ensures { λ r. ⌜ now (sheet .exit) ≡ sets (now (sheet .entry)) declarationAt (fieldOf 0x01 (declarationBody declaration)) ⌝ }
+    ensures { λ r. ⌜ now (sheet .exit) ≡ sets (now (sheet .entry)) declarationAt (fieldOf 0x01 (pairBody kind declaration)) ⌝ }
 {
     write_header(
         sheet,
@@ -95,20 +81,72 @@ fn write_declaration(sheet: &mut [u8], declaration: Declaration)
         DECLARATION_TAG,
         DECLARATION_WIDTH as u32,
     );
-    let kind = declaration.kind;
     let interval = declaration.interval;
     let quota = declaration.quota;
-    sheet[3] = kind_byte(kind);
+    sheet[3] = kind;
     write_number(sheet, 4, 2, interval.0);
     write_number(sheet, 6, 4, quota.0);
 }
 
-fn write_wanted(sheet: &mut [u8], wanted: WantedDelay)
-    requires { ⌜ 17 ≤ length (now sheet) ⌝ }
-    ensures { λ r. ⌜ now (sheet .exit) ≡ sets (now (sheet .entry)) wantedAt (fieldOf 0x02 (wantedBody (wanted .0))) ⌝ }
+fn write_row(sheet: &mut [u8], at: usize, row: DeclaredRow)
+    requires { ⌜ at + 6 ≤ length (now sheet) ⌝ }
+    ensures { λ r. ⌜ now (sheet .exit) ≡ sets (now (sheet .entry)) at (bytesOf 2 (row .interval .0) ++ bytesOf 4 (row .quota .0)) ⌝ }
 {
-    write_header(sheet, WANTED_AT, WANTED_TAG, WANTED_WIDTH as u32);
-    write_number(sheet, WANTED_AT + HEADER, WANTED_WIDTH, wanted.0);
+    let interval = row.interval;
+    let quota = row.quota;
+    write_number(sheet, at, 2, interval.0);
+    write_number(sheet, at + 2, 4, quota.0);
+}
+
+// A field 05.
+fn write_rows(sheet: &mut [u8], declaration: Declaration)
+    requires { ⌜ (declaration .count ≤ 4) × (27 ≤ length (now sheet)) ⌝ }
+    ensures { λ r. ⌜ now (sheet .exit) ≡ sets (now (sheet .entry)) declarationAt (fieldOf 0x05 (rowBodies declaration (declaration .count))) ⌝ }
+{
+    let count = declaration.count;
+    let rows = declaration.rows;
+    write_header(sheet, DECLARATION_AT, ROWS_TAG, (count * ROW_WIDTH) as u32);
+    let mut at = DECLARATION_AT + HEADER;
+    let mut k = 0;
+    while k < count {
+        let row = rows[k];
+        write_row(sheet, at, row);
+        at += ROW_WIDTH;
+        k += 1;
+    }
+}
+
+// Where the field behind the declaration's begins.
+fn wanted_at(declaration: Declaration) -> usize
+    requires { ⌜ declarationInRange declaration ≡ true ⌝ }
+    ensures { λ r. ⌜ r ≡ length (fieldOf (declarationTag declaration) (declarationBody declaration)) ⌝ }
+{
+    let kind = declaration.kind;
+    match kind {
+        Kind::Smooth => HEADER + DECLARATION_WIDTH,
+        Kind::Uniform => HEADER + DECLARATION_WIDTH,
+        Kind::Rows => HEADER + declaration.count * ROW_WIDTH,
+    }
+}
+
+fn write_declaration(sheet: &mut [u8], declaration: Declaration)
+    requires { ⌜ (declarationInRange declaration ≡ true) × (27 ≤ length (now sheet)) ⌝ }
+    ensures { λ r. ⌜ now (sheet .exit) ≡ sets (now (sheet .entry)) declarationAt (fieldOf (declarationTag declaration) (declarationBody declaration)) ⌝ }
+{
+    let kind = declaration.kind;
+    match kind {
+        Kind::Smooth => write_one_row(sheet, 0, declaration),
+        Kind::Uniform => write_one_row(sheet, 1, declaration),
+        Kind::Rows => write_rows(sheet, declaration),
+    }
+}
+
+fn write_wanted(sheet: &mut [u8], at: usize, wanted: WantedDelay)
+    requires { ⌜ at + 7 ≤ length (now sheet) ⌝ }
+    ensures { λ r. ⌜ now (sheet .exit) ≡ sets (now (sheet .entry)) at (fieldOf 0x02 (wantedBody (wanted .0))) ⌝ }
+{
+    write_header(sheet, at, WANTED_TAG, WANTED_WIDTH as u32);
+    write_number(sheet, at + HEADER, WANTED_WIDTH, wanted.0);
 }
 
 // The number is written first, so that its bytes become one store.
@@ -137,14 +175,15 @@ fn write_linked(sheet: &mut [u8], at: usize, linked: LinkedOperator)
     }
 }
 
-// The operators, one behind the other, where all are in range. Both loops are here, since each function has its own copy of them.
+// The operators from a byte on, one behind the other, where all are in range. Both loops are here, since each function has its own copy of them.
 fn write_operators(
     sheet: &mut [u8],
+    from: usize,
     operators: [LinkedOperator; 16],
     count: usize,
 ) -> WrittenOperators
-    requires { ⌜ (count ≤ 16) × (length (now sheet) ≡ 256) ⌝ }
-    ensures { λ r. ⌜ (r ≡ pick (operatorsInRange (take count operators)) (WrittenOperators.End (operatorsAt + length (operatorFields (take count operators)))) WrittenOperators.OutOfRange) × (now (sheet .exit) ≡ pick (operatorsInRange (take count operators)) (sets (now (sheet .entry)) operatorsAt (operatorFields (take count operators))) (now (sheet .entry))) ⌝ }
+    requires { ⌜ (count ≤ 16) × (from ≤ 34) × (length (now sheet) ≡ 256) ⌝ }
+    ensures { λ r. ⌜ (r ≡ pick (operatorsInRange (take count operators)) (WrittenOperators.End (from + length (operatorFields (take count operators)))) WrittenOperators.OutOfRange) × (now (sheet .exit) ≡ pick (operatorsInRange (take count operators)) (sets (now (sheet .entry)) from (operatorFields (take count operators))) (now (sheet .entry))) ⌝ }
 {
     let mut k = 0;
     while k < count {
@@ -154,7 +193,7 @@ fn write_operators(
         }
         k += 1;
     }
-    let mut at = OPERATORS_AT;
+    let mut at = from;
     let mut written = 0;
     while written < count {
         let linked = operators[written];
@@ -165,7 +204,7 @@ fn write_operators(
     WrittenOperators::End(at)
 }
 
-// Fields 01, 02 and 03.
+// Fields 01 or 05, 02 and 03. All are tested before the first byte is written.
 fn write_fields(path: PathValue, sheet: &mut [u8]) -> Written
     requires { ⌜ (length (now sheet) ≡ 256) × (path .form ≡ Form.Fields) ⌝ }
     ensures { λ r. ⌜ (r ≡ writeAnswer path (now (sheet .entry))) × (now (sheet .exit) ≡ bytesWritten path (now (sheet .entry))) ⌝ }
@@ -177,14 +216,22 @@ fn write_fields(path: PathValue, sheet: &mut [u8]) -> Written
     let declaration = path.declaration;
     let wanted = path.wanted;
     let operators = path.operators;
-    if !head_in_range(declaration, wanted) {
+    if !declaration.in_range() {
         return Written::Refused(Refusal::OutOfRange(0));
     }
-    let WrittenOperators::End(end) = write_operators(sheet, operators, count) else {
+    if !declaration.in_order() {
+        return Written::Refused(Refusal::RowsOutOfOrder(0));
+    }
+    if !wanted.in_range() {
+        return Written::Refused(Refusal::OutOfRange(0));
+    }
+    let at = wanted_at(declaration);
+    let from = at + HEADER + WANTED_WIDTH;
+    let WrittenOperators::End(end) = write_operators(sheet, from, operators, count) else {
         return Written::Refused(Refusal::OutOfRange(0));
     };
     write_declaration(sheet, declaration);
-    write_wanted(sheet, wanted);
+    write_wanted(sheet, at, wanted);
     Written::Length(end)
 }
 

@@ -8,30 +8,32 @@ use console::words::find;
 pub(crate) const SMOOTH_METER: usize = 5;
 
 pub(crate) const UNIFORM_METER: usize = 6;
+
+pub(crate) const ROWS_METER: usize = 7;
 // To either unit.
-pub(crate) const SET_SLOT: usize = 7;
+pub(crate) const SET_SLOT: usize = 8;
 
-pub(crate) const SET_WORD: usize = 8;
+pub(crate) const SET_WORD: usize = 9;
 
-pub(crate) const WORDS: usize = 9;
+pub(crate) const WORDS: usize = 10;
 
-pub(crate) const STATE: usize = 10;
+pub(crate) const STATE: usize = 11;
 // To an operator.
-pub(crate) const SET_HELD: usize = 11;
+pub(crate) const SET_HELD: usize = 12;
 
-pub(crate) const SET_BESIDE: usize = 12;
+pub(crate) const SET_BESIDE: usize = 13;
 
-pub(crate) const STEP: usize = 13;
+pub(crate) const STEP: usize = 14;
 
-pub(crate) const BOUNDS: usize = 14;
+pub(crate) const BOUNDS: usize = 15;
 // To a meter.
-pub(crate) const SET_BLOCK: usize = 15;
+pub(crate) const SET_BLOCK: usize = 16;
 
-pub(crate) const TAKE: usize = 16;
+pub(crate) const TAKE: usize = 17;
 
-pub(crate) const ROOM: usize = 17;
+pub(crate) const ROOM: usize = 18;
 
-pub(crate) const UNKNOWN: usize = 18;
+pub(crate) const UNKNOWN: usize = 19;
 
 // A command and its numbers; of one, the second is 0.
 pub struct Command {
@@ -43,7 +45,7 @@ pub struct Command {
 // A command with numbers goes on behind its words, one without ends with them.
 pub(crate) fn command_in(line: &[u8]) -> Found {
     let found = find(
-        b"limiter|compactor|expander|filter|delayer|meter smooth|meter uniform|\
+        b"limiter|compactor|expander|filter|delayer|meter smooth|meter uniform|meter rows|\
           set slot|set word|words|state|set held|set beside|step|bounds|set block|take|room",
         line,
     );

@@ -1,6 +1,6 @@
 // A single operator or a meter from text: one command a line (document 01, sections 2, 3, 6 and 7).
 //     limiter R, compactor m, expander m, filter R, delayer d    a new operator, in slot 0 and all else 0; answered by nothing
-//     meter smooth m Q, meter uniform m Q                        a new meter, likewise
+//     meter smooth m Q, meter uniform m Q, meter rows m Q m Q .. a new meter, likewise
 //     step INPUT CHOICE    an operator's step: slot S least L greatest G output O held H
 //     bounds INPUT         what its output may be: slot S least L greatest G
 //     take INPUT           a meter's input: slot S room R taken N
@@ -13,6 +13,7 @@
 use crate::command::BOUNDS;
 use crate::command::Command;
 use crate::command::ROOM;
+use crate::command::ROWS_METER;
 use crate::command::SET_BLOCK;
 use crate::command::SET_HELD;
 use crate::command::SET_SLOT;
@@ -25,7 +26,10 @@ use console::input::Input;
 use console::input::advance;
 use console::input::begin;
 use console::numbers::narrow;
+use console::numbers::pairs_of;
 use console::print::error;
+use console::rows::rows_of;
+use console::words::Found;
 use console::words::error_of;
 use flow::Declaration;
 use flow::Kind;
@@ -46,10 +50,18 @@ mod setting;
 mod single;
 mod words;
 
-enum Unit {
+// Which unit there is.
+enum Which {
     Missing,
-    Alone(SingleOperator),
-    Metering(SourceMeter),
+    Alone,
+    Metering,
+}
+
+// The unit there is. An enum cannot hold the array of a meter's rows, so both states stand here, and only that of the unit is looked at.
+struct Unit {
+    which: Which,
+    single: SingleOperator,
+    meter: SourceMeter,
 }
 
 fn main() {
@@ -57,7 +69,7 @@ fn main() {
     let mut block = [0u8; 4096];
     let mut line = [0u8; 1023];
     let mut input = begin();
-    let mut unit = Unit::Missing;
+    let mut unit = no_unit();
     // A proved loop has to end, and nothing says that the input does, so the loop counts down from a number that no input uses up.
     let mut turns = u64::MAX;
     while turns > 0 && !input.ended {
@@ -83,7 +95,12 @@ fn end_line(unit: Unit, input: Input, line: &[u8; 1023], words: &mut [u32; 1024]
 }
 
 fn answer_line(unit: Unit, lines: u64, line: &[u8], words: &mut [u32; 1024]) -> Unit {
-    let command = read_command(unit, lines, line);
+    let found = command_in(line);
+    if found.index == ROWS_METER {
+        return rows_meter(unit, lines, line, found.behind, words);
+    }
+    let which = unit.which;
+    let command = read_command(which, lines, line, found);
     if command.index < SET_SLOT {
         clear(words);
         return new_unit(command);
@@ -91,10 +108,21 @@ fn answer_line(unit: Unit, lines: u64, line: &[u8], words: &mut [u32; 1024]) -> 
     command_unit(unit, lines, command, words)
 }
 
+// `meter rows m Q m Q ..`: how many rows there may be, and in which order, the meter tests.
+fn rows_meter(unit: Unit, lines: u64, line: &[u8], from: usize, words: &mut [u32; 1024]) -> Unit {
+    let mut numbers = [0u64; 10];
+    let count = pairs_of(lines, line, from, &mut numbers);
+    if count == 0 {
+        return unit;
+    }
+    clear(words);
+    let declaration = Declaration::of_rows(count / 2, rows_of(&numbers));
+    unit_of(Which::Metering, Operator::Limiter(Rate(0)), declaration)
+}
+
 // What a line asks of the unit there is, or the unit that it makes; else the line is an error and the command unknown.
-fn read_command(unit: Unit, lines: u64, line: &[u8]) -> Command {
-    let found = command_in(line);
-    let fault = fault_of(unit, found.index);
+fn read_command(which: Which, lines: u64, line: &[u8], found: Found) -> Command {
+    let fault = fault_of(which, found.index);
     if fault < 4 {
         error_of(
             lines,
@@ -111,18 +139,18 @@ fn read_command(unit: Unit, lines: u64, line: &[u8]) -> Command {
 }
 
 // Which error a command is to the unit there is; 4: none.
-fn fault_of(unit: Unit, command: usize) -> usize {
+fn fault_of(which: Which, command: usize) -> usize {
     if command < SET_SLOT {
         return 4;
     }
-    match unit {
-        Unit::Missing => 0,
-        Unit::Alone(_) => match command {
+    match which {
+        Which::Missing => 0,
+        Which::Alone => match command {
             UNKNOWN => 1,
             SET_BLOCK..=ROOM => 2,
             _ => 4,
         },
-        Unit::Metering(_) => match command {
+        Which::Metering => match command {
             UNKNOWN => 1,
             SET_HELD..=BOUNDS => 3,
             _ => 4,
@@ -131,33 +159,63 @@ fn fault_of(unit: Unit, command: usize) -> usize {
 }
 
 fn command_unit(unit: Unit, lines: u64, command: Command, words: &mut [u32; 1024]) -> Unit {
-    match unit {
-        Unit::Missing => unit,
-        Unit::Alone(state) => Unit::Alone(single::answer(state, lines, command, words)),
-        Unit::Metering(state) => Unit::Metering(metering::answer(state, lines, command, words)),
+    let mut next = unit;
+    let which = unit.which;
+    match which {
+        Which::Missing => {}
+        Which::Alone => {
+            let state = unit.single;
+            let after = single::answer(state, lines, command, words);
+            next.single = after;
+        }
+        Which::Metering => {
+            let state = unit.meter;
+            let after = metering::answer(state, lines, command, words);
+            next.meter = after;
+        }
     }
+    next
+}
+
+fn no_unit() -> Unit {
+    let declaration = Declaration::of_one_row(Kind::Smooth, Interval(0), Quota(0));
+    unit_of(Which::Missing, Operator::Limiter(Rate(0)), declaration)
 }
 
 fn new_unit(command: Command) -> Unit {
+    let index = command.index;
     let first = narrow(command.first);
-    let second = narrow(command.second);
-    if command.index < SMOOTH_METER {
-        return Unit::Alone(SingleOperator {
-            operator: operator_of(command.index, first),
-            slot: Slots(0),
-            held: Units(0),
-            beside: Units(0),
-        });
-    }
-    Unit::Metering(SourceMeter {
-        declaration: Declaration {
-            kind: kind_of(command.index),
-            interval: Interval(first),
-            quota: Quota(second),
-        },
+    let quota = Quota(narrow(command.second));
+    let declaration = Declaration::of_one_row(kind_of(index), Interval(first), quota);
+    unit_of(which_of(index), operator_of(index, first), declaration)
+}
+
+// A unit in slot 0, with 0 in all else.
+fn unit_of(which: Which, operator: Operator, declaration: Declaration) -> Unit {
+    let single = SingleOperator {
+        operator,
+        slot: Slots(0),
+        held: Units(0),
+        beside: Units(0),
+    };
+    let meter = SourceMeter {
+        declaration,
         slot: Slots(0),
         block: Units(0),
-    })
+    };
+    Unit {
+        which,
+        single,
+        meter,
+    }
+}
+
+fn which_of(command: usize) -> Which {
+    if command < SMOOTH_METER {
+        Which::Alone
+    } else {
+        Which::Metering
+    }
 }
 
 fn operator_of(command: usize, number: u32) -> Operator {

@@ -16,7 +16,7 @@ use console::print::end_line;
 use console::print::labelled;
 use console::print::refused;
 use console::words::row;
-use meter::Metered;
+use meter::Intake;
 use meter::Room;
 use meter::SourceMeter;
 use meter::room_left;
@@ -46,19 +46,16 @@ pub(crate) fn answer(
     state
 }
 
-// `take INPUT`: a refused input leaves the state as it was.
+// `take INPUT`: where it is refused, the state that is handed back is the one that was given.
 fn take(state: SourceMeter, input: u64, words: &mut [u32; 1024]) -> SourceMeter {
     let room = room_left(state, words);
-    match meter::take(state, words, Units(input)) {
-        Metered::Refused(why) => {
-            refused(why);
-            state
-        }
-        Metered::Taken(next) => {
-            taken(state.slot, room, input);
-            next
-        }
+    let metered = meter::take(state, words, Units(input));
+    let intake = metered.intake;
+    match intake {
+        Intake::Refused(why) => refused(why),
+        Intake::Taken => taken(state.slot, room, input),
     }
+    metered.state
 }
 
 fn taken(slot: Slots, room: Room, input: u64) {

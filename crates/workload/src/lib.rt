@@ -4,6 +4,7 @@ use quantity::refusal::Refusal;
 use std::num::wrapping_add_u64;
 ghost use Prim.Native.Nat.{_+_, _≤_};
 
+pub mod meters;
 pub mod paths;
 pub mod sheets;
 pub mod slots;

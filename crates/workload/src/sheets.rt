@@ -5,6 +5,9 @@ use crate::mix;
 use crate::mix_refusal;
 use figures::PathFigures;
 use figures::figures;
+use flow::Declaration;
+use flow::DeclaredRow;
+use flow::Kind;
 use operator::Operator;
 use page::Paged;
 use page::page;
@@ -149,12 +152,40 @@ fn mix_read(sum: u64, answer: ReadSheet) -> u64 {
 fn mix_path(sum: u64, path: PathValue) -> u64 {
     let linked = path.operators[15];
     let operator = linked.operator;
+    let declaration = path.declaration;
     let mut next = mix(sum, path.count as u64);
     next = mix(next, path.wanted.0 as u64);
-    next = mix(next, path.declaration.interval.0 as u64);
-    next = mix(next, path.declaration.quota.0 as u64);
+    next = mix_declaration(next, declaration);
     next = mix(next, linked.link.0 as u64);
     mix_operator(next, operator)
+}
+
+fn mix_declaration(sum: u64, declaration: Declaration) -> u64 {
+    let kind = declaration.kind;
+    match kind {
+        Kind::Smooth => mix_row(mix(sum, 0), declaration.interval.0, declaration.quota.0),
+        Kind::Uniform => mix_row(mix(sum, 1), declaration.interval.0, declaration.quota.0),
+        Kind::Rows => {
+            let rows = declaration.rows;
+            mix_rows(mix(mix(sum, 2), declaration.count as u64), rows)
+        }
+    }
+}
+
+// All four rows; those behind the count are 0.
+fn mix_rows(sum: u64, rows: [DeclaredRow; 4]) -> u64 {
+    let mut next = sum;
+    let mut k = 0;
+    while k < 4 {
+        let row = rows[k];
+        next = mix_row(next, row.interval.0, row.quota.0);
+        k += 1;
+    }
+    next
+}
+
+fn mix_row(sum: u64, interval: u32, quota: u32) -> u64 {
+    mix(mix(sum, interval as u64), quota as u64)
 }
 
 fn mix_operator(sum: u64, operator: Operator) -> u64 {

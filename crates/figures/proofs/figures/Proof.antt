@@ -1,184 +1,61 @@
--- A refusal of the reader is handed on. In the loop, before operator k none of 6 to 8 has stood, and what is carried, the figures and the sum are those of the definitions.
--- Behind the last operator only 9 is left.
-use Prim.Native.Nat.{_≤_, _-_}
-use mathlib.Core.Path.{_≡_, refl, sym, _∙_}
-use native.Mathlib.Omega.{arith}
-use borrow.Author.Needs.{needs}
+-- Of what was read: with rows, the table is their bound; else none is read.
+use mathlib.Core.Path.{sym, _∙_}
+use Prim.Native.Nat.{ℕ}
+use lib.ListN.{replicate, length-replicate}
 use denote.Ref.{now}
-use Rattle.sheet.specs.Forms.{inFull}
-use Rattle.sheet.specs.declared.read.Verdict.{Verdict}
-use Rattle.figures.specs.Answers.{figuresOf}
-use Rattle.figures.proofs.EachOperator.{Walked, PathWithin, figuresOfValue, plannedAt, walked-start, walked-planned, walked-capacity, walked-next, path-operator, operator-ready, paired-here, delay-counted, refused-path, late-path, accepted-path}
-use Rattle.figures.proofs.SheetAnswer.{refused-figures, path-within, accepted-figures}
+use Rattle.figures.proofs.SheetAnswer.{readable, figures-answered, filled-bound, unread-bound}
+use borrow.Author.Needs.{needs}
 use Rattle.figures.proofs.figures.Statement.{statement}
 use Rattle.figures.proofs.figures.Tie as tie
 
-abbrev Inv-loop : tie.InvT-loop
-Inv-loop sheet value planned₀ count carried₀ delay₀ k₀ planned carried delay k =
-    (k ≤ count) × PathWithin value × (planned .verdict ≡ Verdict.Accepted) × (planned .path ≡ value) × Walked (inFull value) k carried (planned .figures) delay
-
-abbrev μ-loop : tie.MeasureT-loop
-μ-loop sheet value planned₀ count carried₀ delay₀ k₀ planned carried delay k = count - k
-
--- the figures of an accepted sheet are those of its path
-figures-read : (c : tie.After-start Inv-loop μ-loop) → figuresOfValue (c .before .before .before .before .before .before .read .result .path) ≡ figuresOf (now (c .before .before .before .before .before .before .before .before .args .sheet))
-figures-read c = accepted-figures (now (c .before .before .before .before .before .before .before .before .args .sheet)) (c .before .before .before .before .before .before .read .ensures) (c .before .before .enum-told2 .given .1)
-
--- what was planned of operator k
-planned-at : (c : tie.After-plan Inv-loop μ-loop) → c .plan .result ≡ plannedAt (inFull (c .before .before .before .before .before .before .before .before .before .before .before .before .before .read .result .path)) (c .before .before .before .before .before .before .loop .k)
-planned-at c =
-    let (inside, within, verdict, read, walked) = c .before .before .before .before .before .before .loop .inv in
-    let here = c .before .before .before .before .before .loop-test .taken in
-    walked-planned walked (sym (path-operator _ _ here)) (paired-here within walked here (c .before .before .before .next-operator .ensures .1) (c .before .paired .ensures)) (c .plan .ensures)
-
--- behind the last operator
-walked-through : (c : tie.After-loop Inv-loop μ-loop) → let value = c .before .before .before .before .before .before .before .before .read .result .path in Walked (inFull value) (value .count) (c .before .loop .carried) (c .before .loop .planned .figures) (c .before .loop .delay)
-walked-through c =
-    let ends : c .before .loop .k ≡ c .before .before .before .before .before .before .before .before .read .result .path .count = omega arith in
-    rw ends at (c .before .loop .inv .4)
-
-read-requires : tie.Need-read-requires Inv-loop μ-loop
+read-requires : tie.Need-read-requires
 read-requires c κs = search needs
 
-no-figure-requires : tie.Need-no-figure-requires Inv-loop μ-loop
-no-figure-requires c κs = search needs
+has-rows-requires : tie.Need-has-rows-requires
+has-rows-requires c κs = search needs
 
-enum-told : tie.Need-enum-told Inv-loop μ-loop
-enum-told c = search needs
+slice-aggregate-fill : tie.Need-slice-aggregate-fill
+slice-aggregate-fill c = search needs
 
-returns : tie.Need-returns Inv-loop μ-loop
-returns c = rw (c .before .before .no-figure .ensures) (refused-figures (now (c .before .before .before .before .before .before .args .sheet)) (c .before .before .before .before .read .ensures) (c .enum-told .given .1))
+fill-requires : tie.Need-fill-requires
+fill-requires c κs = search needs
 
-enum-told-2 : tie.Need-enum-told-2 Inv-loop μ-loop
-enum-told-2 c = search needs
+slice-aggregate-figures-read : tie.Need-slice-aggregate-figures-read
+slice-aggregate-figures-read c = search needs
 
-start-requires : tie.Need-start-requires Inv-loop μ-loop
-start-requires c κs = search needs
+figures-read-requires : tie.Need-figures-read-requires
+figures-read-requires c κs =
+    let read = c .before .before .before .before .before .before .before in
+    let several = sym (c .before .before .before .before .before .has-rows .ensures) ∙ c .before .before .before .before .if1 .taken in
+    readable (now (read .before .before .args .sheet)) (read .read .ensures) _
+    (filled-bound (read .read .result .path .declaration) (replicate 1025 0) (length-replicate {A = ℕ} 1025 0) several (c .before .before .fill .ensures .1))
 
-loop-holds : tie.Need-loop-holds Inv-loop μ-loop
-unfolding inFull
-loop-holds c = (
-  omega arith,
-  path-within (now (c .before .before .before .before .before .before .before .before .args .sheet)) (c .before .before .before .before .before .before .read .ensures) (c .before .before .enum-told2 .given .1),
-  c .before .before .enum-told2 .given .1,
-  refl,
-  walked-start (inFull (c .before .before .before .before .before .before .read .result .path)) (c .start .result) (c .before .before .before .before .no-figure .result) (c .start .ensures) (c .before .before .before .before .no-figure .ensures),
-)
+returns : tie.Need-returns
+returns c = let read = c .before .before .before .before .before .before .before .before in c .figures-read .ensures ∙ figures-answered (now (read .before .before .args .sheet)) (read .read .ensures)
 
-mul-linked : tie.Need-mul-linked Inv-loop μ-loop
-mul-linked c = omega (arith, c .before .loop .inv .1 .few)
+slice-aggregate-figures-read-2 : tie.Need-slice-aggregate-figures-read-2
+slice-aggregate-figures-read-2 c = search needs
 
-element-copy-out-linked : tie.Need-element-copy-out-linked Inv-loop μ-loop
-element-copy-out-linked c = omega (arith, c .before .loop .inv .1 .few)
+figures-read-requires-2 : tie.Need-figures-read-requires-2
+figures-read-requires-2 c κs =
+    let read = c .before .before .before .before in
+    let one = sym (c .before .before .has-rows .ensures) ∙ c .before .if1 .left in
+    readable (now (read .before .before .args .sheet)) (read .read .ensures) _ (λ inside. unread-bound (read .read .result .path .declaration .kind) (read .read .result .path .declaration) _ one)
 
-next-operator-requires : tie.Need-next-operator-requires Inv-loop μ-loop
-next-operator-requires c κs = omega (arith, c .before .before .loop .inv .1 .few)
-
-mul-following : tie.Need-mul-following Inv-loop μ-loop
-mul-following c = search needs
-
-element-copy-out-following : tie.Need-element-copy-out-following Inv-loop μ-loop
-element-copy-out-following c = search needs
-
-add-next : tie.Need-add-next Inv-loop μ-loop
-add-next c = omega (arith, c .before .before .before .before .loop .inv .1 .few)
-
-paired-requires : tie.Need-paired-requires Inv-loop μ-loop
-paired-requires c κs = search needs
-
-plan-requires : tie.Need-plan-requires Inv-loop μ-loop
-plan-requires c κs = let (inside, within, verdict, read, walked) = c .before .before .before .before .before .loop .inv in operator-ready within walked (c .before .before .before .before .loop-test .taken)
-
-enum-known-why : tie.Need-enum-known-why Inv-loop μ-loop
-enum-known-why c = search needs
-
-refused-requires : tie.Need-refused-requires Inv-loop μ-loop
-refused-requires c κs = search needs
-
-returns-2 : tie.Need-returns-2 Inv-loop μ-loop
-returns-2 c =
-    let (inside, within, verdict, read, walked) = c .before .before .before .before .before .before .before .before .before .before .loop .inv in
-    c .refused .ensures ∙ refused-path within walked (c .before .before .before .before .before .before .before .before .before .loop-test .taken) (sym (c .before .before .why .given .1) ∙ planned-at (c .before .before .before .before)) ∙ figures-read (c .before .before .before .before .before .before .before .before .before .before .before)
-
-enum-known-figure : tie.Need-enum-known-figure Inv-loop μ-loop
-enum-known-figure c = search needs
-
-mul-figure : tie.Need-mul-figure Inv-loop μ-loop
-mul-figure c = omega (arith, c .before .before .before .before .before .before .before .before .loop-test .taken, c .before .before .before .before .before .before .before .before .before .loop .inv .1 .few)
-
-element-set-from-figure : tie.Need-element-set-from-figure Inv-loop μ-loop
-element-set-from-figure c = omega (arith, c .before .before .before .before .before .before .before .before .loop-test .taken, c .before .before .before .before .before .before .before .before .before .loop .inv .1 .few)
-
-plus-requires : tie.Need-plus-requires Inv-loop μ-loop
-plus-requires c κs = search needs
-
-behind-requires : tie.Need-behind-requires Inv-loop μ-loop
-behind-requires c κs =
-    let (inside, within, verdict, read, walked) = c .before .before .before .before .before .before .before .before .before .before .loop .inv in
-    let here = c .before .before .before .before .before .before .before .before .before .loop-test .taken in
-    let (carried, number) = operator-ready within walked here in
-    (carried, number, walked-capacity walked (sym (path-operator _ _ here)) (sym (c .before .before .figure .given .1) ∙ planned-at (c .before .before .before .before)))
-
-add-k : tie.Need-add-k Inv-loop μ-loop
-add-k c = omega (arith, c .before .before .before .before .before .before .before .before .before .before .loop-test .taken, c .before .before .before .before .before .before .before .before .before .before .before .loop .inv .1 .few)
-
-loop-less : tie.Need-loop-less Inv-loop μ-loop
-loop-less c = omega arith
-
-loop-again : tie.Need-loop-again Inv-loop μ-loop
-loop-again c =
-    let (inside, within, verdict, read, walked) = c .before .before .before .before .before .before .before .before .before .before .before .loop .inv in
-    let here = c .before .before .before .before .before .before .before .before .before .before .loop-test .taken in
-    let few = within .few in
-    let planned = sym (c .before .before .before .figure .given .1) ∙ planned-at (c .before .before .before .before .before) in (
-      omega (arith, here),
-      within,
-      verdict,
-      read,
-      walked-next walked (omega (arith, here, few)) (sym (path-operator _ _ here)) planned (c .behind .ensures) (delay-counted within walked here planned (c .before .plus .ensures)),
-    )
-
-refused-requires-2 : tie.Need-refused-requires-2 Inv-loop μ-loop
-refused-requires-2 c κs = search needs
-
-returns-3 : tie.Need-returns-3 Inv-loop μ-loop
-returns-3 c = c .refused2 .ensures ∙ late-path (c .before .before .before .before .loop .inv .1) (walked-through (c .before .before .before)) (c .before .if1 .taken) ∙ figures-read (c .before .before .before .before .before)
-
-returns-4 : tie.Need-returns-4 Inv-loop μ-loop
-returns-4 c = rw (c .before .before .before .loop .inv .2, c .before .before .before .loop .inv .3) (accepted-path (c .before .before .before .loop .inv .1) (walked-through (c .before .before)) (c .if1 .left) ∙ figures-read (c .before .before .before .before))
+returns-2 : tie.Need-returns-2
+returns-2 c = let read = c .before .before .before .before .before in c .figures-read2 .ensures ∙ figures-answered (now (read .before .before .args .sheet)) (read .read .ensures)
 
 pub figures-spec : {M : Type 1} → statement M
 figures-spec =
     tie.close
     (tie.spec
-    Inv-loop
-    μ-loop
     read-requires
-    no-figure-requires
-    enum-told
+    has-rows-requires
+    slice-aggregate-fill
+    fill-requires
+    slice-aggregate-figures-read
+    figures-read-requires
     returns
-    enum-told-2
-    start-requires
-    loop-holds
-    mul-linked
-    element-copy-out-linked
-    next-operator-requires
-    mul-following
-    element-copy-out-following
-    add-next
-    paired-requires
-    plan-requires
-    enum-known-why
-    refused-requires
-    returns-2
-    enum-known-figure
-    mul-figure
-    element-set-from-figure
-    plus-requires
-    behind-requires
-    add-k
-    loop-less
-    loop-again
-    refused-requires-2
-    returns-3
-    returns-4)
+    slice-aggregate-figures-read-2
+    figures-read-requires-2
+    returns-2)

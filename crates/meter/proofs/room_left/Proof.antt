@@ -1,6 +1,6 @@
--- Each way out by what the count answered, and how it compares with the quota.
+-- Each way out by what the count answered, and whether any input is below it.
 use mathlib.Core.Path.{sym, _∙_}
-use Rattle.meter.proofs.MeterAnswers.{room-unusable, room-outside, room-none, room-some}
+use Rattle.meter.proofs.MeterAnswers.{room-unusable, room-outside, room-unordered, room-none, room-some}
 use borrow.Author.Needs.{needs}
 use Rattle.meter.proofs.room_left.Statement.{statement}
 use Rattle.meter.proofs.room_left.Tie as tie
@@ -14,14 +14,17 @@ enum-told c = search needs
 enum-told-2 : tie.Need-enum-told-2
 enum-told-2 c = search needs
 
-enum-known-counted : tie.Need-enum-known-counted
-enum-known-counted c = search needs
+enum-told-3 : tie.Need-enum-told-3
+enum-told-3 c = search needs
 
-cast-quota : tie.Need-cast-quota
-cast-quota c = search needs
+enum-known-end : tie.Need-enum-known-end
+enum-known-end c = search needs
 
 returns : tie.Need-returns
-returns c = let known = c .before .before .before .before .before in room-none _ _ (sym (known .counted .given .1) ∙ known .before .before .counted-before .ensures) (c .if1 .taken)
+returns c = let known = c .before .before .before in room-none _ _ (sym (known .end .given .1) ∙ known .before .before .counted-before .ensures) (c .if1 .taken)
+
+sub-t11 : tie.Need-sub-t11
+sub-t11 c = search needs
 
 returns-2 : tie.Need-returns-2
 returns-2 c = room-unusable _ _ (sym (c .enum-told .given .1) ∙ c .before .before .counted-before .ensures)
@@ -30,7 +33,10 @@ returns-3 : tie.Need-returns-3
 returns-3 c = room-outside _ _ (sym (c .enum-told2 .given .1) ∙ c .before .before .counted-before .ensures)
 
 returns-4 : tie.Need-returns-4
-returns-4 c = let known = c .before .before .before .before .before .before in room-some _ _ (sym (known .counted .given .1) ∙ known .before .before .counted-before .ensures) (c .before .if1 .left)
+returns-4 c = room-unordered _ _ (sym (c .enum-told3 .given .1) ∙ c .before .before .counted-before .ensures)
+
+returns-5 : tie.Need-returns-5
+returns-5 c = let known = c .before .before .before .before in room-some _ _ (sym (known .end .given .1) ∙ known .before .before .counted-before .ensures) (c .before .if1 .left)
 
 pub room-left-spec : {M : Type 1} → statement M
 room-left-spec =
@@ -39,9 +45,11 @@ room-left-spec =
     counted-before-requires
     enum-told
     enum-told-2
-    enum-known-counted
-    cast-quota
+    enum-told-3
+    enum-known-end
     returns
+    sub-t11
     returns-2
     returns-3
-    returns-4)
+    returns-4
+    returns-5)

@@ -13,6 +13,9 @@ abbrev μ-loop : tie.MeasureT-loop
 begin-requires : tie.Need-begin-requires Inv-loop μ-loop
 begin-requires c κs = search needs
 
+no-unit-requires : tie.Need-no-unit-requires Inv-loop μ-loop
+no-unit-requires c κs = search needs
+
 loop-holds : tie.Need-loop-holds Inv-loop μ-loop
 loop-holds c = search needs
 
@@ -44,6 +47,7 @@ main-spec =
     Inv-loop
     μ-loop
     begin-requires
+    no-unit-requires
     loop-holds
     advance-requires
     end-line-requires

@@ -9,6 +9,15 @@ use Rattle.flow.specs.Classes.{blocksMet}
 use Rattle.figures.proofs.class.blocks_met.Statement.{statement}
 use Rattle.figures.proofs.class.blocks_met.Tie as tie
 
+returns : tie.Need-returns
+unfolding blocksMet
+returns c =
+    let s = c .before .before .before .before .before in
+    let m = s .args .m .0 in
+    let n = s .args .n .0 in
+    let g = c .before .before .before .before .gcd in
+    (c .wide .ensures ∙ ap (λ (d : ℕ). (m - d + n - 1) / m + 1) (g .ensures), omega (arith, c .wide .ensures, div-le-self (m - g .result + n - 1) m, s .pre))
+
 gcd-requires : tie.Need-gcd-requires
 gcd-requires c κs = search needs
 
@@ -33,15 +42,6 @@ add-wide-2 c =
 
 wide-requires : tie.Need-wide-requires
 wide-requires c κs = search needs
-
-returns : tie.Need-returns
-unfolding blocksMet
-returns c =
-    let s = c .before .before .before .before .before in
-    let m = s .args .m .0 in
-    let n = s .args .n .0 in
-    let g = c .before .before .before .before .gcd in
-    (c .wide .ensures ∙ ap (λ (d : ℕ). (m - d + n - 1) / m + 1) (g .ensures), omega (arith, c .wide .ensures, div-le-self (m - g .result + n - 1) m, s .pre))
 
 pub blocks-met-spec : {M : Type 1} → statement M
 blocks-met-spec =

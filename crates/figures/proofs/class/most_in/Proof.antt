@@ -1,12 +1,25 @@
--- There are at most 1,024 blocks, so that the products fit; each kind has its case of the definition.
+-- There are at most 1,024 blocks, so that the products fit; of rows the table has the bound. Each kind has its case of the definition.
 use borrow.Author.Needs.{needs}
 use native.Mathlib.Nat.{mul-le-mul}
 use native.Mathlib.Omega.{arith}
+use mathlib.Core.Path.{_∙_}
 use Prim.Native.Nat.{_+_, _≤_}
 use Rattle.flow.specs.Classes.{mostIn}
+use Rattle.flow.specs.Bounds.{PairWithin}
 use Rattle.figures.proofs.Bounds.{round-up-at-most}
+use Rattle.figures.proofs.ClassLaws.{smooth-within, uniform-within, lent-rows, lent-length, lent-at}
 use Rattle.figures.proofs.class.most_in.Statement.{statement}
 use Rattle.figures.proofs.class.most_in.Tie as tie
+
+enum-told : tie.Need-enum-told
+enum-told c = search needs
+
+-- the interval and quota of a smooth class, and of a uniform one
+smooth-pair : (c : tie.After-enum-told) → let class = c .before .before .before .args .class in PairWithin (class .interval .0) (class .quota .0)
+smooth-pair c = let s = c .before .before .before in smooth-within (s .args .declared) (s .args .class) (c .enum-told .given .1) (s .pre .0)
+
+uniform-pair : (c : tie.After-enum-told2) → let class = c .before .before .before .args .class in PairWithin (class .interval .0) (class .quota .0)
+uniform-pair c = let s = c .before .before .before in uniform-within (s .args .declared) (s .args .class) (c .enum-told2 .given .1) (s .pre .0)
 
 wide-requires : tie.Need-wide-requires
 wide-requires c κs = search needs
@@ -15,47 +28,99 @@ wide-requires-2 : tie.Need-wide-requires-2
 wide-requires-2 c κs = search needs
 
 round-up-requires : tie.Need-round-up-requires
-round-up-requires c κs = search needs
+round-up-requires c κs = let pair = smooth-pair (c .before .before) in omega arith
 
-enum-told : tie.Need-enum-told
-enum-told c = search needs
+-- no more blocks than slots
+smooth-blocks : (c : tie.After-round-up) → c .round-up .result ≤ 1_024
+smooth-blocks c = let pair = smooth-pair (c .before .before .before) in omega (arith, round-up-at-most (c .before .before .wide .result) (c .before .wide2 .result) (omega arith))
 
-add-t8 : tie.Need-add-t8
-add-t8 c = let few = round-up-at-most (c .before .before .before .before .wide .result) (c .before .before .before .wide2 .result) (omega arith) in
-    omega arith
+add-t10 : tie.Need-add-t10
+add-t10 c = omega (arith, smooth-blocks c)
 
-mul-t9 : tie.Need-mul-t9
-mul-t9 c = let few = round-up-at-most (c .before .before .before .before .before .wide .result) (c .before .before .before .before .wide2 .result) (omega arith) in
-    let blocks : c .before .before .before .round-up .result + 1 ≤ 1025 = omega arith in
-    omega (arith, mul-le-mul blocks (c .before .before .before .before .before .before .pre .0 .quota))
+mul-t11 : tie.Need-mul-t11
+mul-t11 c =
+    let pair = smooth-pair (c .before .before .before .before) in
+    let blocks : c .before .round-up .result + 1 ≤ 1_025 = omega (arith, smooth-blocks (c .before)) in
+    omega (arith, mul-le-mul blocks (pair .quota))
 
 enum-told-2 : tie.Need-enum-told-2
 enum-told-2 c = search needs
 
-mul-t10 : tie.Need-mul-t10
-mul-t10 c = let few = round-up-at-most (c .before .before .before .before .before .wide .result) (c .before .before .before .before .wide2 .result) (omega arith) in
-    let blocks : c .before .before .before .round-up .result ≤ 1024 = omega arith in
-    omega (arith, mul-le-mul blocks (c .before .before .before .before .before .before .pre .0 .quota))
+wide-requires-3 : tie.Need-wide-requires-3
+wide-requires-3 c κs = search needs
+
+wide-requires-4 : tie.Need-wide-requires-4
+wide-requires-4 c κs = search needs
+
+round-up-requires-2 : tie.Need-round-up-requires-2
+round-up-requires-2 c κs = let pair = uniform-pair (c .before .before) in omega arith
+
+uniform-blocks : (c : tie.After-round-up2) → c .round-up2 .result ≤ 1_024
+uniform-blocks c = let pair = uniform-pair (c .before .before .before) in omega (arith, round-up-at-most (c .before .before .wide3 .result) (c .before .wide4 .result) (omega arith))
+
+mul-t12 : tie.Need-mul-t12
+mul-t12 c =
+    let pair = uniform-pair (c .before .before .before .before) in
+    omega (arith, mul-le-mul (uniform-blocks (c .before)) (pair .quota))
+
+enum-told-3 : tie.Need-enum-told-3
+enum-told-3 c = search needs
+
+cast-at : tie.Need-cast-at
+cast-at c = search needs
+
+mul-wide : tie.Need-mul-wide
+mul-wide c = search needs
+
+shared-slice-read-wide : tie.Need-shared-slice-read-wide
+shared-slice-read-wide c =
+    let s = c .before .before .before .before .before in
+    let lent = lent-rows (s .args .declared) (s .args .class) (s .args .bound .now) (c .before .before .enum-told3 .given .1) (s .pre .1) in
+    omega (arith, lent-length (s .args .declared) (s .args .bound .now) lent)
+
+wide-requires-5 : tie.Need-wide-requires-5
+wide-requires-5 c κs = search needs
 
 returns : tie.Need-returns
 unfolding mostIn
-returns c = rw (c .before .enum-told .given .1, c .before .before .before .round-up .ensures, c .before .before .before .before .wide2 .ensures, c .before .before .before .before .before .wide .ensures)
+returns c =
+    let rounded = c .before .round-up .ensures in
+    rw (c .before .before .before .before .enum-told .given .1, rounded, c .before .before .wide2 .ensures, c .before .before .before .wide .ensures)
 
 returns-2 : tie.Need-returns-2
 unfolding mostIn
-returns-2 c = rw (c .before .enum-told2 .given .1, c .before .before .before .round-up .ensures, c .before .before .before .before .wide2 .ensures, c .before .before .before .before .before .wide .ensures)
+returns-2 c =
+    let rounded = c .before .round-up2 .ensures in
+    rw (c .before .before .before .before .enum-told2 .given .1, rounded, c .before .before .wide4 .ensures, c .before .before .before .wide3 .ensures)
+
+returns-3 : tie.Need-returns-3
+unfolding mostIn
+returns-3 c =
+    let s = c .before .before .before .before .before .before in
+    let kind = c .before .before .before .enum-told3 .given .1 in
+    let lent = lent-rows (s .args .declared) (s .args .class) (s .args .bound .now) kind (s .pre .1) in
+    rw kind (c .wide5 .ensures ∙ lent-at (s .args .declared) (s .args .bound .now) lent (s .args .n .0) (s .pre .2))
 
 pub most-in-spec : {M : Type 1} → statement M
 most-in-spec =
     tie.close
     (tie.spec
+    enum-told
     wide-requires
     wide-requires-2
     round-up-requires
-    enum-told
-    add-t8
-    mul-t9
+    add-t10
+    mul-t11
     enum-told-2
-    mul-t10
+    wide-requires-3
+    wide-requires-4
+    round-up-requires-2
+    mul-t12
+    enum-told-3
+    cast-at
+    mul-wide
+    shared-slice-read-wide
+    wide-requires-5
     returns
-    returns-2)
+    returns-2
+    returns-3)

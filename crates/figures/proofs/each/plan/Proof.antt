@@ -1,7 +1,7 @@
 -- Each operator has its case of the definition; a compactor's is that of an expander that has no pair, and only an expander's delay asks for one.
 use borrow.Author.Needs.{needs}
 use Rattle.operator.specs.Operators.{numberInRange}
-use Rattle.figures.specs.Figures.{capacity, ownDelay, isFramed, framedAfterFilter, changedQuota, figureTooLarge, rateTooLow}
+use Rattle.figures.specs.Figures.{capacity, ownDelay, isFramed, framedAfterFilter, quotaBehind, figureTooLarge, rateTooLow}
 use Rattle.figures.specs.Carried.{plannedOf}
 use Rattle.figures.proofs.Bounds.{inside-of}
 use Rattle.figures.proofs.each.plan.Statement.{statement}
@@ -11,39 +11,39 @@ enum-known-operator : tie.Need-enum-known-operator
 enum-known-operator c = search needs
 
 plan-limiter-requires : tie.Need-plan-limiter-requires
-plan-limiter-requires c κs = let s = c .before .before .before in (s .pre .0, inside-of (c .before .operator .given .1) (s .pre .1))
+plan-limiter-requires c κs = let s = c .before .before .before .before in (s .pre .0, inside-of (c .before .operator .given .1) (s .pre .1))
 
 enum-known-operator-2 : tie.Need-enum-known-operator-2
 enum-known-operator-2 c = search needs
 
 plan-frame-requires : tie.Need-plan-frame-requires
 unfolding numberInRange
-plan-frame-requires c κs = let s = c .before .before .before in (s .pre .0, inside-of (c .before .operator2 .given .1) (s .pre .1))
+plan-frame-requires c κs = let s = c .before .before .before .before in (s .pre .0, inside-of (c .before .operator2 .given .1) (s .pre .1))
 
 enum-known-operator-3 : tie.Need-enum-known-operator-3
 enum-known-operator-3 c = search needs
 
 plan-frame-requires-2 : tie.Need-plan-frame-requires-2
-plan-frame-requires-2 c κs = let s = c .before .before .before in (s .pre .0, inside-of (c .before .operator3 .given .1) (s .pre .1))
+plan-frame-requires-2 c κs = let s = c .before .before .before .before in (s .pre .0, inside-of (c .before .operator3 .given .1) (s .pre .1))
 
 enum-known-operator-4 : tie.Need-enum-known-operator-4
 enum-known-operator-4 c = search needs
 
 plan-filter-requires : tie.Need-plan-filter-requires
-plan-filter-requires c κs = let s = c .before .before .before in (s .pre .0, inside-of (c .before .operator4 .given .1) (s .pre .1))
+plan-filter-requires c κs = let s = c .before .before .before .before in (s .pre .0, inside-of (c .before .operator4 .given .1) (s .pre .1))
 
 enum-known-operator-5 : tie.Need-enum-known-operator-5
 enum-known-operator-5 c = search needs
 
 plan-delayer-requires : tie.Need-plan-delayer-requires
-plan-delayer-requires c κs = let s = c .before .before .before in (s .pre .0, inside-of (c .before .operator5 .given .1) (s .pre .1))
+plan-delayer-requires c κs = let s = c .before .before .before .before in (s .pre .0, inside-of (c .before .operator5 .given .1) (s .pre .1))
 
 returns : tie.Need-returns
 unfolding plannedOf ownDelay
 returns c = rw (c .before .before .operator .given .1) (c .plan-limiter .ensures)
 
 returns-2 : tie.Need-returns-2
-unfolding plannedOf framedAfterFilter isFramed figureTooLarge changedQuota capacity rateTooLow ownDelay
+unfolding plannedOf framedAfterFilter isFramed figureTooLarge quotaBehind capacity rateTooLow ownDelay
 returns-2 c = rw (c .before .before .operator2 .given .1) (c .plan-frame .ensures)
 
 returns-3 : tie.Need-returns-3

@@ -1,23 +1,25 @@
 -- A delayer may follow anything and has no rate; else its figure is the definition's, and it adds its own slots to the delay.
 use borrow.Author.Tests.{lt-ltb, le-ltb}
-use native.Mathlib.Omega.{arith}
 use mathlib.Core.Path.{_≡_, refl, ap, _∙_}
 use mathlib.Core.Bool.{false}
 use Rattle.quantity.specs.declared.Delay.{Delay}
 use Rattle.operator.specs.Operators.{numberInRange}
 use Rattle.operator.specs.declared.Operator.the-variants.{Delayer}
-use Rattle.figures.specs.Progress.{Progress}
-use Rattle.figures.specs.Figures.{capacityOfPart, capacity, ownDelay, isFramed, changedQuota, figureTooLarge, rateTooLow}
+use Rattle.figures.specs.declared.carried.Carried.{Carried}
+use Rattle.figures.specs.Progress.{Progress, behind}
+use Rattle.figures.specs.Figures.{capacityOfPart, capacity, ownDelay, isFramed, quotaBehind, figureTooLarge, rateTooLow}
 use Rattle.figures.specs.Carried.{progressIn, plannedOf}
-use Rattle.figures.proofs.Bounds.{with-within, delayer-delay}
+use Rattle.figures.proofs.Bounds.{delayer-ready, delayer-delay}
 use Rattle.figures.proofs.Tests.{placed}
 use Rattle.figures.proofs.each.plan_delayer.Statement.{statement}
 use Rattle.figures.proofs.each.plan_delayer.Tie as tie
 
 -- its capacity is that of the part with it
-delayer-capacity : (c : tie.After-part-capacity) → c .part-capacity .result .0 ≡ capacity (progressIn (c .before .before .args .carried)) (Delayer (c .before .before .args .delay))
-unfolding capacity
-delayer-capacity c = c .part-capacity .ensures ∙ ap capacityOfPart (c .before .behind-delayer .ensures)
+delayer-capacity : (c : tie.After-part-capacity) → let s = c .before .before .before in c .part-capacity .result .0 ≡ capacity (progressIn (s .args .declared) (s .args .carried)) (Delayer (s .args .delay))
+unfolding capacity behind
+delayer-capacity c =
+    let declared = c .before .before .before .args .declared in
+    c .part-capacity .ensures ∙ ap (λ (after : Carried). capacityOfPart (progressIn declared after)) (c .before .behind-delayer .ensures)
 
 own-slots : (p : Progress) (d : Delay) → ownDelay p (Delayer d) false ≡ d .0
 unfolding ownDelay
@@ -25,18 +27,19 @@ own-slots p d = delayer-delay p d
 
 behind-delayer-requires : tie.Need-behind-delayer-requires
 unfolding numberInRange
-behind-delayer-requires c κs = c .pre
+behind-delayer-requires c κs = (c .before .pre .0 .within .e, c .before .pre .1)
 
 part-capacity-requires : tie.Need-part-capacity-requires
-unfolding changedQuota
-part-capacity-requires c κs = rw (c .behind-delayer .ensures) (with-within _ _ (c .before .pre .0) (c .before .pre .1) (omega arith))
+part-capacity-requires c κs =
+    let s = c .before .before in
+    rw (c .behind-delayer .ensures) (delayer-ready (s .args .carried) (s .args .delay) (s .pre .0) (s .pre .1))
 
 returns : tie.Need-returns
-unfolding plannedOf isFramed figureTooLarge changedQuota
+unfolding plannedOf isFramed figureTooLarge quotaBehind
 returns c = rw (placed _ (Delayer _) refl, ← delayer-capacity (c .before .before), lt-ltb _ _ (c .if1 .taken))
 
 returns-2 : tie.Need-returns-2
-unfolding plannedOf isFramed figureTooLarge changedQuota rateTooLow
+unfolding plannedOf isFramed figureTooLarge quotaBehind rateTooLow
 returns-2 c = rw (placed _ (Delayer _) refl, ← delayer-capacity (c .before .before), le-ltb _ _ (c .if1 .left), own-slots)
 
 pub plan-delayer-spec : {M : Type 1} → statement M

@@ -6,7 +6,7 @@ use Prim.Native.Nat.{_≤_}
 use Rattle.quantity.specs.Limits.{largestAmount}
 use Rattle.quantity.specs.Ranges.{intervalRange}
 use Rattle.operator.specs.Operators.{numberInRange}
-use Rattle.figures.specs.Figures.{capacity, ownDelay, isFramed, framedAfterFilter, changedQuota, figureTooLarge, rateTooLow}
+use Rattle.figures.specs.Figures.{capacity, ownDelay, isFramed, framedAfterFilter, quotaBehind, figureTooLarge, rateTooLow}
 use Rattle.figures.specs.Carried.{plannedOf}
 use Rattle.figures.proofs.Bounds.{in-range}
 use Rattle.figures.proofs.each.plan_frame.Statement.{statement}
@@ -18,22 +18,28 @@ returns c = rw (c .if1 .taken)
 
 changed-quota-requires : tie.Need-changed-quota-requires
 unfolding numberInRange
-changed-quota-requires c κs = let s = c .before .before in let (least, most) = in-range intervalRange (s .args .n .0) (s .pre .1) in (s .pre .0 .class, least, most)
+changed-quota-requires c κs =
+    let s = c .before .before .before in
+    let (least, most) = in-range intervalRange (s .args .n .0) (s .pre .1) in
+    (s .pre .0 .within .class, s .pre .0 .lent, least, most)
 
 returns-2 : tie.Need-returns-2
-unfolding plannedOf framedAfterFilter isFramed figureTooLarge changedQuota capacity
-returns-2 c = rw (c .before .before .before .before .if1 .left, ← c .before .before .changed-quota .ensures, lt-ltb _ _ (c .if2 .taken))
+unfolding plannedOf framedAfterFilter isFramed figureTooLarge quotaBehind capacity
+returns-2 c =
+    let changed = c .before .before in
+    rw (changed .before .before .if1 .left, ← changed .changed-quota .ensures, lt-ltb _ _ (c .if2 .taken))
 
 expander-delay-requires : tie.Need-expander-delay-requires
 expander-delay-requires c κs = search needs
 
 returns-3 : tie.Need-returns-3
-unfolding plannedOf framedAfterFilter isFramed figureTooLarge changedQuota capacity rateTooLow ownDelay
+unfolding plannedOf framedAfterFilter isFramed figureTooLarge quotaBehind capacity rateTooLow ownDelay
 returns-3 c =
-    let small : c .before .before .before .changed-quota .result .0 ≤ largestAmount = omega arith in
+    let changed = c .before .before .before in
+    let small : changed .changed-quota .result .0 ≤ largestAmount = omega (arith, c .before .if2 .left) in
     rw (
-      c .before .before .before .before .before .if1 .left,
-      ← c .before .before .before .changed-quota .ensures,
+      changed .before .before .if1 .left,
+      ← changed .changed-quota .ensures,
       le-ltb _ _ (c .before .if2 .left),
       le-ltb _ _ small,
       ← c .expander-delay .ensures,

@@ -2,77 +2,96 @@
 use borrow.Author.Needs.{needs}
 use borrow.Author.Tests.{lt-ltb, le-ltb}
 use native.Mathlib.Omega.{arith}
-use mathlib.Core.Path.{sym, _∙_}
+use mathlib.Core.Path.{sym, ap, _∙_}
+use mathlib.Core.Bool.{not}
+use Prim.Native.Nat.{_≤_}
 use Rattle.quantity.specs.Ranges.{rateRange}
 use Rattle.operator.specs.Operators.{numberInRange}
-use Rattle.figures.specs.Figures.{capacity, ownDelay, isFramed, framedAfterFilter, changedQuota, figureTooLarge, rateTooLow}
+use Rattle.figures.specs.Figures.{capacity, ownDelay, isFramed, framedAfterFilter, quotaBehind, figureTooLarge, rateTooLow}
 use Rattle.figures.specs.Carried.{classIn, plannedOf}
-use Rattle.figures.proofs.Bounds.{in-range, burst-bound, round-up-at-most}
+use Rattle.flow.proofs.ClassBounds.{burst-bound}
+use Rattle.figures.proofs.Bounds.{in-range, round-up-at-most}
 use Rattle.figures.proofs.each.plan_limiter.Statement.{statement}
 use Rattle.figures.proofs.each.plan_limiter.Tie as tie
+
+rate-inside : (s : tie.Start) → (1 ≤ s .args .rate .0) × (s .args .rate .0 ≤ 65_535)
+unfolding numberInRange
+rate-inside s = in-range rateRange (s .args .rate .0) (s .pre .1)
+
+-- its capacity is the burst, and is small
+limiter-small : (c : tie.After-burst-at) → c .burst-at .result .0 ≤ 134_217_726
+limiter-small c =
+    let s = c .before .before .before .before in
+    omega (arith, c .burst-at .ensures, burst-bound (classIn (s .args .declared) (s .args .carried .class)) (s .args .rate .0) (s .pre .0 .within .class))
 
 returns : tie.Need-returns
 unfolding plannedOf framedAfterFilter isFramed
 returns c = rw (c .if1 .taken)
 
-burst-requires : tie.Need-burst-requires
-burst-requires c κs = search needs
+burst-at-requires : tie.Need-burst-at-requires
+burst-at-requires c κs = let s = c .before .before .before in (s .pre .0 .within .class, s .pre .0 .lent, rate-inside s .1)
 
 returns-2 : tie.Need-returns-2
-unfolding plannedOf framedAfterFilter isFramed figureTooLarge changedQuota capacity
-returns-2 c = rw (c .before .before .before .before .if1 .left, ← c .before .before .burst .ensures, lt-ltb _ _ (c .if2 .taken))
+unfolding plannedOf framedAfterFilter isFramed figureTooLarge quotaBehind capacity
+returns-2 c =
+    let made = c .before .before in
+    rw (made .before .before .if1 .left, ← made .burst-at .ensures, lt-ltb _ _ (c .if2 .taken))
 
-quota-above-requires : tie.Need-quota-above-requires
-quota-above-requires c κs = search needs
+carried-by-requires : tie.Need-carried-by-requires
+carried-by-requires c κs = search needs
 
 returns-3 : tie.Need-returns-3
-unfolding plannedOf framedAfterFilter isFramed figureTooLarge changedQuota capacity rateTooLow
+unfolding plannedOf framedAfterFilter isFramed figureTooLarge quotaBehind capacity rateTooLow
 returns-3 c =
+    let tested = c .before .before in
+    let made = tested .before .before in
     rw (
-      c .before .before .before .before .before .before .if1 .left,
-      ← c .before .before .before .before .burst .ensures,
-      le-ltb _ _ (c .before .before .if2 .left),
-      sym (c .before .quota-above .ensures) ∙ c .if3 .taken,
+      made .before .before .if1 .left,
+      ← made .burst-at .ensures,
+      le-ltb _ _ (tested .if2 .left),
+      ap not (sym (c .before .carried-by .ensures)) ∙ c .if3 .taken,
+    )
+
+returns-4 : tie.Need-returns-4
+unfolding plannedOf framedAfterFilter isFramed figureTooLarge quotaBehind capacity rateTooLow ownDelay
+returns-4 c =
+    let left = c .before .before in
+    let tested = left .before .before in
+    let made = tested .before .before in
+    rw (
+      made .before .before .if1 .left,
+      ← made .burst-at .ensures,
+      le-ltb _ _ (tested .if2 .left),
+      ap not (sym (left .before .carried-by .ensures)) ∙ left .if3 .left,
+      c .round-up .ensures,
+      c .before .wide .ensures,
     )
 
 wide-requires : tie.Need-wide-requires
 wide-requires c κs = search needs
 
 round-up-requires : tie.Need-round-up-requires
-unfolding numberInRange
-round-up-requires c κs = let s = c .before .before .before .before .before .before .before .before in
-    let rate = in-range rateRange (s .args .rate .0) (s .pre .1) in
-    omega (arith, burst-bound (classIn (s .args .carried .class)) (s .pre .0 .class))
+round-up-requires c κs =
+    let made = c .before .before .before .before .before in
+    let (positive, slow) = rate-inside (made .before .before .before .before) in
+    omega (arith, limiter-small made)
 
-cast-t14 : tie.Need-cast-t14
-unfolding numberInRange
-cast-t14 c = let s = c .before .before .before .before .before .before .before .before .before in
-    let rate = in-range rateRange (s .args .rate .0) (s .pre .1) in
-    let most = c .before .before .before .before .before .before .burst .result .0 in
-    omega (arith, round-up-at-most most (c .before .wide .result) (omega arith), burst-bound (classIn (s .args .carried .class)) (s .pre .0 .class))
-
-returns-4 : tie.Need-returns-4
-unfolding plannedOf framedAfterFilter isFramed figureTooLarge changedQuota capacity rateTooLow ownDelay
-returns-4 c =
-    rw (
-      c .before .before .before .before .before .before .before .before .if1 .left,
-      ← c .before .before .before .before .before .before .burst .ensures,
-      le-ltb _ _ (c .before .before .before .before .if2 .left),
-      sym (c .before .before .before .quota-above .ensures) ∙ c .before .before .if3 .left,
-      c .round-up .ensures,
-      c .before .wide .ensures,
-    )
+cast-t16 : tie.Need-cast-t16
+cast-t16 c =
+    let made = c .before .before .before .before .before .before in
+    let (positive, slow) = rate-inside (made .before .before .before .before) in
+    omega (arith, round-up-at-most (made .burst-at .result .0) (c .before .wide .result) (omega arith), limiter-small made)
 
 pub plan-limiter-spec : {M : Type 1} → statement M
 plan-limiter-spec =
     tie.close
     (tie.spec
     returns
-    burst-requires
+    burst-at-requires
     returns-2
-    quota-above-requires
+    carried-by-requires
     returns-3
     wide-requires
     round-up-requires
-    cast-t14
+    cast-t16
     returns-4)

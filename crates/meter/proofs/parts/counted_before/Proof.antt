@@ -1,4 +1,4 @@
--- Each way out by what the tests before it told: the stored words, then the declaration's ranges.
+-- Each way out by what the tests before it told: the stored words, then the declaration's ranges and its order.
 use mathlib.Core.Path.{_≡_, sym, ap, _∙_}
 use mathlib.Core.Bool.{true, false}
 use Prim.Native.Nat.{ℕ}
@@ -7,10 +7,10 @@ use borrow.Author.Tests.{not-true, not-false}
 use Rattle.quantity.specs.Sums.{total}
 use Rattle.quantity.proofs.Laws.{picked-true, picked-false, pick-false}
 use Rattle.words.specs.Stored.{wordAt}
-use Rattle.flow.specs.Declarations.{declarationInRange}
+use Rattle.flow.specs.Declarations.{declarationInRange, rowsInOrder}
 use Rattle.meter.specs.Meter.{meterWordCount, meterUnusable}
-use Rattle.meter.specs.declared.parts.Counted.{Counted}
-use Rattle.meter.proofs.PartsLaws.{counted-unusable, counted-outside, counted-next}
+use Rattle.meter.specs.declared.parts.Counted.the-variants.{Below}
+use Rattle.meter.proofs.PartsLaws.{counted-unusable, counted-outside, counted-unordered, counted-next}
 use borrow.Author.Needs.{needs}
 use Rattle.meter.proofs.parts.counted_before.Statement.{statement}
 use Rattle.meter.proofs.parts.counted_before.Tie as tie
@@ -26,9 +26,12 @@ summed c =
     let found = sym (c .units .given .1) ∙ c .before .before .stored-in .ensures ∙ pick-false _ _ _ (usable c) in
     cc
 
--- past the second test the declaration is in range
+-- past the second test the declaration is in range, and past the third in order
 ranged : (c : tie.Else1) → declarationInRange (c .before .before .before .before .before .before .before .before .args .state .declaration) ≡ true
 ranged c = sym (c .before .in-range .ensures) ∙ not-false _ (c .if1 .left)
+
+ordered : (c : tie.Else2) → rowsInOrder (c .before .before .before .before .before .before .before .before .before .before .args .state .declaration) ≡ true
+ordered c = sym (c .before .in-order .ensures) ∙ not-false _ (c .if2 .left)
 
 stored-in-requires : tie.Need-stored-in-requires
 stored-in-requires c κs = search needs
@@ -45,18 +48,24 @@ in-range-requires c κs = search needs
 returns : tie.Need-returns
 returns c = counted-outside _ _ (usable (c .before .before .before .before)) (sym (c .before .in-range .ensures) ∙ not-true _ (c .if1 .taken))
 
-counts-with-requires : tie.Need-counts-with-requires
-counts-with-requires c κs = (usable (c .before .before .before .before), ranged c, summed (c .before .before .before .before))
+in-order-requires : tie.Need-in-order-requires
+in-order-requires c κs = search needs
 
 returns-2 : tie.Need-returns-2
-returns-2 c =
-    counted-unusable _ _
-    (picked-true _ _ _ (sym (c .enum-told .given .1) ∙ c .before .before .stored-in .ensures) (λ e. let never : _≡_ {A = ℕ} 0 1 = cc in omega arith))
+returns-2 c = counted-unordered _ _ (usable (c .before .before .before .before .before .before)) (ranged (c .before .before)) (sym (c .before .in-order .ensures) ∙ not-true _ (c .if2 .taken))
+
+inputs-below-requires : tie.Need-inputs-below-requires
+inputs-below-requires c κs = (usable (c .before .before .before .before .before .before), ranged (c .before .before), ordered c, summed (c .before .before .before .before .before .before))
 
 returns-3 : tie.Need-returns-3
 returns-3 c =
+    counted-unusable _ _
+    (picked-true _ _ _ (sym (c .enum-told .given .1) ∙ c .before .before .stored-in .ensures) (λ e. let never : _≡_ {A = ℕ} 0 1 = cc in omega arith))
+
+returns-4 : tie.Need-returns-4
+returns-4 c =
     let known = c .before in
-    ap (λ (n : ℕ). Counted.Before record { 0 = n }) (c .counts-with .ensures) ∙ sym (counted-next _ _ (usable (known .before .before .before .before)) (ranged known))
+    ap (λ (n : ℕ). Below record { 0 = n }) (c .inputs-below .ensures) ∙ sym (counted-next _ _ (usable (known .before .before .before .before .before .before)) (ranged (known .before .before)) (ordered known))
 
 pub counted-before-spec : {M : Type 1} → statement M
 counted-before-spec =
@@ -67,6 +76,8 @@ counted-before-spec =
     enum-known-units
     in-range-requires
     returns
-    counts-with-requires
+    in-order-requires
     returns-2
-    returns-3)
+    inputs-below-requires
+    returns-3
+    returns-4)

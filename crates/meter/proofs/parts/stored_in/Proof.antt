@@ -7,38 +7,37 @@ use borrow.Author.Tests.{not-true, not-false}
 use Rattle.quantity.specs.Sums.{total, every}
 use Rattle.quantity.proofs.Laws.{pick-true, pick-false}
 use Rattle.words.specs.Stored.{wordAt, storedFits, wordFits}
-use Rattle.meter.specs.Meter.{meterWordCount, usesBlock, meterWordsUsed}
+use Rattle.meter.specs.Meter.{meterWordCount, usesBlock, ringLength}
 use Rattle.words.specs.declared.Scanned.{Scanned}
 use Rattle.meter.specs.declared.parts.Stored.{Stored}
 use Rattle.words.proofs.ScanLaws.{scan-fits, scan-units}
-use Rattle.meter.proofs.UsableMeter.{meter-usable, wrong-length, no-slot-left, block-misfit, word-misfit}
+use Rattle.meter.proofs.UsableMeter.{meter-usable, wrong-length, no-slot-left, unused-set, block-misfit, word-misfit}
 use borrow.Author.Needs.{needs}
 use Rattle.meter.proofs.parts.stored_in.Statement.{statement}
 use Rattle.meter.proofs.parts.stored_in.Tie as tie
 
 -- what the callees answer, of the state and the words that came in
 block-tested : (c : tie.After-stored-fits) →
-    let state = c .before .before .before .before .before .before .before .args .state in
+    let state = c .before .before .before .before .before .before .before .before .before .args .state in
     storedFits (usesBlock (state .declaration .kind)) (state .block .0) ≡ c .stored-fits .result
 block-tested c =
-    let state = c .before .before .before .before .before .before .before .args .state in
+    let state = c .before .before .before .before .before .before .before .before .before .args .state in
     sym (c .stored-fits .ensures ∙ ap (λ (used : Bool). storedFits used (state .block .0)) (c .before .uses-block .ensures))
 
 words-tested : (c : tie.After-scan) →
-    let start = c .before .before .before .before .before .before .before .before .before .before in
-    let state = start .args .state in
-    every (wordFits (meterWordsUsed (state .declaration .kind) (state .declaration .interval .0)) (start .args .words .now)) meterWordCount ≡ c .scan .result .fits
+    let start = c .before .before .before .before .before .before .before .before .before .before .before .before in
+    every (wordFits (ringLength (start .args .state .declaration)) (start .args .words .now)) meterWordCount ≡ c .scan .result .fits
 words-tested c =
-    let words = c .before .before .before .before .before .before .before .before .before .before .args .words .now in
-    let sized = c .before .before .before .before .before .before .before .before .if1 .left in
-    sym (ap (λ (r : Scanned). r .fits) (c .scan .ensures) ∙ scan-fits _ words (omega (arith, sized)) ∙ ap₂ (λ (used count : ℕ). every (wordFits used words) count) (c .before .words-used .ensures) sized)
+    let words = c .before .before .before .before .before .before .before .before .before .before .before .before .args .words .now in
+    let sized = c .before .before .before .before .before .before .before .before .before .before .if1 .left in
+    sym (ap (λ (r : Scanned). r .fits) (c .scan .ensures) ∙ scan-fits _ words (omega (arith, sized)) ∙ ap₂ (λ (used count : ℕ). every (wordFits used words) count) (c .before .ring-length .ensures) sized)
 
 words-summed : (c : tie.After-scan) →
-    let words = c .before .before .before .before .before .before .before .before .before .before .args .words .now in
+    let words = c .before .before .before .before .before .before .before .before .before .before .before .before .args .words .now in
     c .scan .result .fits ≡ true → c .scan .result .units ≡ total (wordAt words) meterWordCount
 words-summed c fits =
-    let words = c .before .before .before .before .before .before .before .before .before .before .args .words .now in
-    let sized = c .before .before .before .before .before .before .before .before .if1 .left in
+    let words = c .before .before .before .before .before .before .before .before .before .before .before .before .args .words .now in
+    let sized = c .before .before .before .before .before .before .before .before .before .before .if1 .left in
     ap (λ (r : Scanned). r .units) (c .scan .ensures)
     ∙ scan-units _ words (omega (arith, sized)) (sym (ap (λ (r : Scanned). r .fits) (c .scan .ensures)) ∙ fits)
     ∙ ap (total (wordAt words)) sized
@@ -49,35 +48,43 @@ returns c = sym (pick-true _ _ _ (wrong-length _ _ (c .if1 .taken)))
 returns-2 : tie.Need-returns-2
 returns-2 c = sym (pick-true _ _ _ (no-slot-left _ _ (c .if2 .taken)))
 
+unused-clear-requires : tie.Need-unused-clear-requires
+unused-clear-requires c κs = search needs
+
+returns-3 : tie.Need-returns-3
+returns-3 c = sym (pick-true _ _ _ (unused-set _ _ (sym (c .before .unused-clear .ensures) ∙ not-true _ (c .if3 .taken))))
+
 uses-block-requires : tie.Need-uses-block-requires
 uses-block-requires c κs = search needs
 
 stored-fits-requires : tie.Need-stored-fits-requires
 stored-fits-requires c κs = search needs
 
-returns-3 : tie.Need-returns-3
-returns-3 c = sym (pick-true _ _ _ (block-misfit _ _ (block-tested (c .before) ∙ not-true _ (c .if3 .taken))))
+returns-4 : tie.Need-returns-4
+returns-4 c = sym (pick-true _ _ _ (block-misfit _ _ (block-tested (c .before) ∙ not-true _ (c .if4 .taken))))
 
-words-used-requires : tie.Need-words-used-requires
-words-used-requires c κs = search needs
+ring-length-requires : tie.Need-ring-length-requires
+ring-length-requires c κs = search needs
 
 scan-requires : tie.Need-scan-requires
 scan-requires c κs = search needs
 
-returns-4 : tie.Need-returns-4
-returns-4 c = sym (pick-true _ _ _ (word-misfit _ _ (words-tested (c .before .before) ∙ not-true _ (c .if4 .taken))))
-
 returns-5 : tie.Need-returns-5
-returns-5 c =
-    ap Stored.Words (words-summed (c .before .before) (not-false _ (c .if4 .left)))
+returns-5 c = sym (pick-true _ _ _ (word-misfit _ _ (words-tested (c .before .before) ∙ not-true _ (c .if5 .taken))))
+
+returns-6 : tie.Need-returns-6
+returns-6 c =
+    let tested = c .before .before .before .before in
+    ap Stored.Words (words-summed (c .before .before) (not-false _ (c .if5 .left)))
     ∙ sym
     (pick-false _ _ _
     (meter-usable _ _
     record {
-      sized = c .before .before .before .before .before .before .before .before .before .before .if1 .left;
-      slot-left = c .before .before .before .before .before .before .before .before .if2 .left;
-      block-fits = block-tested (c .before .before .before .before .before) ∙ not-false _ (c .before .before .before .before .if3 .left);
-      words-fit = words-tested (c .before .before) ∙ not-false _ (c .if4 .left);
+      sized = tested .before .before .before .before .before .before .before .before .if1 .left;
+      slot-left = tested .before .before .before .before .before .before .if2 .left;
+      clear = sym (tested .before .before .before .before .unused-clear .ensures) ∙ not-false _ (tested .before .before .before .if3 .left);
+      block-fits = block-tested (tested .before) ∙ not-false _ (tested .if4 .left);
+      words-fit = words-tested (c .before .before) ∙ not-false _ (c .if5 .left);
     }))
 
 pub stored-in-spec : {M : Type 1} → statement M
@@ -86,10 +93,12 @@ stored-in-spec =
     (tie.spec
     returns
     returns-2
+    unused-clear-requires
+    returns-3
     uses-block-requires
     stored-fits-requires
-    returns-3
-    words-used-requires
-    scan-requires
     returns-4
-    returns-5)
+    ring-length-requires
+    scan-requires
+    returns-5
+    returns-6)

@@ -5,12 +5,11 @@ use borrow.Author.Needs.{needs}
 use borrow.Author.Tests.{not-true, not-false}
 use Rattle.quantity.specs.Limits.{mostOperators}
 use Rattle.quantity.specs.Sums.{listOf}
-use Rattle.meter.specs.Parts.{withinQuota}
 use Rattle.run.specs.Calls.{Call, choicesMiscounted, amountTooLarge, callOf}
 use Rattle.run.specs.Runs.{runUnusable}
-use Rattle.run.specs.Steps.{countedIn}
+use Rattle.run.specs.Steps.{belowIn}
 use Rattle.run.specs.Watching.{unitsHeld}
-use Rattle.run.proofs.UsableRun.{usable-run}
+use Rattle.run.proofs.UsableRun.{usable-run, slot-left}
 use Rattle.run.proofs.SlotLaws.{arguments-pass, stored-passes, refused-arguments, refused-stored, refused-input, refused-planned, taken}
 use Rattle.run.proofs.slot.slot.Statement.{statement}
 use Rattle.run.proofs.slot.slot.Tie as tie
@@ -28,14 +27,9 @@ stored-passed : (c : tie.Else2) →
     let s = c .before .before .before .before .before .before .before .before in
     let tested = c .before .before .test .result in
     (runUnusable (s .args .run) (s .args .words .now) ≡ false)
-    × (tested .counted .0 ≡ countedIn (s .args .run) (s .args .words .now))
+    × (tested .below .0 ≡ belowIn (s .args .run) (s .args .words .now))
     × (tested .held ≡ listOf (unitsHeld (s .args .run) (s .args .words .now)) mostOperators)
 stored-passed c = stored-passes _ _ (c .before .before .test .ensures) (not-false _ (c .if2 .left))
-
-input-passed : (c : tie.Else3) →
-    let s = c .before .before .before .before .before .before .before .before .before .before .before .before in
-    withinQuota (s .args .run .declaration) (c .before .before .before .before .before .before .test .result .counted .0) (s .args .input .0) ≡ true
-input-passed c = sym (c .before .within-quota .ensures) ∙ not-false _ (c .if3 .left)
 
 arguments-fit-requires : tie.Need-arguments-fit-requires
 arguments-fit-requires c κs = search needs
@@ -60,9 +54,6 @@ returns-2 c =
     let (counted, small) = arguments-passed (c .before .before .before .before .before) in
     refused-stored _ _ _ counted small (c .before .before .before .test .ensures) (not-true _ (c .before .if2 .taken)) (c .refused2 .ensures)
 
-within-quota-requires : tie.Need-within-quota-requires
-within-quota-requires c κs = search needs
-
 refused-requires-3 : tie.Need-refused-requires-3
 refused-requires-3 c κs = search needs
 
@@ -71,15 +62,16 @@ same-length-2 c = search needs
 
 returns-3 : tie.Need-returns-3
 returns-3 c =
-    let (counted, small) = arguments-passed (c .before .before .before .before .before .before .before .before .before) in
-    let (usable, units, held) = stored-passed (c .before .before .before .before .before) in
-    refused-input _ _ _ counted small usable units (sym (c .before .before .within-quota .ensures) ∙ not-true _ (c .before .if3 .taken)) (c .refused3 .ensures)
+    let stored = c .before .before .before .before in
+    let (counted, small) = arguments-passed (stored .before .before .before .before) in
+    let (usable, below, held) = stored-passed stored in
+    refused-input _ _ _ counted small usable below (c .before .if3 .taken) (c .refused3 .ensures)
 
 decide-all-requires : tie.Need-decide-all-requires
 decide-all-requires c κs =
     let passed = c .before .before in
-    let (usable, units, held) = stored-passed (passed .before .before .before .before) in
-    ((usable, held), arguments-passed (passed .before .before .before .before .before .before .before .before))
+    let (usable, below, held) = stored-passed (passed .before .before .before) in
+    ((usable, held), arguments-passed (passed .before .before .before .before .before .before .before))
 
 enum-known-outcome : tie.Need-enum-known-outcome
 enum-known-outcome c = search needs
@@ -92,8 +84,8 @@ enum-known-outcome-2 c = search needs
 
 write-requires : tie.Need-write-requires
 write-requires c κs =
-    let passed = usable-run _ _ (stored-passed (c .before .before .before .before .before .before .before .before .before .before .before .before) .0) in
-    (passed .sized, passed .few)
+    let passed = usable-run _ _ (stored-passed (c .before .before .before .before .before .before .before .before .before .before .before) .0) in
+    (passed .sized, passed .few, slot-left _ _ passed)
 
 same-length-3 : tie.Need-same-length-3
 same-length-3 c = search needs
@@ -101,9 +93,9 @@ same-length-3 c = search needs
 returns-4 : tie.Need-returns-4
 returns-4 c =
     let passed = c .before .before .before .before .before .before .before in
-    let (counted, small) = arguments-passed (passed .before .before .before .before .before .before .before .before) in
-    let (usable, units, held) = stored-passed (passed .before .before .before .before) in
-    refused-planned _ _ _ counted small usable units (input-passed passed) (c .before .before .before .before .decide-all .ensures .0) (sym (c .before .before .outcome .given .1)) (c .refused4 .ensures)
+    let (counted, small) = arguments-passed (passed .before .before .before .before .before .before .before) in
+    let (usable, below, held) = stored-passed (passed .before .before .before) in
+    refused-planned _ _ _ counted small usable below (passed .if3 .left) (c .before .before .before .before .decide-all .ensures .0) (sym (c .before .before .outcome .given .1)) (c .refused4 .ensures)
 
 same-length-4 : tie.Need-same-length-4
 same-length-4 c = search needs
@@ -111,11 +103,11 @@ same-length-4 c = search needs
 returns-5 : tie.Need-returns-5
 returns-5 c =
     let passed = c .before .before .before .before .before .before .before .before .before .before .before in
-    let (counted, small) = arguments-passed (passed .before .before .before .before .before .before .before .before) in
-    let (usable, units, held) = stored-passed (passed .before .before .before .before) in
+    let (counted, small) = arguments-passed (passed .before .before .before .before .before .before .before) in
+    let (usable, below, held) = stored-passed (passed .before .before .before) in
     let planned = c .before .before .before .before .before .before .before .before .decide-all in
     let written = c .before .before .write .ensures in
-    taken _ _ _ counted small usable units (input-passed passed) (planned .ensures .0) (sym (c .before .before .before .before .before .before .outcome2 .given .1)) _ (planned .ensures .1) (written .0) (written .1)
+    taken _ _ _ counted small usable below (passed .if3 .left) (planned .ensures .0) (sym (c .before .before .before .before .before .before .outcome2 .given .1)) _ (planned .ensures .1) (written .0) (written .1)
 
 pub slot-spec : {M : Type 1} → statement M
 slot-spec =
@@ -128,7 +120,6 @@ slot-spec =
     refused-requires-2
     same-length
     returns-2
-    within-quota-requires
     refused-requires-3
     same-length-2
     returns-3

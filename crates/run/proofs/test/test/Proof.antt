@@ -5,7 +5,6 @@ use mathlib.Core.Logic.{⊎-elim}
 use Prim.Native.Nat.{ℕ}
 use native.Mathlib.Omega.{arith}
 use borrow.Author.Tests.{not-true, not-false}
-use Rattle.flow.specs.Declarations.{declarationInRange}
 use Rattle.meter.specs.Parts.{countedOf}
 use Rattle.sheet.specs.Bodies.{part}
 use Rattle.run.specs.Runs.{meterIn, meterWords}
@@ -18,13 +17,9 @@ use Rattle.run.proofs.test.test.Tie as tie
 contradiction : {t : Bool} → t ≡ true → t ≡ false → ⊥
 contradiction e f = let z : _≡_ {A = ℕ} 0 1 = cc in omega arith
 
--- past the fourth test the declaration is in range
-in-range : (c : tie.Else4) → declarationInRange (c .before .before .before .before .before .before .before .args .run .declaration) ≡ true
-in-range c = sym (c .before .in-range .ensures) ∙ not-false _ (c .if4 .left)
-
 -- the count is that of the run's meter and its words
 answered : (c : tie.After-counted-before) →
-    let start = c .before .before .before .before .before .before .before .before .before .before .args in
+    let start = c .before .before .before .before .before .before .before .args in
     c .counted-before .result ≡ countedOf (meterIn (start .run)) (meterWords (start .words .now))
 unfolding meterWords part
 answered c = rw (c .before .before .meter-of .ensures) at (c .counted-before .ensures)
@@ -53,19 +48,6 @@ returns-3 c =
     let start = c .before .before .before .before .before in
     c .not-tested3 .ensures ∙ tested-not (start .args .run) (start .args .words .now) (λ usable. omega (arith, usable .few, c .before .if3 .taken))
 
-in-range-requires : tie.Need-in-range-requires
-in-range-requires c κs = search needs
-
-not-tested-requires-4 : tie.Need-not-tested-requires-4
-not-tested-requires-4 c κs = search needs
-
-returns-4 : tie.Need-returns-4
-returns-4 c =
-    let start = c .before .before .before .before .before .before .before .before in
-    c .not-tested4 .ensures
-    ∙ tested-not (start .args .run) (start .args .words .now)
-    (λ usable. contradiction (usable .declared) (sym (c .before .before .in-range .ensures) ∙ not-true _ (c .before .if4 .taken)))
-
 meter-of-requires : tie.Need-meter-of-requires
 meter-of-requires c κs = search needs
 
@@ -81,57 +63,55 @@ part-counted-before-end c = search needs
 counted-before-requires : tie.Need-counted-before-requires
 counted-before-requires c κs = search needs
 
-enum-known-counted : tie.Need-enum-known-counted
-enum-known-counted c = search needs
+enum-known-below : tie.Need-enum-known-below
+enum-known-below c = search needs
+
+not-tested-requires-4 : tie.Need-not-tested-requires-4
+not-tested-requires-4 c κs = search needs
+
+returns-4 : tie.Need-returns-4
+returns-4 c =
+    let counted = c .before .before in
+    let start = counted .before .before .before .before .before .before .before in
+    c .not-tested4 .ensures
+    ∙ tested-not (start .args .run) (start .args .words .now)
+    (meter-uncounted (start .args .run) (start .args .words .now) (answered counted)
+    (λ units before. ⊎-elim (λ e. omega arith) (⊎-elim (λ e. omega arith) (λ e. omega arith)) (rw before at (c .before .match .keys2))))
+
+test-stages-requires : tie.Need-test-stages-requires
+test-stages-requires c κs = search needs
 
 not-tested-requires-5 : tie.Need-not-tested-requires-5
 not-tested-requires-5 c κs = search needs
 
 returns-5 : tie.Need-returns-5
 returns-5 c =
-    let counted = c .before .before in
-    let start = counted .before .before .before .before .before .before .before .before .before .before in
+    let stages = c .before .before .before in
+    let start = stages .before .before .before .before .before .before .before .before .before .before .before in
     c .not-tested5 .ensures
     ∙ tested-not (start .args .run) (start .args .words .now)
-    (λ usable.
-    contradiction
-    (meter-uncounted (start .args .run) (start .args .words .now) (in-range (counted .before .before .before)) (answered counted)
-    (λ units before. ⊎-elim (λ e. omega arith) (λ e. omega arith) (rw before at (c .before .match .keys2)))) (usable .meter))
-
-test-stages-requires : tie.Need-test-stages-requires
-test-stages-requires c κs = search needs
-
-not-tested-requires-6 : tie.Need-not-tested-requires-6
-not-tested-requires-6 c κs = search needs
+    (λ usable. contradiction (usable .stages) (sym (stages .test-stages .ensures .0) ∙ not-true _ (c .before .if4 .taken)))
 
 returns-6 : tie.Need-returns-6
 returns-6 c =
     let stages = c .before .before .before in
-    let start = stages .before .before .before .before .before .before .before .before .before .before .before .before .before .before in
-    c .not-tested6 .ensures
-    ∙ tested-not (start .args .run) (start .args .words .now)
-    (λ usable. contradiction (usable .stages) (sym (stages .test-stages .ensures .0) ∙ not-true _ (c .before .if5 .taken)))
-
-returns-7 : tie.Need-returns-7
-returns-7 c =
-    let stages = c .before .before .before in
     let known = stages .before .before in
     let counted = known .before .before in
-    let start = counted .before .before .before .before .before .before .before .before .before .before in
+    let start = counted .before .before .before .before .before .before .before in
     let run = start .args .run in
     let words = start .args .words .now in
-    let declared = in-range (counted .before .before .before) in
-    let (usable-meter, counts) = meter-counted run words declared (sym (known .counted .given .1) ∙ answered counted) in
-    let fit = not-false _ (c .before .if5 .left) in
+    let found = meter-counted run words (sym (known .below .given .1) ∙ answered counted) in
+    let fit = not-false _ (c .before .if4 .left) in
     let passed : UsableRun run words = record {
-      sized = counted .before .before .before .before .before .before .before .before .if1 .left;
-      some = omega (arith, counted .before .before .before .before .before .before .before .if2 .left);
-      few = counted .before .before .before .before .before .before .if3 .left;
-      declared = declared;
-      meter = usable-meter;
+      sized = counted .before .before .before .before .before .if1 .left;
+      some = omega (arith, counted .before .before .before .before .if2 .left);
+      few = counted .before .before .before .if3 .left;
+      declared = found .declared;
+      ordered = found .ordered;
+      meter = found .meter;
       stages = sym (stages .test-stages .ensures .0) ∙ fit;
     } in
-    tested-usable run words passed counts (stages .test-stages .ensures .1 fit)
+    tested-usable run words passed (found .counted) (stages .test-stages .ensures .1 fit)
 
 pub test-spec : {M : Type 1} → statement M
 test-spec =
@@ -143,18 +123,15 @@ test-spec =
     returns-2
     not-tested-requires-3
     returns-3
-    in-range-requires
-    not-tested-requires-4
-    returns-4
     meter-of-requires
     sub-counted-before
     part-counted-before-start
     part-counted-before-end
     counted-before-requires
-    enum-known-counted
+    enum-known-below
+    not-tested-requires-4
+    returns-4
+    test-stages-requires
     not-tested-requires-5
     returns-5
-    test-stages-requires
-    not-tested-requires-6
-    returns-6
-    returns-7)
+    returns-6)

@@ -8,10 +8,10 @@ use Rattle.run.proofs.write.write.Statement.{statement}
 use Rattle.run.proofs.write.write.Tie as tie
 
 abbrev Inv-loop : tie.InvT-loop
-Inv-loop run words₀ moves meter slot count stages₀ k₀ words stages k = (k ≤ count) × Written run words₀ moves k words stages
+Inv-loop run words₀ moves block slot count stages₀ k₀ words stages k = (k ≤ count) × Written run words₀ moves k words stages
 
 abbrev μ-loop : tie.MeasureT-loop
-μ-loop run words₀ moves meter slot count stages₀ k₀ words stages k = count - k
+μ-loop run words₀ moves block slot count stages₀ k₀ words stages k = count - k
 
 -- the stages are sixteen
 full : (c : tie.Start Inv-loop μ-loop) → length (c .args .run .stages) ≡ 16
@@ -23,7 +23,7 @@ write-meter-requires c κs = c .before .before .pre .0
 loop-holds : tie.Need-loop-holds Inv-loop μ-loop
 loop-holds c =
     let s = c .before .before .before .before .before .before .before in
-    (omega arith, written-start _ _ _ (metered-size _ _ _ _ (s .pre .0) (c .before .before .before .before .write-meter .ensures .1)) (full s))
+    (omega arith, written-start _ _ _ (metered-size _ _ _ (s .pre .0) (c .before .before .before .before .write-meter .ensures .1)) (full s))
 
 mul-stage : tie.Need-mul-stage Inv-loop μ-loop
 mul-stage c = omega arith
@@ -59,17 +59,20 @@ loop-again c =
     let wrote = c .before .before .write-stage .ensures in
     (omega (arith, c .before .before .before .before .before .before .loop-test .taken), written-next (here .loop .inv .1) few (wrote .1) (wrote .0))
 
+add-t28 : tie.Need-add-t28 Inv-loop μ-loop
+add-t28 c = let left = c .before .before .before .before .before .before .before .before .before .before .before .pre .2 in omega (arith, left)
+
 same-length : tie.Need-same-length Inv-loop μ-loop
-same-length c = c .before .before .before .before .loop .inv .1 .sized ∙ sym (c .before .before .before .before .before .before .before .before .before .before .before .before .pre .0)
+same-length c = c .before .before .before .loop .inv .1 .sized ∙ sym (c .before .before .before .before .before .before .before .before .before .before .before .pre .0)
 
 returns : tie.Need-returns Inv-loop μ-loop
 returns c =
-    let s = c .before .before .before .before .before .before .before .before .before .before .before .before in
-    let last = c .before .before .before .before in
-    let metered = c .before .before .before .before .before .before .before .before .before .write-meter .ensures in
-    let ends : last .loop .k ≡ s .args .run .count = omega (arith, c .before .before .before .loop-test .left, last .loop .inv .0) in (
-      run-end _ _ _ _ _ (s .pre .0) (metered .1) ends (last .loop .inv .1) (metered .0),
-      words-end _ _ _ _ _ (s .pre .0) (metered .1) ends (last .loop .inv .1),
+    let s = c .before .before .before .before .before .before .before .before .before .before .before in
+    let last = c .before .before .before in
+    let metered = c .before .before .before .before .before .before .before .before .write-meter .ensures in
+    let ends : last .loop .k ≡ s .args .run .count = omega (arith, c .before .before .loop-test .left, last .loop .inv .0) in (
+      run-end _ _ _ _ (s .pre .0) (metered .1) ends (last .loop .inv .1) (metered .0),
+      words-end _ _ _ _ (s .pre .0) (metered .1) ends (last .loop .inv .1),
     )
 
 pub write-spec : {M : Type 1} → statement M
@@ -90,5 +93,6 @@ write-spec =
     add-k
     loop-less
     loop-again
+    add-t28
     same-length
     returns)

@@ -4,7 +4,7 @@ use mathlib.Core.Logic.{⊎-elim}
 use native.Mathlib.Omega.{arith}
 use Rattle.sheet.specs.Bodies.{part}
 use Rattle.run.specs.Runs.{meterWords}
-use Rattle.run.proofs.WriteLaws.{meter-stays, meter-written}
+use Rattle.run.proofs.WriteLaws.{block-stays, meter-written}
 use borrow.Author.Needs.{needs}
 use Rattle.run.proofs.write.write_meter.Statement.{statement}
 use Rattle.run.proofs.write.write_meter.Tie as tie
@@ -24,8 +24,8 @@ part-note-end c = search needs
 note-requires : tie.Need-note-requires
 note-requires c κs = search needs
 
-enum-known-next : tie.Need-enum-known-next
-enum-known-next c = search needs
+enum-known-block : tie.Need-enum-known-block
+enum-known-block c = search needs
 
 same-length : tie.Need-same-length
 same-length c = search needs
@@ -33,9 +33,9 @@ same-length c = search needs
 returns : tie.Need-returns
 unfolding meterWords part
 returns c =
-    let called = c .before .before .before in
-    let (made, left) = meter-written _ _ _ _ (called .before .before .before .before .pre) (called .before .before .meter-of .ensures) (called .note .ensures .0) (called .note .ensures .1) in
-    (meter-stays _ (called .note .result) (λ next noted. ⊎-elim (λ e. omega arith) (⊎-elim (λ e. omega arith) (λ e. omega arith)) (rw noted at (c .match .keys2))) ∙ made, left)
+    let called = c .before .before .before .before in
+    let (made, left) = meter-written _ _ _ (called .before .before .before .before .pre) (called .before .before .meter-of .ensures) (called .note .ensures .0) (called .note .ensures .1) in
+    (block-stays _ (called .note .result) (λ next noted. ⊎-elim (λ e. omega arith) (⊎-elim (λ e. omega arith) (λ e. omega arith)) (rw noted at (c .before .match .keys2))) ∙ made, left)
 
 same-length-2 : tie.Need-same-length-2
 same-length-2 c = search needs
@@ -44,7 +44,7 @@ returns-2 : tie.Need-returns-2
 unfolding meterWords part
 returns-2 c =
     let called = c .before .before .before .before .before in
-    meter-written _ _ _ _ (called .before .before .before .before .pre) (called .before .before .meter-of .ensures) (sym (c .before .next .given .1) ∙ called .note .ensures .0) (called .note .ensures .1)
+    meter-written _ _ _ (called .before .before .before .before .pre) (called .before .before .meter-of .ensures) (sym (c .before .block .given .1) ∙ called .note .ensures .0) (called .note .ensures .1)
 
 pub write-meter-spec : {M : Type 1} → statement M
 write-meter-spec =
@@ -55,7 +55,7 @@ write-meter-spec =
     part-note-start
     part-note-end
     note-requires
-    enum-known-next
+    enum-known-block
     same-length
     returns
     same-length-2

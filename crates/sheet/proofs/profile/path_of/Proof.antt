@@ -71,14 +71,18 @@ loop-again c =
     let stored = filled-next noLinkedOperator 16 (listOf (houseOperator house) k) (houseOperator house k) k (length-listOf (houseOperator house) k) (omega arith) in
     (omega arith, omega arith, rw (c .house-operator .ensures, at-loop .loop .inv .2, add-one) stored)
 
+of-one-row-requires : tie.Need-of-one-row-requires Inv-loop μ-loop
+of-one-row-requires c κs = search needs
+
 returns : tie.Need-returns Inv-loop μ-loop
 unfolding houseValue housePath
 returns c =
-    let sized = c .before .before .before .before in
+    let at-loop = c .before .before in
+    let sized = at-loop .before .before .before in
     let house = sized .before .before .before .before .before .before .args .house in
-    let done : c .before .loop .k ≡ house .hops .0 * hopLength house = rw (← sized .hop-length .ensures) (omega arith) in
-    let operators = rw done at (c .before .loop .inv .2) in
-    rw (← counted sized, operators)
+    let done : at-loop .loop .k ≡ house .hops .0 * hopLength house = rw (← sized .hop-length .ensures) (omega arith) in
+    let operators = rw done at (at-loop .loop .inv .2) in
+    rw (c .of-one-row .ensures, ← counted sized, operators)
 
 pub path-of-spec : {M : Type 1} → statement M
 path-of-spec =
@@ -97,4 +101,5 @@ path-of-spec =
     add-k
     loop-less
     loop-again
+    of-one-row-requires
     returns)

@@ -1,61 +1,61 @@
--- The header and the three numbers, one behind the other.
+-- By the arm that the kind took.
 use borrow.Author.Needs.{needs}
-use mathlib.Core.Path.{refl, _∙_}
-use Prim.Native.Nat.{ℕ}
-use mathlib.Core.List.{List, [], _∷_, _++_}
+use mathlib.Core.Path.{ap}
 use native.Mathlib.Omega.{arith}
-use denote.Ref.{now}
-use lib.ListN.{length-set}
-use Rattle.sheet.specs.Numbers.{bytesOf}
-use Rattle.sheet.specs.Bodies.{kindByte, declarationBody}
-use Rattle.sheet.specs.Fields.{fieldOf}
-use Rattle.sheet.proofs.Runs.{run-behind}
+use Rattle.flow.specs.Declarations.{hasRows}
+use Rattle.sheet.proofs.WriteLaws.{field-of-smooth, field-of-uniform, field-of-several, several-few}
 use Rattle.sheet.proofs.write.write_declaration.Statement.{statement}
 use Rattle.sheet.proofs.write.write_declaration.Tie as tie
 
-cast-write-header : tie.Need-cast-write-header
-cast-write-header c = search needs
+enum-told : tie.Need-enum-told
+enum-told c = search needs
 
-write-header-requires : tie.Need-write-header-requires
-write-header-requires c κs = search needs
+write-one-row-requires : tie.Need-write-one-row-requires
+write-one-row-requires c κs = search needs
 
-kind-byte-requires : tie.Need-kind-byte-requires
-kind-byte-requires c κs = search needs
+enum-told-2 : tie.Need-enum-told-2
+enum-told-2 c = search needs
 
-slice-write-sheet : tie.Need-slice-write-sheet
-slice-write-sheet c = search needs
+write-one-row-requires-2 : tie.Need-write-one-row-requires-2
+write-one-row-requires-2 c κs = search needs
 
-write-number-requires : tie.Need-write-number-requires
-write-number-requires c κs = simp length-set (omega (arith, c .before .before .before .before .before .before .write-header .kept .0))
+enum-told-3 : tie.Need-enum-told-3
+enum-told-3 c = search needs
 
-write-number-requires-2 : tie.Need-write-number-requires-2
-write-number-requires-2 c κs = omega (arith, simp length-set at (c .before .before .before .write-number .kept .0), c .before .before .before .before .before .before .before .before .before .before .write-header .kept .0)
+write-rows-requires : tie.Need-write-rows-requires
+write-rows-requires c κs = let start = c .before .before .before .before in (several-few (start .args .declaration) (ap hasRows (c .before .enum-told3 .given .1)) (start .pre .0), omega (arith, start .pre .1))
 
 same-length : tie.Need-same-length
-same-length c =
-    c .before .before .write-number2 .kept .0 ∙ c .before .before .before .before .before .before .write-number .kept .0 ∙ simp length-set (c .before .before .before .before .before .before .before .before .before .before .before .before .before .write-header .kept .0)
+same-length c = search needs
 
 returns : tie.Need-returns
-unfolding bytesOf declarationBody fieldOf
-returns c =
-    let a = c .before .before .before .before .before .before .before .before .before .before .before .before .before .before .before .before .args in
-    let sheet = now (a .sheet) in
-    let header : List ℕ = 0x01 ∷ bytesOf 2 7 in
-    let kind = header ++ (kindByte (a .declaration .kind) ∷ []) in
-    let interval = bytesOf 2 (a .declaration .interval .0) in
-    let to-kind = run-behind sheet 0 3 header (kindByte (a .declaration .kind) ∷ []) (c .before .before .before .before .before .before .before .before .before .before .before .before .before .write-header .ensures) refl refl in
-    let to-interval = run-behind sheet 0 4 kind interval to-kind (rw (c .before .before .before .before .before .before .before .before .kind-byte .ensures) at (c .before .before .before .before .before .before .write-number .ensures)) refl in
-    run-behind sheet 0 6 (kind ++ interval) (bytesOf 4 (a .declaration .quota .0)) to-interval (c .before .before .write-number2 .ensures) refl
+returns c = rw (field-of-smooth (c .before .before .before .before .before .before .before .args .declaration) (c .before .before .before .before .enum-told .given .1)) (c .before .before .write-one-row .ensures)
+
+same-length-2 : tie.Need-same-length-2
+same-length-2 c = search needs
+
+returns-2 : tie.Need-returns-2
+returns-2 c = rw (field-of-uniform (c .before .before .before .before .before .before .before .args .declaration) (c .before .before .before .before .enum-told2 .given .1)) (c .before .before .write-one-row2 .ensures)
+
+same-length-3 : tie.Need-same-length-3
+same-length-3 c = search needs
+
+returns-3 : tie.Need-returns-3
+returns-3 c = rw (field-of-several (c .before .before .before .before .before .before .before .args .declaration) (c .before .before .before .before .enum-told3 .given .1)) (c .before .before .write-rows .ensures)
 
 pub write-declaration-spec : {M : Type 1} → statement M
 write-declaration-spec =
     tie.close
     (tie.spec
-    cast-write-header
-    write-header-requires
-    kind-byte-requires
-    slice-write-sheet
-    write-number-requires
-    write-number-requires-2
+    enum-told
+    write-one-row-requires
+    enum-told-2
+    write-one-row-requires-2
+    enum-told-3
+    write-rows-requires
     same-length
-    returns)
+    returns
+    same-length-2
+    returns-2
+    same-length-3
+    returns-3)

@@ -1,5 +1,6 @@
 -- The header, and the number behind it.
 use borrow.Author.Needs.{needs}
+use Prim.Native.Nat.{_+_}
 use mathlib.Core.Path.{refl}
 use mathlib.Core.List.{_∷_}
 use denote.Ref.{now}
@@ -27,7 +28,7 @@ same-length c = search needs
 
 returns : tie.Need-returns
 unfolding bytesOf wantedBody fieldOf
-returns c = run-behind (now (c .before .before .before .before .before .before .before .before .before .args .sheet)) 10 13 (0x02 ∷ bytesOf 2 4) (bytesOf 4 (c .before .before .before .before .before .before .before .before .before .args .wanted .0)) (c .before .before .before .before .before .before .write-header .ensures) (c .before .before .write-number .ensures) refl
+returns c = let a = c .before .before .before .before .before .before .before .before .before .args in run-behind (now (a .sheet)) (a .at) (a .at + 3) (0x02 ∷ bytesOf 2 4) (bytesOf 4 (a .wanted .0)) (c .before .before .before .before .before .before .write-header .ensures) (c .before .before .write-number .ensures) refl
 
 pub write-wanted-spec : {M : Type 1} → statement M
 write-wanted-spec =

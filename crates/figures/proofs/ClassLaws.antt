@@ -1,0 +1,82 @@
+-- A class by its kind, and the lent table: what the code reads there is what section 4 and document 02, item 6 say of the class.
+use Prim.Native.Nat.{ℕ, zero, suc, _+_, _-_, _*_, _≤_, _<_, max}
+use mathlib.Core.Path.{_≡_, refl, ap, ap₂, _∙_}
+use mathlib.Core.Bool.{true, false}
+use mathlib.Core.List.{List}
+use mathlib.Core.Logic.{⊎-elim}
+use native.Mathlib.Nat.{not-suc-le-zero, le-of-suc-le-suc, eq-or-lt-of-le, le-trans}
+use native.Mathlib.Numerals.{add-one}
+use native.Mathlib.Omega.{arith}
+use lib.ListN.{length, getD}
+use Rattle.quantity.proofs.Sums.{length-listOf, getD-listOf}
+use Rattle.flow.specs.Rows.{Row, rowsMost, rowCarried, rowsCarried, reach, greatestOf, rowsBurst}
+use Rattle.flow.specs.Classes.{rows}
+use Rattle.flow.specs.Declarations.{severalAt}
+use Rattle.flow.specs.Bounds.{boundLength, boundOf, PairWithin, ClassWithin}
+use Rattle.flow.specs.declared.Kind.{Kind}
+use Rattle.flow.specs.declared.Declaration.{Declaration}
+use Rattle.flow.proofs.Laws.{reach-le}
+use Rattle.figures.specs.declared.class.FlowClass.{FlowClass}
+use Rattle.figures.specs.Carried.{classIn, Lent}
+
+-- The row that a rate reaches over.
+
+-- past one more row that the rate does not carry
+pub none-next : (given : ℕ → Row) (i R : ℕ) → rowsCarried given i R ≡ false → rowCarried (given i) R ≡ false → (rowsCarried given (i + 1) R ≡ false) × (reach given (i + 1) R ≡ 0)
+unfolding rowsCarried reach
+none-next given i R before here = rw (add-one, before, here) (refl, refl)
+
+-- the first that it carries, with more behind it
+reach-first-of : (given : ℕ → Row) (i R : ℕ) → rowsCarried given i R ≡ false → rowCarried (given i) R ≡ true → (k : ℕ) → i < k → (rowsCarried given k R ≡ true) × (reach given k R ≡ given i .interval)
+unfolding rowsCarried reach
+reach-first-of given i R before here zero less = absurd (not-suc-le-zero less)
+reach-first-of given i R before here (suc k) less =
+    ⊎-elim
+    (λ same. rw (← same, before, here) (refl, refl))
+    (λ below. let (some, reached) = reach-first-of given i R before here k below in rw some (refl, reached))
+    (eq-or-lt-of-le (le-of-suc-le-suc less))
+
+pub reach-first : (given : ℕ → Row) (i R k : ℕ) → rowsCarried given i R ≡ false → rowCarried (given i) R ≡ true → i < k → reach given k R ≡ given i .interval
+reach-first given i R k before here less = reach-first-of given i R before here k less .1
+
+-- The lent table.
+
+module _ (declared : Declaration) (bound : List ℕ) (lent : bound ≡ boundOf declared) where
+  pub lent-length : length bound ≡ boundLength
+  lent-length = ap length lent ∙ length-listOf (rowsMost (severalAt declared) (declared .count)) boundLength
+
+  pub lent-at : (n : ℕ) → n ≤ 1_024 → getD bound n 0 ≡ rowsMost (severalAt declared) (declared .count) n
+  lent-at n short = ap (λ (l : List ℕ). getD l n 0) lent ∙ getD-listOf 0 (rowsMost (severalAt declared) (declared .count)) boundLength n (omega arith)
+
+pub greatest-next : (f : ℕ → ℕ) (n : ℕ) → greatestOf f (n + 1) ≡ max (greatestOf f n) (f (n + 1))
+unfolding greatestOf
+greatest-next f n = rw add-one
+
+greatest-same : (f g : ℕ → ℕ) (n : ℕ) → ((i : ℕ) → i ≤ n → f i ≡ g i) → greatestOf f n ≡ greatestOf g n
+unfolding greatestOf
+greatest-same f g zero same = refl
+greatest-same f g (suc n) same = ap₂ max (greatest-same f g n (λ i less. same i (omega arith))) (same (suc n) (omega arith))
+
+-- A class of one kind.
+
+module _ (declared : Declaration) (class : FlowClass) where
+  pub smooth-within : class .kind ≡ Kind.Smooth → ClassWithin (classIn declared class) → PairWithin (class .interval .0) (class .quota .0)
+  smooth-within e within = rw e at within
+
+  pub uniform-within : class .kind ≡ Kind.Uniform → ClassWithin (classIn declared class) → PairWithin (class .interval .0) (class .quota .0)
+  uniform-within e within = rw e at within
+
+  pub rows-within : class .kind ≡ Kind.Rows → ClassWithin (classIn declared class) → ClassWithin (rows (severalAt declared) (declared .count))
+  rows-within e within = rw e at within
+
+  pub lent-rows : (bound : List ℕ) → class .kind ≡ Kind.Rows → Lent (class .kind) declared bound → bound ≡ boundOf declared
+  lent-rows bound e lent = rw e at lent
+
+-- the greatest that the table has beyond a rate is the burst
+pub burst-of-table : (declared : Declaration) (bound : List ℕ) (R : ℕ) → ClassWithin (rows (severalAt declared) (declared .count)) → bound ≡ boundOf declared
+    → greatestOf (λ n. getD bound n 0 - n * R) (reach (severalAt declared) (declared .count) R) ≡ rowsBurst (severalAt declared) (declared .count) R
+unfolding rowsBurst
+burst-of-table declared bound R within lent =
+    let reached = reach-le (severalAt declared) (declared .count) R 1_024 (λ i less. within .2 i less .short) in
+    greatest-same (λ n. getD bound n 0 - n * R) (λ n. rowsMost (severalAt declared) (declared .count) n - n * R) (reach (severalAt declared) (declared .count) R)
+    (λ n inside. ap (λ (most : ℕ). most - n * R) (lent-at declared bound lent n (le-trans inside reached)))

@@ -1,0 +1,208 @@
+-- A refusal of the reader is handed on. In the loop, before operator k none of 6 to 8 has stood, and what is carried, the figures and the sum are those of the definitions.
+-- Behind the last operator only 9 is left.
+use Prim.Native.Nat.{_≤_, _-_}
+use mathlib.Core.Path.{_≡_, refl, sym, ap, subst, _∙_}
+use mathlib.Core.List.{List}
+use native.Mathlib.Omega.{arith}
+use borrow.Author.Needs.{needs}
+use Rattle.flow.specs.Declarations.{classOf}
+use Rattle.flow.specs.declared.Kind.{Kind}
+use Rattle.flow.specs.declared.Declaration.{Declaration}
+use Rattle.sheet.specs.Forms.{inFull}
+use Rattle.sheet.specs.declared.read.Verdict.{Verdict}
+use Rattle.figures.specs.Progress.{start}
+use Rattle.figures.specs.Answers.{refusedFigures}
+use Rattle.figures.specs.Carried.{Lent, Readable, PathWithin, figuresOfValue, figuresOfRead}
+use Rattle.figures.proofs.EachOperator.{Walked, plannedAt, walked-start, walked-planned, walked-capacity, walked-next, path-operator, operator-ready, paired-here, delay-counted, refused-path, late-path, accepted-path}
+use Rattle.figures.proofs.figures_read.Statement.{statement}
+use Rattle.figures.proofs.figures_read.Tie as tie
+
+abbrev Inv-loop : tie.InvT-loop
+Inv-loop bound path planned₀ declaration count carried₀ delay₀ k₀ planned carried delay k =
+    (k ≤ count) × PathWithin path × (planned .verdict ≡ Verdict.Accepted) × (planned .path ≡ path) × Walked (path .declaration) bound (inFull path) k carried (planned .figures) delay
+
+abbrev μ-loop : tie.MeasureT-loop
+μ-loop bound path planned₀ declaration count carried₀ delay₀ k₀ planned carried delay k = count - k
+
+-- the path is accepted, so it is within its ranges and its table is lent
+readable : (c : tie.After-start Inv-loop μ-loop) → let args = c .before .before .before .before .before .before .before .args in Readable Verdict.Accepted (args .answer .path) (args .bound .now)
+readable c =
+    let s = c .before .before .before .before .before .before .before in
+    subst (λ (verdict : Verdict). Readable verdict (s .args .answer .path) (s .args .bound .now)) (c .before .before .enum-told2 .given .1) (s .pre)
+
+-- and the figures are those of the path
+figures-read : (c : tie.After-start Inv-loop μ-loop) → let args = c .before .before .before .before .before .before .before .args in figuresOfValue (args .answer .path) ≡ figuresOfRead (args .answer .verdict) (args .answer .path)
+unfolding figuresOfRead
+figures-read c =
+    let s = c .before .before .before .before .before .before .before in
+    sym (ap (λ (verdict : Verdict). figuresOfRead verdict (s .args .answer .path)) (c .before .before .enum-told2 .given .1))
+
+-- what was planned of operator k
+planned-at : (c : tie.After-plan Inv-loop μ-loop) → c .plan .result ≡ plannedAt (inFull (c .before .before .before .before .before .before .before .before .before .before .before .before .before .before .args .answer .path)) (c .before .before .before .before .before .before .loop .k)
+planned-at c =
+    let (inside, within, verdict, read, walked) = c .before .before .before .before .before .before .loop .inv in
+    let here = c .before .before .before .before .before .loop-test .taken in
+    walked-planned walked (sym (path-operator _ _ here)) (paired-here within walked here (c .before .before .before .next-operator .ensures .1) (c .before .paired .ensures)) (c .plan .ensures)
+
+-- behind the last operator
+walked-through : (c : tie.After-loop Inv-loop μ-loop) →
+    let args = c .before .before .before .before .before .before .before .before .before .args in
+    let value = args .answer .path in
+    Walked (value .declaration) (args .bound .now) (inFull value) (value .count) (c .before .loop .carried) (c .before .loop .planned .figures) (c .before .loop .delay)
+walked-through c =
+    let value = c .before .before .before .before .before .before .before .before .before .args .answer .path in
+    let ends : c .before .loop .k ≡ value .count = omega arith in
+    rw ends at (c .before .loop .inv .4)
+
+no-figure-requires : tie.Need-no-figure-requires Inv-loop μ-loop
+no-figure-requires c κs = search needs
+
+enum-told : tie.Need-enum-told Inv-loop μ-loop
+enum-told c = search needs
+
+returns : tie.Need-returns Inv-loop μ-loop
+unfolding figuresOfRead refusedFigures
+returns c =
+    let s = c .before .before .before .before .before in
+    let refused = c .enum-told .given .1 in
+    rw (c .before .before .no-figure .ensures, subst (λ (verdict : Verdict). Readable verdict (s .args .answer .path) (s .args .bound .now)) refused (s .pre), refused)
+
+enum-told-2 : tie.Need-enum-told-2 Inv-loop μ-loop
+enum-told-2 c = search needs
+
+start-requires : tie.Need-start-requires Inv-loop μ-loop
+start-requires c κs = search needs
+
+loop-holds : tie.Need-loop-holds Inv-loop μ-loop
+unfolding inFull
+loop-holds c =
+    let s = c .before .before .before .before .before .before .before in
+    let value = s .args .answer .path in
+    let (within, lent) = readable c in
+    let (carries, kind, unfiltered) = c .start .ensures in (
+      omega arith,
+      within,
+      c .before .before .enum-told2 .given .1,
+      refl,
+      walked-start (value .declaration) (s .args .bound .now) (inFull value) (c .start .result) (c .before .before .before .before .no-figure .result)
+          (carries ∙ ap (λ (declared : Declaration). start (classOf declared)) (sym (within .clear)))
+          (subst (λ (k : Kind). Lent k (value .declaration) (s .args .bound .now)) (sym kind) lent) unfiltered (c .before .before .before .before .no-figure .ensures),
+    )
+
+mul-linked : tie.Need-mul-linked Inv-loop μ-loop
+mul-linked c = omega (arith, c .before .loop .inv .1 .few)
+
+element-copy-out-linked : tie.Need-element-copy-out-linked Inv-loop μ-loop
+element-copy-out-linked c = omega (arith, c .before .loop .inv .1 .few)
+
+next-operator-requires : tie.Need-next-operator-requires Inv-loop μ-loop
+next-operator-requires c κs = omega (arith, c .before .before .loop .inv .1 .few)
+
+mul-following : tie.Need-mul-following Inv-loop μ-loop
+mul-following c = search needs
+
+element-copy-out-following : tie.Need-element-copy-out-following Inv-loop μ-loop
+element-copy-out-following c = search needs
+
+add-next : tie.Need-add-next Inv-loop μ-loop
+add-next c = omega (arith, c .before .before .before .before .loop .inv .1 .few)
+
+paired-requires : tie.Need-paired-requires Inv-loop μ-loop
+paired-requires c κs = search needs
+
+plan-requires : tie.Need-plan-requires Inv-loop μ-loop
+plan-requires c κs = let (inside, within, verdict, read, walked) = c .before .before .before .before .before .loop .inv in operator-ready within walked (c .before .before .before .before .loop-test .taken)
+
+enum-known-why : tie.Need-enum-known-why Inv-loop μ-loop
+enum-known-why c = search needs
+
+refused-requires : tie.Need-refused-requires Inv-loop μ-loop
+refused-requires c κs = search needs
+
+returns-2 : tie.Need-returns-2 Inv-loop μ-loop
+returns-2 c =
+    let (inside, within, verdict, read, walked) = c .before .before .before .before .before .before .before .before .before .before .loop .inv in
+    c .refused .ensures ∙ refused-path within walked (c .before .before .before .before .before .before .before .before .before .loop-test .taken) (sym (c .before .before .why .given .1) ∙ planned-at (c .before .before .before .before)) ∙ figures-read (c .before .before .before .before .before .before .before .before .before .before .before)
+
+enum-known-figure : tie.Need-enum-known-figure Inv-loop μ-loop
+enum-known-figure c = search needs
+
+mul-figure : tie.Need-mul-figure Inv-loop μ-loop
+mul-figure c = omega (arith, c .before .before .before .before .before .before .before .before .loop-test .taken, c .before .before .before .before .before .before .before .before .before .loop .inv .1 .few)
+
+element-set-from-figure : tie.Need-element-set-from-figure Inv-loop μ-loop
+element-set-from-figure c = omega (arith, c .before .before .before .before .before .before .before .before .loop-test .taken, c .before .before .before .before .before .before .before .before .before .loop .inv .1 .few)
+
+plus-requires : tie.Need-plus-requires Inv-loop μ-loop
+plus-requires c κs = search needs
+
+behind-requires : tie.Need-behind-requires Inv-loop μ-loop
+behind-requires c κs =
+    let (inside, within, verdict, read, walked) = c .before .before .before .before .before .before .before .before .before .before .loop .inv in
+    let here = c .before .before .before .before .before .before .before .before .before .loop-test .taken in
+    let (ready, number) = operator-ready within walked here in
+    (ready, number, walked-capacity walked (sym (path-operator _ _ here)) (sym (c .before .before .figure .given .1) ∙ planned-at (c .before .before .before .before)))
+
+add-k : tie.Need-add-k Inv-loop μ-loop
+add-k c = omega (arith, c .before .before .before .before .before .before .before .before .before .before .loop-test .taken, c .before .before .before .before .before .before .before .before .before .before .before .loop .inv .1 .few)
+
+loop-less : tie.Need-loop-less Inv-loop μ-loop
+loop-less c = omega arith
+
+loop-again : tie.Need-loop-again Inv-loop μ-loop
+loop-again c =
+    let (inside, within, verdict, read, walked) = c .before .before .before .before .before .before .before .before .before .before .before .loop .inv in
+    let here = c .before .before .before .before .before .before .before .before .before .before .loop-test .taken in
+    let few = within .few in
+    let planned = sym (c .before .before .before .figure .given .1) ∙ planned-at (c .before .before .before .before .before) in
+    let (carries, lent, burst) = c .behind .ensures in (
+      omega (arith, here),
+      within,
+      verdict,
+      read,
+      walked-next walked (omega (arith, here, few)) (sym (path-operator _ _ here)) planned carries lent burst (delay-counted within walked here planned (c .before .plus .ensures)),
+    )
+
+refused-requires-2 : tie.Need-refused-requires-2 Inv-loop μ-loop
+refused-requires-2 c κs = search needs
+
+returns-3 : tie.Need-returns-3 Inv-loop μ-loop
+returns-3 c = c .refused2 .ensures ∙ late-path (c .before .before .before .before .loop .inv .1) (walked-through (c .before .before .before)) (c .before .if1 .taken) ∙ figures-read (c .before .before .before .before .before)
+
+returns-4 : tie.Need-returns-4 Inv-loop μ-loop
+returns-4 c = rw (c .before .before .before .loop .inv .2, c .before .before .before .loop .inv .3) (accepted-path (c .before .before .before .loop .inv .1) (walked-through (c .before .before)) (c .if1 .left) ∙ figures-read (c .before .before .before .before))
+
+pub figures-read-spec : {M : Type 1} → statement M
+figures-read-spec =
+    tie.close
+    (tie.spec
+    Inv-loop
+    μ-loop
+    no-figure-requires
+    enum-told
+    returns
+    enum-told-2
+    start-requires
+    loop-holds
+    mul-linked
+    element-copy-out-linked
+    next-operator-requires
+    mul-following
+    element-copy-out-following
+    add-next
+    paired-requires
+    plan-requires
+    enum-known-why
+    refused-requires
+    returns-2
+    enum-known-figure
+    mul-figure
+    element-set-from-figure
+    plus-requires
+    behind-requires
+    add-k
+    loop-less
+    loop-again
+    refused-requires-2
+    returns-3
+    returns-4)

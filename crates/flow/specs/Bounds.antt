@@ -1,0 +1,55 @@
+-- Document 02, item 6: the most that several rows allow, as a table.
+use Prim.Native.Nat.{ℕ, _≤_, _<_}
+use mathlib.Core.Bool.{Bool}
+use mathlib.Core.List.{List, []}
+use lib.ListN.{length, getD}
+use lib.Dec.{eqb}
+use Rattle.quantity.specs.Choice.{pick, both}
+use Rattle.quantity.specs.Sums.{listOf}
+use Rattle.flow.specs.Rows.{Row, rowsMost}
+use Rattle.flow.specs.Classes.{Class, smooth, uniform, rows}
+use Rattle.flow.specs.Declarations.{hasRows, severalAt, declarationInRange}
+use Rattle.flow.specs.declared.Declaration.{Declaration}
+
+-- the most in 0 to 1,024 slots
+abbrev pub boundLength : ℕ
+boundLength = 1_025
+
+-- entry n is the most in n slots
+abbrev pub boundOf : Declaration → List ℕ
+boundOf declared = listOf (rowsMost (severalAt declared) (declared .count)) boundLength
+
+-- there are rows in their ranges, and the table that is lent has its length
+unfoldable pub boundable : Declaration → List ℕ → Bool
+boundable declared lent = both (eqb (length lent) boundLength) (both (hasRows (declared .kind)) (declarationInRange declared))
+
+-- what the table holds then, and else what it held
+unfoldable pub boundFilled : Declaration → List ℕ → List ℕ
+boundFilled declared lent = pick (boundable declared lent) (boundOf declared) lent
+
+-- row i of an array of pairs: the interval and the quota
+abbrev pub pairAt : List (List ℕ) → ℕ → Row
+pairAt pairs i = record { interval = getD (getD pairs i []) 0 0; quota = getD (getD pairs i []) 1 0 }
+
+-- a row in its ranges
+pub record RowInside (row : Row) : Type 0 where
+  pub large : 1 ≤ row .interval
+  pub short : row .interval ≤ 1_024
+  pub some : 1 ≤ row .quota
+  pub few : row .quota ≤ 65_535
+
+-- so the first k rows
+abbrev pub RowsInside : (ℕ → Row) → ℕ → Type 0
+RowsInside given k = (i : ℕ) → i < k → RowInside (given i)
+
+-- a class whose numbers fit what is worked out of it: an interval and a quota that refusal 7 lets pass
+pub record PairWithin (m Q : ℕ) : Type 0 where
+  pub least : 1 ≤ m
+  pub most : m ≤ 1024
+  pub quota : Q ≤ 67_108_863
+
+-- and rows that are declared ones
+abbrev pub ClassWithin : Class → Type 0
+ClassWithin (smooth m Q) = PairWithin m Q
+ClassWithin (uniform m Q) = PairWithin m Q
+ClassWithin (rows given k) = (1 ≤ k) × (k ≤ 4) × RowsInside given k

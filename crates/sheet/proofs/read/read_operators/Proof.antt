@@ -1,0 +1,195 @@
+-- Each turn judges the field that is due, then its body: the invariant says what is read so far and that the rest decides.
+use borrow.Author.Needs.{needs}
+use Prim.Native.Nat.{_+_, _-_, _≤_}
+use mathlib.Core.Path.{_≡_, sym, _∙_}
+use native.Mathlib.Omega.{arith}
+use denote.Ref.{now}
+use lib.ListN.{length, set}
+use Rattle.quantity.proofs.Laws.{Told, told}
+use Rattle.sheet.specs.Bodies.{operatorIn, operatorFits}
+use Rattle.sheet.specs.Fields.{bodyAt}
+use Rattle.sheet.specs.declared.read.ReadLinked.{ReadLinked}
+use Rattle.sheet.proofs.ReadLaws.{field-inside, handed-body, handed-length}
+use Rattle.sheet.proofs.OperatorsRead.{begunFrom, Reading, Passed, reading-first, header-refuses, body-refuses, operator-passes, reading-next, end-refuses, end-accepts}
+use Rattle.sheet.proofs.read.read_operators.Statement.{statement}
+use Rattle.sheet.proofs.read.read_operators.Tie as tie
+
+abbrev Inv-loop : tie.InvT-loop
+Inv-loop sheet from declaration wanted operators₀ count₀ at₀ begun operators count at = Reading sheet from declaration wanted operators count at
+
+abbrev μ-loop : tie.MeasureT-loop
+μ-loop sheet from declaration wanted operators₀ count₀ at₀ begun operators count at = 16 - count
+
+no-linked-operator-requires : tie.Need-no-linked-operator-requires Inv-loop μ-loop
+no-linked-operator-requires c κs = search needs
+
+sub-operators-begun : tie.Need-sub-operators-begun Inv-loop μ-loop
+sub-operators-begun c = omega (arith, c .before .before .pre .1)
+
+operators-begun-requires : tie.Need-operators-begun-requires Inv-loop μ-loop
+operators-begun-requires c κs = search needs
+
+loop-holds : tie.Need-loop-holds Inv-loop μ-loop
+loop-holds c =
+    let a = c .before .before .before .args in
+    rw (c .before .no-linked-operator .ensures) (reading-first (now (a .sheet)) (a .from) (a .declaration) (a .wanted))
+
+field-at-requires : tie.Need-field-at-requires Inv-loop μ-loop
+field-at-requires c κs = omega (arith, c .loop .inv .few, c .loop .inv .begins, c .before .before .before .before .pre .0)
+
+enum-known-why : tie.Need-enum-known-why Inv-loop μ-loop
+enum-known-why c = search needs
+
+without-path-requires : tie.Need-without-path-requires Inv-loop μ-loop
+without-path-requires c κs = search needs
+
+returns : tie.Need-returns Inv-loop μ-loop
+returns c =
+    let at-loop = c .before .before .before .before .before in
+    let a = at-loop .before .before .before .before .args in
+    let sheet = now (a .sheet) in
+    c .without-path .ensures ∙ sym (header-refuses sheet (a .from) (a .declaration) (a .wanted) _ _ _ (at-loop .loop .inv) (c .before .before .before .before .field-at .ensures) (c .before .before .why .given .1))
+
+enum-told : tie.Need-enum-told Inv-loop μ-loop
+enum-told c = search needs
+
+-- the field that is judged whole lies in the sheet
+inside : (c : tie.After-enum-told Inv-loop μ-loop) → let at-loop = c .before .before .before in at-loop .loop .at + 3 + 6 ≤ length (now (at-loop .before .before .before .before .args .sheet))
+inside c = field-inside _ _ 3 6 (c .before .before .field-at .ensures) (c .enum-told .given .1)
+
+add-start : tie.Need-add-start Inv-loop μ-loop
+add-start c = omega (arith, inside c, c .before .before .before .loop .inv .few, c .before .before .before .loop .inv .begins, c .before .before .before .before .before .before .before .pre .0)
+
+add-end : tie.Need-add-end Inv-loop μ-loop
+add-end c = omega (arith, c .before .before .before .loop .inv .few, c .before .before .before .loop .inv .begins, c .before .before .before .before .before .before .before .pre .0)
+
+sub-read-linked : tie.Need-sub-read-linked Inv-loop μ-loop
+sub-read-linked c = omega arith
+
+part-read-linked-start : tie.Need-part-read-linked-start Inv-loop μ-loop
+part-read-linked-start c = omega arith
+
+part-read-linked-end : tie.Need-part-read-linked-end Inv-loop μ-loop
+part-read-linked-end c = omega (arith, inside c)
+
+read-linked-requires : tie.Need-read-linked-requires Inv-loop μ-loop
+read-linked-requires c κs = handed-length _ _ 6 (inside (c .before))
+
+-- what the reader answers of the body
+answered : (c : tie.After-read-linked Inv-loop μ-loop)
+    → let at-loop = c .before .before .before .before .before in let body = bodyAt (now (at-loop .before .before .before .before .args .sheet)) (at-loop .loop .at) 6 in Told (operatorFits body) (operatorIn body) ReadLinked.Fits ReadLinked.OutOfRange (c .read-linked .result)
+answered c =
+    let at-loop = c .before .before .before .before .before in
+    told _ _ _ _ (λ k e. cc) (λ j k e. cc) (rw (handed-body (now (at-loop .before .before .before .before .args .sheet)) (at-loop .loop .at) 6) at (c .read-linked .ensures))
+
+enum-known-linked : tie.Need-enum-known-linked Inv-loop μ-loop
+enum-known-linked c = search needs
+
+enum-told-2 : tie.Need-enum-told-2 Inv-loop μ-loop
+enum-told-2 c = search needs
+
+without-path-requires-2 : tie.Need-without-path-requires-2 Inv-loop μ-loop
+without-path-requires-2 c κs = search needs
+
+returns-2 : tie.Need-returns-2 Inv-loop μ-loop
+returns-2 c =
+    let read = c .before .before .before in
+    let whole = read .before .before in
+    let at-loop = whole .before .before .before in
+    let a = at-loop .before .before .before .before .args in
+    let outside = answered read .outside (c .before .enum-told2 .given .1) in
+    c .without-path2 .ensures ∙ sym (body-refuses (now (a .sheet)) (a .from) (a .declaration) (a .wanted) _ _ _ (at-loop .loop .inv) (whole .before .before .field-at .ensures) (whole .enum-told .given .1) outside)
+
+-- the operator that was read is the body's, and is stored
+stored : (c : tie.After-known-told2 Inv-loop μ-loop)
+    → let at-loop = c .before .before .before .before .before .before .before .before in let a = at-loop .before .before .before .before .args in Passed (now (a .sheet)) (a .from) (a .declaration) (a .wanted) (set (at-loop .loop .operators) (at-loop .loop .count) (c .before .linked .given .0 .0)) (at-loop .loop .count + 1) (at-loop .loop .at + 3 + 6)
+stored c =
+    let whole = c .before .before .before .before .before in
+    let at-loop = whole .before .before .before in
+    let a = at-loop .before .before .before .before .args in
+    let (fits, same) = answered (c .before .before .before) .within (c .before .linked .given .1) in
+    operator-passes (now (a .sheet)) (a .from) (a .declaration) (a .wanted) _ _ _ (at-loop .loop .inv) (whole .before .before .field-at .ensures) (whole .enum-told .given .1) fits _ same _ (omega arith)
+
+-- how many operators begin
+all-begun : (c : tie.After-known-told2 Inv-loop μ-loop) → let begun = c .before .before .before .before .before .before .before .before .before in begun .operators-begun .result ≡ begunFrom (now (begun .before .before .before .args .sheet)) (begun .before .before .before .args .from)
+all-begun c = c .before .before .before .before .before .before .before .before .before .operators-begun .ensures
+
+mul-operators : tie.Need-mul-operators Inv-loop μ-loop
+mul-operators c = omega (arith, c .before .before .before .before .before .before .before .before .loop .inv .few)
+
+array-set-from-operators : tie.Need-array-set-from-operators Inv-loop μ-loop
+array-set-from-operators c = omega (arith, c .before .before .before .before .before .before .before .before .loop .inv .few)
+
+add-count : tie.Need-add-count Inv-loop μ-loop
+add-count c = omega (arith, c .before .before .before .before .before .before .before .before .loop .inv .few)
+
+loop-less : tie.Need-loop-less Inv-loop μ-loop
+loop-less c = omega (arith, c .before .before .before .before .before .before .before .before .before .loop .inv .few)
+
+loop-again : tie.Need-loop-again Inv-loop μ-loop
+loop-again c = let read = stored (c .before) in reading-next _ _ _ _ _ _ _ read (λ e. c .if1 .left (e ∙ sym (all-begun (c .before))))
+
+ended-requires : tie.Need-ended-requires Inv-loop μ-loop
+ended-requires c κs = stored (c .before) .inside
+
+enum-known-why-2 : tie.Need-enum-known-why-2 Inv-loop μ-loop
+enum-known-why-2 c = search needs
+
+without-path-requires-3 : tie.Need-without-path-requires-3 Inv-loop μ-loop
+without-path-requires-3 c κs = search needs
+
+returns-3 : tie.Need-returns-3 Inv-loop μ-loop
+returns-3 c =
+    let behind = c .before .before .before .before in
+    let last = behind .before in
+    c .without-path3 .ensures ∙ sym (end-refuses _ _ _ _ _ _ _ (stored (last .before)) (last .if1 .taken ∙ all-begun (last .before)) (behind .ended .ensures) (c .before .before .why2 .given .1))
+
+enum-told-3 : tie.Need-enum-told-3 Inv-loop μ-loop
+enum-told-3 c = search needs
+
+accepted-requires : tie.Need-accepted-requires Inv-loop μ-loop
+accepted-requires c κs = search needs
+
+returns-4 : tie.Need-returns-4 Inv-loop μ-loop
+returns-4 c =
+    let behind = c .before .before .before in
+    let last = behind .before in
+    c .accepted .ensures ∙ sym (end-accepts _ _ _ _ _ _ _ (stored (last .before)) (last .if1 .taken ∙ all-begun (last .before)) (behind .ended .ensures) (c .before .enum-told3 .given .1))
+
+pub read-operators-spec : {M : Type 1} → statement M
+read-operators-spec =
+    tie.close
+    (tie.spec
+    Inv-loop
+    μ-loop
+    no-linked-operator-requires
+    sub-operators-begun
+    operators-begun-requires
+    loop-holds
+    field-at-requires
+    enum-known-why
+    without-path-requires
+    returns
+    enum-told
+    add-start
+    add-end
+    sub-read-linked
+    part-read-linked-start
+    part-read-linked-end
+    read-linked-requires
+    enum-known-linked
+    enum-told-2
+    without-path-requires-2
+    returns-2
+    mul-operators
+    array-set-from-operators
+    add-count
+    loop-less
+    loop-again
+    ended-requires
+    enum-known-why-2
+    without-path-requires-3
+    returns-3
+    enum-told-3
+    accepted-requires
+    returns-4)
