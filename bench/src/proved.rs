@@ -37,6 +37,17 @@ mod exported {
             turns: u64,
         ) -> u64;
 
+        pub fn workload_metering(
+            declared: *const u32,
+            declared_count: usize,
+            slot: u32,
+            words: *mut u32,
+            word_count: usize,
+            inputs: *const u64,
+            input_count: usize,
+            turns: u64,
+        ) -> u64;
+
         pub fn workload_admissions(
             capacity: u32,
             standing: *const u32,
@@ -130,6 +141,21 @@ pub fn slots(
             choices.as_ptr(),
             choices.len(),
             width,
+            turns,
+        )
+    }
+}
+
+pub fn metering(declared: &[u32], slot: u32, words: &mut [u32], inputs: &[u64], turns: u64) -> u64 {
+    unsafe {
+        exported::workload_metering(
+            declared.as_ptr(),
+            declared.len(),
+            slot,
+            words.as_mut_ptr(),
+            words.len(),
+            inputs.as_ptr(),
+            inputs.len(),
             turns,
         )
     }

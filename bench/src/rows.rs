@@ -1,9 +1,12 @@
 //! The rows of the comparison, and whether the two sides agree on many more calls.
 
-use crate::inputs::{Random, SHEET_LENGTH, Slots};
+use crate::inputs::{
+    Inputs, Random, Sheets, Slots, sheet_of, sixteen_a_slot, sixteen_a_slot_in_rows,
+};
 use crate::plain::page::PAGE_MEMORY;
 use crate::plain::run::WORDS;
-use crate::plain::sheet::{Kind, Path, SHEET_MEMORY};
+use crate::plain::sheet::Declaration::{Smooth, Uniform};
+use crate::plain::sheet::{Path, SHEET_MEMORY};
 use crate::turns::mix;
 use crate::{proved, turns};
 
@@ -14,6 +17,7 @@ pub struct Planner {
     reading: fn(&[u8], usize, u64) -> u64,
     writing: fn(&[u8], usize, &mut [u8], u64) -> u64,
     slots: fn(&[u8], &mut [u32], &[u64], &[u64], usize, u64) -> u64,
+    metering: fn(&[u32], u32, &mut [u32], &[u64], u64) -> u64,
     admissions: fn(u32, &[u32], &[u32], &[u8], usize, u64) -> u64,
     releases: fn(u32, &[u32], &[u32], &[u8], usize, u64) -> u64,
     spare_rates: fn(u32, &[u32], &[u32], &[u8], usize, u64) -> u64,
@@ -25,6 +29,7 @@ pub const PROVED: Planner = Planner {
     reading: proved::reading,
     writing: proved::writing,
     slots: proved::slots,
+    metering: proved::metering,
     admissions: proved::admissions,
     releases: proved::releases,
     spare_rates: proved::spare_rates,
@@ -36,6 +41,7 @@ pub const PLAIN: Planner = Planner {
     reading: turns::reading,
     writing: turns::writing,
     slots: turns::slots,
+    metering: turns::metering,
     admissions: turns::admissions,
     releases: turns::releases,
     spare_rates: turns::spare_rates,
@@ -51,7 +57,7 @@ const SHEETS: usize = 63;
 
 #[derive(Clone, Copy)]
 pub enum Calls {
-    Figures,
+    Figures(fn(&mut Random) -> Path),
     Pages,
     Reading,
     Writing,
@@ -66,10 +72,14 @@ pub struct RowKind {
     calls: Calls,
 }
 
-pub const ROWS: [RowKind; 15] = [
+pub const ROWS: [RowKind; 17] = [
     RowKind {
         name: "figures of 16 operators",
-        calls: Calls::Figures,
+        calls: Calls::Figures(Random::path),
+    },
+    RowKind {
+        name: "figures of 16 operators, four rows, m = 1,024",
+        calls: Calls::Figures(Random::slower_and_slower),
     },
     RowKind {
         name: "page of 16 operators",
@@ -85,35 +95,39 @@ pub const ROWS: [RowKind; 15] = [
     },
     RowKind {
         name: "slot, 1 operator, smooth, m = 1,024",
-        calls: Calls::Slots(|random| random.one_filter(Kind::Smooth, 1_024)),
+        calls: Calls::Slots(|random| random.one_filter(Smooth(sixteen_a_slot(1_024)))),
     },
     RowKind {
         name: "slot, 1 operator, uniform, m = 1",
-        calls: Calls::Slots(|random| random.one_filter(Kind::Uniform, 1)),
+        calls: Calls::Slots(|random| random.one_filter(Uniform(sixteen_a_slot(1)))),
     },
     RowKind {
         name: "slot, 1 operator, uniform, m = 32",
-        calls: Calls::Slots(|random| random.one_filter(Kind::Uniform, 32)),
+        calls: Calls::Slots(|random| random.one_filter(Uniform(sixteen_a_slot(32)))),
     },
     RowKind {
         name: "slot, 1 operator, uniform, m = 1,024",
-        calls: Calls::Slots(|random| random.one_filter(Kind::Uniform, 1_024)),
+        calls: Calls::Slots(|random| random.one_filter(Uniform(sixteen_a_slot(1_024)))),
+    },
+    RowKind {
+        name: "slot, 1 operator, four rows, m = 1,024",
+        calls: Calls::Slots(|random| random.one_filter(sixteen_a_slot_in_rows())),
     },
     RowKind {
         name: "slot, 16 operators, smooth, m = 1,024",
-        calls: Calls::Slots(|random| random.mixed(Kind::Smooth, 1_024)),
+        calls: Calls::Slots(|random| random.mixed(Smooth(sixteen_a_slot(1_024)))),
     },
     RowKind {
         name: "slot, 16 operators, uniform, m = 1,024",
-        calls: Calls::Slots(|random| random.mixed(Kind::Uniform, 1_024)),
+        calls: Calls::Slots(|random| random.mixed(Uniform(sixteen_a_slot(1_024)))),
     },
     RowKind {
         name: "slot, 16 delayers of 64, smooth, m = 1,024",
-        calls: Calls::Slots(|random| random.delayers(Kind::Smooth, 1_024)),
+        calls: Calls::Slots(|random| random.delayers(Smooth(sixteen_a_slot(1_024)))),
     },
     RowKind {
         name: "slot, 16 delayers of 64, uniform, m = 1,024",
-        calls: Calls::Slots(|random| random.delayers(Kind::Uniform, 1_024)),
+        calls: Calls::Slots(|random| random.delayers(Uniform(sixteen_a_slot(1_024)))),
     },
     RowKind {
         name: "admission into a ledger of 63",
@@ -136,11 +150,12 @@ pub struct Row {
 }
 
 enum Given {
-    Figures(Vec<u8>),
-    Pages(Vec<u8>),
-    Reading(Vec<u8>),
-    Writing(Vec<u8>),
+    Figures(Sheets),
+    Pages(Sheets),
+    Reading(Sheets),
+    Writing(Sheets),
     Slots(Slots),
+    Metering(Inputs),
     Admissions(Paths),
     Releases(Paths),
     SpareRates(Paths),
@@ -150,7 +165,7 @@ struct Paths {
     capacity: u32,
     standing: Vec<u32>,
     numbers: Vec<u32>,
-    sheets: Vec<u8>,
+    sheets: Sheets,
 }
 
 impl RowKind {
@@ -158,10 +173,10 @@ impl RowKind {
     pub fn with_calls(&self, calls: usize) -> Row {
         let mut random = Random::new(1);
         let given = match self.calls {
-            Calls::Figures => Given::Figures(random.sheets(SHEETS)),
-            Calls::Pages => Given::Pages(random.sheets(SHEETS)),
-            Calls::Reading => Given::Reading(random.sheets(SHEETS)),
-            Calls::Writing => Given::Writing(random.sheets(SHEETS)),
+            Calls::Figures(path) => Given::Figures(random.sheets(SHEETS, path)),
+            Calls::Pages => Given::Pages(random.sheets(SHEETS, Random::path)),
+            Calls::Reading => Given::Reading(random.sheets(SHEETS, Random::path)),
+            Calls::Writing => Given::Writing(random.sheets(SHEETS, Random::path)),
             Calls::Slots(path) => {
                 let path = path(&mut random);
                 Given::Slots(Slots::taken(&mut random, &path, calls))
@@ -172,7 +187,7 @@ impl RowKind {
                     capacity: CAPACITY,
                     standing: numbers[..STANDING].to_vec(),
                     numbers: numbers[STANDING..].to_vec(),
-                    sheets: random.sheets(SHEETS),
+                    sheets: random.sheets(SHEETS, Random::path),
                 })
             }
             Calls::Releases => {
@@ -181,14 +196,14 @@ impl RowKind {
                     capacity: CAPACITY,
                     numbers: standing.clone(),
                     standing,
-                    sheets: random.sheets(SHEETS),
+                    sheets: random.sheets(SHEETS, Random::path),
                 })
             }
             Calls::SpareRates => Given::SpareRates(Paths {
                 capacity: CAPACITY,
                 standing: random.path_numbers(STANDING),
                 numbers: (0..16).collect(),
-                sheets: random.sheets(SHEETS),
+                sheets: random.sheets(SHEETS, Random::path),
             }),
         };
         Row {
@@ -208,19 +223,20 @@ impl Row {
 impl Given {
     fn play(&self, planner: &Planner, calls: u64) -> u64 {
         match self {
-            Given::Figures(sheets) => (planner.figures)(sheets, SHEET_LENGTH, calls),
-            Given::Pages(sheets) => {
-                let mut lent = [0; PAGE_MEMORY];
-                let sum = (planner.pages)(sheets, SHEET_LENGTH, &mut lent, calls);
+            Given::Figures(Sheets { bytes, width }) => (planner.figures)(bytes, *width, calls),
+            Given::Pages(Sheets { bytes, width }) => {
+                let mut lent = [0xFF; PAGE_MEMORY];
+                let sum = (planner.pages)(bytes, *width, &mut lent, calls);
                 mix_bytes(sum, &lent)
             }
-            Given::Reading(sheets) => (planner.reading)(sheets, SHEET_LENGTH, calls),
-            Given::Writing(sheets) => {
+            Given::Reading(Sheets { bytes, width }) => (planner.reading)(bytes, *width, calls),
+            Given::Writing(Sheets { bytes, width }) => {
                 let mut written = [0; SHEET_MEMORY];
-                let sum = (planner.writing)(sheets, SHEET_LENGTH, &mut written, calls);
+                let sum = (planner.writing)(bytes, *width, &mut written, calls);
                 mix_bytes(sum, &written)
             }
             Given::Slots(slots) => slots.play(planner, calls),
+            Given::Metering(inputs) => inputs.play(planner, calls),
             Given::Admissions(paths) => paths.play(planner.admissions, calls),
             Given::Releases(paths) => paths.play(planner.releases, calls),
             Given::SpareRates(paths) => paths.play(planner.spare_rates, calls),
@@ -232,6 +248,12 @@ fn mix_bytes(sum: u64, bytes: &[u8]) -> u64 {
     bytes
         .iter()
         .fold(sum, |sum, &byte| mix(sum, u64::from(byte)))
+}
+
+fn mix_words(sum: u64, words: &[u32]) -> u64 {
+    words
+        .iter()
+        .fold(sum, |sum, &word| mix(sum, u64::from(word)))
 }
 
 impl Slots {
@@ -253,9 +275,15 @@ impl Slots {
             sum = mix(sum, played);
             left -= turns;
         }
-        words
-            .iter()
-            .fold(sum, |sum, &word| mix(sum, u64::from(word)))
+        mix_words(sum, &words)
+    }
+}
+
+impl Inputs {
+    fn play(&self, planner: &Planner, calls: u64) -> u64 {
+        let mut words = self.words.clone();
+        let sum = (planner.metering)(&self.declared, self.slot, &mut words, &self.inputs, calls);
+        mix_words(sum, &words)
     }
 }
 
@@ -265,8 +293,8 @@ impl Paths {
             self.capacity,
             &self.standing,
             &self.numbers,
-            &self.sheets,
-            SHEET_LENGTH,
+            &self.sheets.bytes,
+            self.sheets.width,
             calls,
         )
     }
@@ -276,80 +304,74 @@ impl Paths {
 pub fn answers_agree() -> Result<u64, String> {
     let mut random = Random::new(2);
     let mut calls = 0;
-    let mut agree = |what: &str, given: &Given, turns: u64| {
+    let mut agree = |given: &Given, turns: u64| {
         calls += turns;
-        if given.play(&PROVED, turns) == given.play(&PLAIN, turns) {
-            Ok(())
-        } else {
-            Err(what.to_string())
-        }
+        given.play(&PROVED, turns) == given.play(&PLAIN, turns)
     };
-    for turn in 0..200 {
-        let sheet = if turn < 100 {
-            random.sheets(1)
-        } else {
-            random.house()
+    for turn in 0..300 {
+        let sheet = match turn / 100 {
+            0 => sheet_of(&random.path()),
+            1 => random.house(),
+            _ => sheet_of(&random.path_of_several()),
         };
+        if !agree(&Given::Writing(Sheets::one(&sheet)), 64) {
+            return Err(format!("writing {sheet:02X?}"));
+        }
         for _ in 0..200 {
             let damaged = random.damaged(&sheet);
-            for (what, answered) in [
-                ("figures", [PROVED.figures, PLAIN.figures]),
-                ("reading", [PROVED.reading, PLAIN.reading]),
+            for (what, calls_on, turns) in [
+                ("figures", Given::Figures as fn(Sheets) -> Given, 16),
+                ("reading", Given::Reading, 1),
+                ("the page", Given::Pages, 1),
             ] {
-                let [proved, plain] = answered.map(|answer| answer(&damaged, damaged.len(), 16));
-                if proved != plain {
+                if !agree(&calls_on(Sheets::one(&damaged)), turns) {
                     return Err(format!("{what} of {damaged:02X?}"));
                 }
             }
-            let [proved, plain] = [PROVED.pages, PLAIN.pages].map(|paged| {
-                let mut lent = [0xFF; PAGE_MEMORY];
-                let sum = paged(&damaged, damaged.len(), &mut lent, 1);
-                mix_bytes(sum, &lent)
-            });
-            if proved != plain {
-                return Err(format!("the page of {damaged:02X?}"));
-            }
         }
     }
-    for _ in 0..100 {
-        agree("slots", &Given::Slots(Slots::any(&mut random, 500)), 500)?;
+    for turn in 0..200 {
+        let path = if turn < 100 {
+            random.path()
+        } else {
+            random.path_of_several()
+        };
+        if !agree(&Given::Slots(Slots::any(&mut random, &path, 500)), 500) {
+            return Err(format!("slots of {:02X?}", sheet_of(&path)));
+        }
     }
-    for turn in 0..100 {
+    for _ in 0..400 {
+        let inputs = Inputs::any(&mut random, 300);
+        let declared = inputs.declared;
+        if !agree(&Given::Metering(inputs), 300) {
+            return Err(format!("a meter of {declared:?}"));
+        }
+    }
+    for turn in 0..200 {
         let count = 55 + turn % 10;
         let mut numbers = random.path_numbers(80);
         numbers.extend_from_within(..20);
-        let paths = || Paths {
-            capacity: 1 << 10 + turn / 10,
-            standing: numbers[..count].to_vec(),
-            numbers: numbers[50..].to_vec(),
-            sheets: Vec::new(),
+        let path = if turn < 100 {
+            Random::path
+        } else {
+            Random::path_of_four
         };
-        let sheets = random.sheets(40);
-        agree(
-            "admissions",
-            &Given::Admissions(Paths {
+        let sheets = random.sheets(40, path);
+        for (what, calls_on, asked) in [
+            ("admissions", Given::Admissions as fn(Paths) -> Given, None),
+            ("releases", Given::Releases, None),
+            ("spare rates", Given::SpareRates, Some((0..18).collect())),
+        ] {
+            let paths = Paths {
+                capacity: 1 << 10 + turn % 100 / 10,
+                standing: numbers[..count].to_vec(),
+                numbers: asked.unwrap_or_else(|| numbers[50..].to_vec()),
                 sheets: sheets.clone(),
-                ..paths()
-            }),
-            200,
-        )?;
-        agree(
-            "releases",
-            &Given::Releases(Paths {
-                sheets: sheets.clone(),
-                ..paths()
-            }),
-            200,
-        )?;
-        agree(
-            "spare rates",
-            &Given::SpareRates(Paths {
-                numbers: (0..18).collect(),
-                sheets,
-                ..paths()
-            }),
-            200,
-        )?;
+            };
+            if !agree(&calls_on(paths), 200) {
+                return Err(what.to_string());
+            }
+        }
     }
-    Ok(calls + 200 * 200 * (2 * 16 + 1))
+    Ok(calls)
 }

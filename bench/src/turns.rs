@@ -3,9 +3,10 @@
 use crate::plain::Refusal;
 use crate::plain::figures::figures as figures_of;
 use crate::plain::ledger::{LINKS, Ledger, RECORDS, Record};
+use crate::plain::meter::Meter;
 use crate::plain::page::page;
 use crate::plain::run::Run;
-use crate::plain::sheet::{Path, read, write};
+use crate::plain::sheet::{Declaration, Path, Row, Rows, read, write};
 
 /// A checksum with one more number.
 pub fn mix(sum: u64, number: u64) -> u64 {
@@ -67,11 +68,25 @@ fn mix_path(sum: u64, path: &Path) -> u64 {
     let place = path.places[15];
     let sum = mix(sum, path.count as u64);
     let sum = mix(sum, u64::from(path.wanted));
-    let sum = mix(sum, u64::from(path.declaration.interval));
-    let sum = mix(sum, u64::from(path.declaration.quota));
+    let sum = mix_declaration(sum, &path.declaration);
     let sum = mix(sum, u64::from(place.link));
     let sum = mix(sum, u64::from(place.operator.kind()));
     mix(sum, u64::from(place.operator.number()))
+}
+
+fn mix_declaration(sum: u64, declaration: &Declaration) -> u64 {
+    match declaration {
+        Declaration::Smooth(row) => mix_row(mix(sum, 0), row),
+        Declaration::Uniform(row) => mix_row(mix(sum, 1), row),
+        Declaration::Rows(several) => {
+            let sum = mix(mix(sum, 2), several.count as u64);
+            several.rows.iter().fold(sum, mix_row)
+        }
+    }
+}
+
+fn mix_row(sum: u64, row: &Row) -> u64 {
+    mix(mix(sum, u64::from(row.interval)), u64::from(row.quota))
 }
 
 pub fn writing(sheets: &[u8], width: usize, written: &mut [u8], turns: u64) -> u64 {
@@ -115,11 +130,44 @@ pub fn slots(
         t = after(t, 1, inputs.len());
         at = after(at, width, choices.len());
     }
-    sum = mix(mix(sum, u64::from(run.slot)), run.block);
+    sum = mix(mix(sum, u64::from(run.meter.slot)), run.meter.block);
     for stage in run.stages {
         sum = mix(mix(sum, stage.held), stage.beside);
     }
     sum
+}
+
+/// The numbers of a declaration: its kind (0 smooth, 1 uniform, else rows), how many rows it has, and four rows, of which smooth and uniform have the first.
+fn declaration_of(&[kind, count, ref rows @ ..]: &[u32; 10]) -> Declaration {
+    let rows: [Row; 4] = std::array::from_fn(|k| Row {
+        interval: rows[2 * k],
+        quota: rows[2 * k + 1],
+    });
+    match kind {
+        0 => Declaration::Smooth(rows[0]),
+        1 => Declaration::Uniform(rows[0]),
+        _ => Declaration::Rows(Rows {
+            count: count as usize,
+            rows,
+        }),
+    }
+}
+
+pub fn metering(declared: &[u32], slot: u32, words: &mut [u32], inputs: &[u64], turns: u64) -> u64 {
+    let declared = declared.try_into().expect("ten numbers");
+    let mut meter = Meter {
+        slot,
+        ..Meter::new(declaration_of(declared))
+    };
+    let (mut sum, mut t) = (0, 0);
+    for _ in 0..turns {
+        sum = match meter.take(words, inputs[t]) {
+            Err(why) => mix_refusal(sum, why),
+            Ok(()) => mix(sum, 0),
+        };
+        t = after(t, 1, inputs.len());
+    }
+    mix(mix(sum, u64::from(meter.slot)), meter.block)
 }
 
 fn filled(

@@ -52,9 +52,10 @@ pub struct Ledger {
     pub count: usize,
 }
 
-/// What a path reserves on each link that it names.
-fn reserved_by(declaration: Declaration) -> u32 {
-    declaration.quota.div_ceil(declaration.interval)
+/// What a path reserves on each link that it names: by its last row.
+fn reserved_by(declaration: &Declaration) -> u32 {
+    let row = declaration.last_row();
+    row.quota.div_ceil(row.interval)
 }
 
 fn links_of(path: &Path) -> u32 {
@@ -107,7 +108,7 @@ impl Ledger {
         }
         let record = Record {
             number,
-            rate: reserved_by(figures.path.declaration),
+            rate: reserved_by(&figures.path.declaration),
             links: links_of(&figures.path),
         };
         for link in 0..LINKS {

@@ -1,15 +1,18 @@
-//! The planner's calls in plain Rust, written from document 01 alone.
+//! The planner's calls in plain Rust, written from documents 01 and 02 alone.
 
+mod bound;
 pub mod figures;
 pub mod ledger;
+pub mod meter;
 pub mod page;
 pub mod run;
 pub mod sheet;
+mod words;
 
 /// The largest amount that is given or stored.
 pub const LARGEST: u64 = 1_073_741_823;
 
-/// The refusals of section 7 in checking order, with their places.
+/// The refusals of section 7 and of document 02, with their places.
 #[derive(Clone, Copy, Debug, PartialEq, Eq)]
 pub enum Refusal {
     Unusable,
@@ -26,6 +29,7 @@ pub enum Refusal {
     LinkShort,
     InputBreaksDeclaration,
     ChoiceAboveGreatest(usize),
+    RowsOutOfOrder(usize),
 }
 
 impl Refusal {
@@ -45,6 +49,7 @@ impl Refusal {
             Refusal::LinkShort => 12,
             Refusal::InputBreaksDeclaration => 13,
             Refusal::ChoiceAboveGreatest(_) => 14,
+            Refusal::RowsOutOfOrder(_) => 15,
         }
     }
 
@@ -57,7 +62,8 @@ impl Refusal {
             | Refusal::FramedAfterFilter(at)
             | Refusal::FigureTooLarge(at)
             | Refusal::RateTooLow(at)
-            | Refusal::ChoiceAboveGreatest(at) => at,
+            | Refusal::ChoiceAboveGreatest(at)
+            | Refusal::RowsOutOfOrder(at) => at,
             _ => 0,
         }
     }

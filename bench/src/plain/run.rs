@@ -1,17 +1,15 @@
-//! A path run slot by slot (sections 2, 3 and 6).
+//! A path run slot by slot (sections 3 and 6).
 
 use super::figures::figures;
-use super::sheet::{Declaration, Kind, MOST_OPERATORS, Operator};
+use super::meter::{METER_WORDS, Meter};
+use super::sheet::{MOST_OPERATORS, Operator};
+use super::words::{all_zero, sum};
 use super::{LARGEST, Refusal};
 
 /// The words that a run is lent: 1,024 of the meter, then 64 of each operator.
 pub const WORDS: usize = 2_048;
 
-const METER_WORDS: usize = 1_024;
-
 const OPERATOR_WORDS: usize = 64;
-
-const LAST_SLOT: u32 = 1_073_741_822;
 
 /// An operator with section 3's b and a filter's h. A delayer's b is in its words alone.
 #[derive(Clone, Copy, Debug, PartialEq, Eq)]
@@ -70,24 +68,9 @@ struct Move {
 
 #[derive(Clone, Copy, Debug, PartialEq, Eq)]
 pub struct Run {
-    pub declaration: Declaration,
-    pub slot: u32,
-    /// The block's total under a smooth declaration.
-    pub block: u64,
+    pub meter: Meter,
     pub count: usize,
     pub stages: [Stage; MOST_OPERATORS],
-}
-
-fn all_zero(words: &[u32]) -> bool {
-    words.iter().all(|&word| word == 0)
-}
-
-/// The sum of the words, each of which is an amount stored.
-fn sum(words: &[u32]) -> Result<u64, Refusal> {
-    if words.iter().any(|&word| u64::from(word) > LARGEST) {
-        return Err(Refusal::Unusable);
-    }
-    Ok(words.iter().map(|&word| u64::from(word)).sum())
 }
 
 /// A delayer's words after a slot: `leaving` units leave beyond those that are due, the oldest first.
@@ -114,9 +97,7 @@ impl Run {
         let path = figures(sheet)?.path;
         words.fill(0);
         Ok(Run {
-            declaration: path.declaration,
-            slot: 0,
-            block: 0,
+            meter: Meter::new(path.declaration),
             count: path.count,
             stages: path.places.map(|place| Stage {
                 operator: place.operator,
@@ -133,27 +114,25 @@ impl Run {
         {
             return Err(Refusal::Unusable);
         }
-        let (counted, held) = self.test(words)?;
-        if counted + input > u64::from(self.declaration.quota) {
+        let (room, held) = self.test(words)?;
+        if room.is_none_or(|room| input > room) {
             return Err(Refusal::InputBreaksDeclaration);
         }
         let (moves, output) = self.decide(words, &held, input, choices)?;
-        self.write(words, counted, input, choices, &moves);
+        self.write(words, input, choices, &moves);
         Ok(output)
     }
 
-    /// Tests all that is stored and lent. Answers the units that count with the next input, and section 3's b of each operator.
-    fn test(&self, words: &[u32]) -> Result<(u64, [u64; MOST_OPERATORS]), Refusal> {
-        if words.len() != WORDS
-            || self.count == 0
-            || self.count > MOST_OPERATORS
-            || self.slot > LAST_SLOT
-            || !self.declaration.in_range()
-        {
+    /// Tests all that is stored and lent. Answers the most that the next input may be, if any keeps the declaration, and section 3's b of each operator.
+    fn test(&self, words: &[u32]) -> Result<(Option<u64>, [u64; MOST_OPERATORS]), Refusal> {
+        if words.len() != WORDS || self.count == 0 || self.count > MOST_OPERATORS {
             return Err(Refusal::Unusable);
         }
         let (meter_words, operator_words) = words.split_at(METER_WORDS);
-        let counted = self.test_meter(meter_words)?;
+        let room = self
+            .meter
+            .test(meter_words)
+            .map_err(|_| Refusal::Unusable)?;
         let mut held = [0; MOST_OPERATORS];
         for (k, words) in operator_words.chunks_exact(OPERATOR_WORDS).enumerate() {
             let stage = &self.stages[k];
@@ -163,27 +142,7 @@ impl Run {
                 return Err(Refusal::Unusable);
             }
         }
-        Ok((counted, held))
-    }
-
-    fn test_meter(&self, words: &[u32]) -> Result<u64, Refusal> {
-        let interval = self.declaration.interval;
-        let at = self.slot % interval;
-        match self.declaration.kind {
-            Kind::Smooth => {
-                if self.block > LARGEST || !all_zero(words) {
-                    return Err(Refusal::Unusable);
-                }
-                Ok(if at == 0 { 0 } else { self.block })
-            }
-            Kind::Uniform => {
-                let (used, unused) = words.split_at(interval as usize);
-                if self.block != 0 || !all_zero(unused) {
-                    return Err(Refusal::Unusable);
-                }
-                Ok(sum(used)? - u64::from(used[at as usize]))
-            }
-        }
+        Ok((room, held))
     }
 
     /// Decides on all operators, from the left, before anything is written.
@@ -194,6 +153,7 @@ impl Run {
         input: u64,
         choices: &[u64],
     ) -> Result<([Move; MOST_OPERATORS], u64), Refusal> {
+        let slot = self.meter.slot;
         let mut moves = [Move::default(); MOST_OPERATORS];
         let mut arriving = input;
         let mut storable = true;
@@ -207,15 +167,11 @@ impl Run {
                     (sent, sent)
                 }
                 Operator::Compactor(interval) => {
-                    let sent = if self.slot % interval == 0 {
-                        held[k]
-                    } else {
-                        0
-                    };
+                    let sent = if slot % interval == 0 { held[k] } else { 0 };
                     (sent, sent)
                 }
                 Operator::Expander(interval) => {
-                    let last = (self.slot + 1) % interval == 0;
+                    let last = (slot + 1) % interval == 0;
                     (if last { there } else { 0 }, there)
                 }
                 Operator::Filter(rate) => {
@@ -249,15 +205,11 @@ impl Run {
     fn write(
         &mut self,
         words: &mut [u32],
-        counted: u64,
         input: u64,
         choices: &[u64],
         moves: &[Move; MOST_OPERATORS],
     ) {
-        match self.declaration.kind {
-            Kind::Smooth => self.block = counted + input,
-            Kind::Uniform => words[(self.slot % self.declaration.interval) as usize] = input as u32,
-        }
+        self.meter.note(words, input);
         for (k, &choice) in choices.iter().enumerate() {
             let stage = &mut self.stages[k];
             if let Operator::Delayer(delay) = stage.operator {
@@ -272,6 +224,5 @@ impl Run {
                 stage.beside = moves[k].beside;
             }
         }
-        self.slot += 1;
     }
 }

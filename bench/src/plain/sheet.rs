@@ -1,30 +1,152 @@
-//! A path and its sheet (sections 1 and 5; document 02, item 2).
+//! A path and its sheet (sections 1 and 5; document 02, items 2 and 6).
 
 use super::Refusal;
+use std::slice;
 
 pub const MOST_OPERATORS: usize = 16;
+
+/// The most rows of a declaration.
+pub const MOST_ROWS: usize = 4;
 
 /// The length of the memory that the writer is lent.
 pub const SHEET_MEMORY: usize = 256;
 
 const HEADER: usize = 3;
 
-#[derive(Clone, Copy, Debug, PartialEq, Eq)]
-pub enum Kind {
-    Smooth,
-    Uniform,
-}
+const ROW_LENGTH: usize = 6;
 
-#[derive(Clone, Copy, Debug, PartialEq, Eq)]
-pub struct Declaration {
-    pub kind: Kind,
+/// The lengths of whole fields.
+const WANTED_LENGTH: usize = 7;
+
+const OPERATOR_LENGTH: usize = 9;
+
+/// At most so many units in so many slots.
+#[derive(Clone, Copy, Debug, Default, PartialEq, Eq)]
+pub struct Row {
     pub interval: u32,
     pub quota: u32,
 }
 
-impl Declaration {
-    pub fn in_range(&self) -> bool {
+impl Row {
+    /// An interval in two bytes and a quota in four.
+    fn new(&[m0, m1, q0, q1, q2, q3]: &[u8; ROW_LENGTH]) -> Row {
+        Row {
+            interval: u32::from(u16::from_be_bytes([m0, m1])),
+            quota: u32::from_be_bytes([q0, q1, q2, q3]),
+        }
+    }
+
+    fn bytes(&self) -> [u8; ROW_LENGTH] {
+        let [_, _, m0, m1] = self.interval.to_be_bytes();
+        let [q0, q1, q2, q3] = self.quota.to_be_bytes();
+        [m0, m1, q0, q1, q2, q3]
+    }
+
+    fn in_range(&self) -> bool {
         (1..=1_024).contains(&self.interval) && (1..=65_535).contains(&self.quota)
+    }
+}
+
+/// Several rows, all of them binding: the first `count`.
+#[derive(Clone, Copy, Debug, PartialEq, Eq)]
+pub struct Rows {
+    pub count: usize,
+    pub rows: [Row; MOST_ROWS],
+}
+
+impl Rows {
+    fn new<const LENGTH: usize>(body: &[u8; LENGTH]) -> Rows {
+        let mut rows = [Row::default(); MOST_ROWS];
+        for (row, bytes) in rows.iter_mut().zip(body.as_chunks().0) {
+            *row = Row::new(bytes);
+        }
+        Rows {
+            count: LENGTH / ROW_LENGTH,
+            rows,
+        }
+    }
+
+    /// Refusals 5 and 15 of rows whose field begins at a byte.
+    #[inline(never)]
+    fn test(&self, at: usize) -> Result<(), Refusal> {
+        if !(2..=MOST_ROWS).contains(&self.count)
+            || !self.rows[..self.count].iter().all(Row::in_range)
+        {
+            return Err(Refusal::OutOfRange(at));
+        }
+        let rise = |two: &[Row]| two[0].interval < two[1].interval && two[0].quota <= two[1].quota;
+        if !self.rows[..self.count].windows(2).all(rise) {
+            return Err(Refusal::RowsOutOfOrder(at));
+        }
+        Ok(())
+    }
+}
+
+#[derive(Clone, Copy, Debug, PartialEq, Eq)]
+pub enum Declaration {
+    Smooth(Row),
+    Uniform(Row),
+    Rows(Rows),
+}
+
+impl Declaration {
+    /// Its rows, of which a smooth or uniform declaration has one.
+    pub fn rows(&self) -> &[Row] {
+        match self {
+            Declaration::Smooth(row) | Declaration::Uniform(row) => slice::from_ref(row),
+            Declaration::Rows(Rows { count, rows }) => &rows[..*count],
+        }
+    }
+
+    pub fn last_row(&self) -> Row {
+        match *self {
+            Declaration::Smooth(row) | Declaration::Uniform(row) => row,
+            Declaration::Rows(Rows { count, rows }) => rows[count - 1],
+        }
+    }
+
+    /// Refusals 5 and 15 of a declaration whose field begins at a byte.
+    pub fn test(&self, at: usize) -> Result<(), Refusal> {
+        match self {
+            Declaration::Smooth(row) | Declaration::Uniform(row) if row.in_range() => Ok(()),
+            Declaration::Smooth(_) | Declaration::Uniform(_) => Err(Refusal::OutOfRange(at)),
+            Declaration::Rows(rows) => rows.test(at),
+        }
+    }
+
+    /// Writes the field that begins a sheet, and answers its length.
+    fn put_field(&self, sheet: &mut [u8]) -> usize {
+        let (kind, row) = match self {
+            Declaration::Smooth(row) => (0, row),
+            Declaration::Uniform(row) => (1, row),
+            Declaration::Rows(Rows { count, rows }) => {
+                let length = ROW_LENGTH * count;
+                sheet[..HEADER].copy_from_slice(&[0x05, 0, length as u8]);
+                for (bytes, row) in sheet[HEADER..]
+                    .as_chunks_mut()
+                    .0
+                    .iter_mut()
+                    .zip(&rows[..*count])
+                {
+                    *bytes = row.bytes();
+                }
+                return HEADER + length;
+            }
+        };
+        let [m0, m1, q0, q1, q2, q3] = row.bytes();
+        let field = [0x01, 0, 7, kind, m0, m1, q0, q1, q2, q3];
+        sheet[..field.len()].copy_from_slice(&field);
+        field.len()
+    }
+
+    /// Whether the rows behind the count are 0.
+    pub fn unused_clear(&self) -> bool {
+        match self {
+            Declaration::Rows(Rows { count, rows }) => {
+                rows.iter().skip(*count).all(|row| *row == Row::default())
+            }
+            _ => true,
+        }
     }
 }
 
@@ -137,11 +259,10 @@ impl House {
     fn path(self) -> Path {
         let mut path = Path {
             form: Form::House(self),
-            declaration: Declaration {
-                kind: Kind::Smooth,
+            declaration: Declaration::Smooth(Row {
                 interval: self.interval,
                 quota: self.quota,
-            },
+            }),
             wanted: self.wanted,
             count: 0,
             places: [Place::NONE; MOST_OPERATORS],
@@ -187,7 +308,7 @@ impl House {
     }
 }
 
-/// Fields 01, 02 and 03, or one field 04.
+/// Fields 01 (or 05), 02 and 03, or one field 04.
 #[derive(Clone, Copy, Debug, PartialEq, Eq)]
 pub enum Form {
     Fields,
@@ -230,23 +351,32 @@ impl<'a> Fields<'a> {
         Ok(body)
     }
 
+    /// Field 01, or 05 in its place.
     fn declaration(&mut self) -> Result<Declaration, Refusal> {
+        if self.sheet.first() == Some(&0x05) {
+            return self.rows().map(Declaration::Rows);
+        }
         let at = self.at;
         let &[kind, m0, m1, q0, q1, q2, q3] = self.body(0x01)?;
-        let kind = match kind {
-            0 => Kind::Smooth,
-            1 => Kind::Uniform,
-            _ => return Err(Refusal::OutOfRange(at)),
-        };
-        let declaration = Declaration {
-            kind,
-            interval: u32::from(u16::from_be_bytes([m0, m1])),
-            quota: u32::from_be_bytes([q0, q1, q2, q3]),
-        };
-        if !declaration.in_range() {
-            return Err(Refusal::OutOfRange(at));
+        let row = Row::new(&[m0, m1, q0, q1, q2, q3]);
+        match kind {
+            0 if row.in_range() => Ok(Declaration::Smooth(row)),
+            1 if row.in_range() => Ok(Declaration::Uniform(row)),
+            _ => Err(Refusal::OutOfRange(at)),
         }
-        Ok(declaration)
+    }
+
+    /// The length of its body says how many rows there are.
+    #[inline(never)]
+    fn rows(&mut self) -> Result<Rows, Refusal> {
+        let at = self.at;
+        let rows = match self.sheet {
+            [_, _, 24, ..] => Rows::new::<24>(self.body(0x05)?),
+            [_, _, 18, ..] => Rows::new::<18>(self.body(0x05)?),
+            _ => Rows::new::<12>(self.body(0x05)?),
+        };
+        rows.test(at)?;
+        Ok(rows)
     }
 
     fn wanted(&mut self) -> Result<u32, Refusal> {
@@ -357,41 +487,19 @@ pub fn write(path: &Path, sheet: &mut [u8]) -> Result<usize, Refusal> {
         return Err(Refusal::FieldUnexpected(0));
     }
     let places = &path.places[..path.count];
-    if !path.declaration.in_range() || path.wanted > 65_535 || !places.iter().all(Place::in_range) {
+    path.declaration.test(0)?;
+    if path.wanted > 65_535 || !places.iter().all(Place::in_range) {
         return Err(Refusal::OutOfRange(0));
     }
-    let mut at = 0;
-    let mut put = |field: &[u8]| {
-        sheet[at..at + field.len()].copy_from_slice(field);
-        at += field.len();
-    };
-    let Declaration {
-        kind,
-        interval,
-        quota,
-    } = path.declaration;
-    let kind = match kind {
-        Kind::Smooth => 0,
-        Kind::Uniform => 1,
-    };
-    let [_, _, m0, m1] = interval.to_be_bytes();
-    let [q0, q1, q2, q3] = quota.to_be_bytes();
-    put(&[0x01, 0, 7, kind, m0, m1, q0, q1, q2, q3]);
+    let length = path.declaration.put_field(sheet);
+    let (wanted, operators) = sheet[length..].split_at_mut(WANTED_LENGTH);
     let [w0, w1, w2, w3] = path.wanted.to_be_bytes();
-    put(&[0x02, 0, 4, w0, w1, w2, w3]);
-    for place in places {
+    wanted.copy_from_slice(&[0x02, 0, 4, w0, w1, w2, w3]);
+    let (fields, _) = operators.as_chunks_mut::<OPERATOR_LENGTH>();
+    for (field, place) in fields.iter_mut().zip(places) {
+        let (kind, link) = (place.operator.kind(), place.link as u8);
         let [n0, n1, n2, n3] = place.operator.number().to_be_bytes();
-        put(&[
-            0x03,
-            0,
-            6,
-            place.operator.kind(),
-            place.link as u8,
-            n0,
-            n1,
-            n2,
-            n3,
-        ]);
+        *field = [0x03, 0, 6, kind, link, n0, n1, n2, n3];
     }
-    Ok(at)
+    Ok(length + WANTED_LENGTH + OPERATOR_LENGTH * path.count)
 }

@@ -1,0 +1,32 @@
+//! The tests of lent words (sections 6 and 7).
+
+use super::{LARGEST, Refusal};
+
+pub fn all_zero(words: &[u32]) -> bool {
+    words.iter().all(|&word| word == 0)
+}
+
+/// The sum of the words, each of which is an amount stored.
+pub fn sum(words: &[u32]) -> Result<u64, Refusal> {
+    if words.iter().any(|&word| u64::from(word) > LARGEST) {
+        return Err(Refusal::Unusable);
+    }
+    Ok(words.iter().map(|&word| u64::from(word)).sum())
+}
+
+/// All bits of the words. No word is above 1,073,741,823, which is 2^30 − 1, if they are not.
+pub fn bits(words: &[u32]) -> u32 {
+    words.iter().fold(0, |bits, &word| bits | word)
+}
+
+/// The sum of at most 1,024 words, and all their bits. Words below 2^22 are added in 32 bits.
+pub fn sum_and_bits(words: &[u32]) -> (u64, u32) {
+    let (sum, bits) = words.iter().fold((0_u32, 0), |(sum, bits), &word| {
+        (sum.wrapping_add(word), bits | word)
+    });
+    if bits < 1 << 22 {
+        (u64::from(sum), bits)
+    } else {
+        (words.iter().map(|&word| u64::from(word)).sum(), bits)
+    }
+}
