@@ -1,21 +1,22 @@
 -- A class by its kind, and the lent table: what the code reads there is what section 4 and document 02, item 6 say of the class.
 use Prim.Native.Nat.{ℕ, zero, suc, _+_, _-_, _*_, _≤_, _<_, max}
-use mathlib.Core.Path.{_≡_, refl, ap, ap₂, _∙_}
+use mathlib.Core.Path.{_≡_, refl, sym, ap, ap₂, _∙_}
 use mathlib.Core.Bool.{true, false}
-use mathlib.Core.List.{List}
+use mathlib.Core.List.{List, _∷_}
 use mathlib.Core.Logic.{⊎-elim}
 use native.Mathlib.Nat.{not-suc-le-zero, le-of-suc-le-suc, eq-or-lt-of-le, le-trans}
 use native.Mathlib.Numerals.{add-one}
 use native.Mathlib.Omega.{arith}
-use lib.ListN.{length, getD}
-use Rattle.quantity.proofs.Sums.{length-listOf, getD-listOf}
+use lib.ListN.{length, getD, take, drop, length-drop}
+use lib.Seq.{length-take-le, getD-take, getD-drop}
+use Rattle.quantity.proofs.Sums.{length-listOf, getD-listOf, listOf-ext}
 use Rattle.flow.specs.Rows.{Row, rowsMost, rowCarried, rowsCarried, reach, greatestOf, rowsBurst}
 use Rattle.flow.specs.Classes.{rows}
 use Rattle.flow.specs.Declarations.{severalAt}
 use Rattle.flow.specs.Bounds.{boundLength, boundOf, PairWithin, ClassWithin}
 use Rattle.flow.specs.declared.Kind.{Kind}
 use Rattle.flow.specs.declared.Declaration.{Declaration}
-use Rattle.flow.proofs.Laws.{reach-le}
+use Rattle.flow.proofs.Laws.{rows-none, reach-le}
 use Rattle.figures.specs.declared.class.FlowClass.{FlowClass}
 use Rattle.figures.specs.Carried.{classIn, Lent}
 
@@ -41,12 +42,29 @@ reach-first given i R k before here less = reach-first-of given i R before here 
 
 -- The lent table.
 
-module _ (declared : Declaration) (bound : List ℕ) (lent : bound ≡ boundOf declared) where
-  pub lent-length : length bound ≡ boundLength
-  lent-length = ap length lent ∙ length-listOf (rowsMost (severalAt declared) (declared .count)) boundLength
+module _ (declared : Declaration) (bound : List ℕ) (lent : 0 ∷ bound ≡ boundOf declared) where
+  pub lent-length : length bound ≡ 1_024
+  lent-length = omega (arith, ap length lent ∙ length-listOf (rowsMost (severalAt declared) (declared .count)) boundLength)
 
-  pub lent-at : (n : ℕ) → n ≤ 1_024 → getD bound n 0 ≡ rowsMost (severalAt declared) (declared .count) n
+  pub lent-at : (n : ℕ) → n ≤ 1_024 → getD (0 ∷ bound) n 0 ≡ rowsMost (severalAt declared) (declared .count) n
   lent-at n short = ap (λ (l : List ℕ). getD l n 0) lent ∙ getD-listOf 0 (rowsMost (severalAt declared) (declared .count)) boundLength n (omega arith)
+
+-- the bound of a declaration, behind its first entry, which is 0
+pub rest-of-bound : (declared : Declaration) → 0 ∷ take 1_024 (drop 1 (boundOf declared)) ≡ boundOf declared
+rest-of-bound declared = listOf-ext 0 most boundLength (0 ∷ take 1_024 (drop 1 (boundOf declared))) sized by-place
+  where
+    most : ℕ → ℕ
+    most = rowsMost (severalAt declared) (declared .count)
+
+    sized : suc (length (take 1_024 (drop 1 (boundOf declared)))) ≡ boundLength
+    sized = ap suc (length-take-le 1_024 (drop 1 (boundOf declared)) (omega (arith, length-drop 1 (boundOf declared), length-listOf most boundLength)))
+
+    one-more : (k : ℕ) → 1 + k ≡ suc k
+    one-more k = omega arith
+
+    by-place : (k : ℕ) → k < boundLength → getD (0 ∷ take 1_024 (drop 1 (boundOf declared))) k 0 ≡ most k
+    by-place zero less = sym (rows-none (severalAt declared) (declared .count))
+    by-place (suc k) less = getD-take 1_024 (drop 1 (boundOf declared)) k 0 (le-of-suc-le-suc less) ∙ getD-drop 1 (boundOf declared) k 0 ∙ ap (λ (j : ℕ). getD (boundOf declared) j 0) (one-more k) ∙ getD-listOf 0 most boundLength (suc k) less
 
 pub greatest-next : (f : ℕ → ℕ) (n : ℕ) → greatestOf f (n + 1) ≡ max (greatestOf f n) (f (n + 1))
 unfolding greatestOf
@@ -69,14 +87,14 @@ module _ (declared : Declaration) (class : FlowClass) where
   pub rows-within : class .kind ≡ Kind.Rows → ClassWithin (classIn declared class) → ClassWithin (rows (severalAt declared) (declared .count))
   rows-within e within = rw e at within
 
-  pub lent-rows : (bound : List ℕ) → class .kind ≡ Kind.Rows → Lent (class .kind) declared bound → bound ≡ boundOf declared
+  pub lent-rows : (bound : List ℕ) → class .kind ≡ Kind.Rows → Lent (class .kind) declared bound → 0 ∷ bound ≡ boundOf declared
   lent-rows bound e lent = rw e at lent
 
 -- the greatest that the table has beyond a rate is the burst
-pub burst-of-table : (declared : Declaration) (bound : List ℕ) (R : ℕ) → ClassWithin (rows (severalAt declared) (declared .count)) → bound ≡ boundOf declared
-    → greatestOf (λ n. getD bound n 0 - n * R) (reach (severalAt declared) (declared .count) R) ≡ rowsBurst (severalAt declared) (declared .count) R
+pub burst-of-table : (declared : Declaration) (bound : List ℕ) (R : ℕ) → ClassWithin (rows (severalAt declared) (declared .count)) → 0 ∷ bound ≡ boundOf declared
+    → greatestOf (λ n. getD (0 ∷ bound) n 0 - n * R) (reach (severalAt declared) (declared .count) R) ≡ rowsBurst (severalAt declared) (declared .count) R
 unfolding rowsBurst
 burst-of-table declared bound R within lent =
     let reached = reach-le (severalAt declared) (declared .count) R 1_024 (λ i less. within .2 i less .short) in
-    greatest-same (λ n. getD bound n 0 - n * R) (λ n. rowsMost (severalAt declared) (declared .count) n - n * R) (reach (severalAt declared) (declared .count) R)
+    greatest-same (λ n. getD (0 ∷ bound) n 0 - n * R) (λ n. rowsMost (severalAt declared) (declared .count) n - n * R) (reach (severalAt declared) (declared .count) R)
     (λ n inside. ap (λ (most : ℕ). most - n * R) (lent-at declared bound lent n (le-trans inside reached)))

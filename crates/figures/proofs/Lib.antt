@@ -5,6 +5,7 @@ mod Reached
 pub mod Promise
 mod Bounds
 mod ClassLaws
+pub mod CameraTable
 pub mod RowsNeverTooLarge
 mod Tests
 mod EachOperator

@@ -4,7 +4,7 @@ use mathlib.Core.Path.{_≡_, refl, sym, ap, subst, subst⁻¹, _∙_}
 use mathlib.Core.Bool.{Bool, true, false, true≢false}
 use mathlib.Core.List.{List, [], _∷_, _++_}
 use native.Mathlib.Omega.{arith}
-use lib.ListN.{length, replicate, length-append, length-replicate}
+use lib.ListN.{length, take, drop, replicate, length-append, length-replicate}
 use lib.Seq.{length-take-le}
 use Rattle.quantity.specs.Sums.{listOf}
 use Rattle.quantity.specs.Choice.{pick}
@@ -13,7 +13,7 @@ use Rattle.quantity.specs.declared.refusal.Refusal.{Refusal}
 use Rattle.quantity.proofs.Refusals.{NoneStands, firstOf-none, firstOf-append, firstOf-map, none-where-result}
 use borrow.Author.Tests.{eq-eqb}
 use Rattle.flow.specs.Declarations.{hasRows, declarationInRange}
-use Rattle.flow.specs.Bounds.{boundLength, boundable, boundFilled}
+use Rattle.flow.specs.Bounds.{boundLength, boundOf, boundable, boundFilled}
 use Rattle.flow.specs.declared.Kind.{Kind}
 use Rattle.flow.proofs.Declarations.{kind-of-rows}
 use Rattle.flow.specs.declared.Declaration.{Declaration}
@@ -28,7 +28,10 @@ use Rattle.sheet.proofs.Accepted.{sheet-path, sheet-full}
 use Rattle.sheet.proofs.InRange.{declaration-of-path}
 use Rattle.figures.specs.declared.PathFigures.{PathFigures}
 use Rattle.figures.specs.Answers.{pathCases, figureIn, noFigure, pathDelay, refusedFigures, acceptedFigures, figuresOf}
-use Rattle.figures.specs.Carried.{Lent, Readable, PathWithin, figuresOfValue, figuresOfRead}
+use Rattle.figures.specs.Cameras.{isCamera}
+use Rattle.figures.proofs.ClassLaws.{rest-of-bound}
+use Rattle.figures.proofs.CameraTable.{table, camera-bound}
+use Rattle.figures.specs.Carried.{Lent, WasRead, Readable, PathWithin, figuresOfValue, figuresOfRead}
 
 -- the figures of a path: 6 to 9
 figuresOfPath : PathValue → Path → PathFigures
@@ -118,15 +121,11 @@ module _ {read : ReadSheet} (sheet : List ℕ) (answered : read ≡ readSheet sh
         ∙ sym (ap (answerTo (figuresOfPath (valueIn sheet) (pathIn sheet))) accepted)
         ∙ answer-figures
 
-  -- what was read, with the table of its bound
-  pub readable : (bound : List ℕ) → (declarationInRange (read .path .declaration) ≡ true → Lent (read .path .declaration .kind) (read .path .declaration) bound) → Readable (read .verdict) (read .path) bound
-  unfolding inFull
-  readable bound lent = by-verdict (read .verdict) refl
+  pub was-read : WasRead (read .verdict) (read .path)
+  was-read = by-verdict (read .verdict) refl
     where
-      by-verdict : (verdict : Verdict) → read .verdict ≡ verdict → Readable verdict (read .path) bound
-      by-verdict Verdict.Accepted e =
-          let within = path-within e in
-          (within, lent (subst (λ (d : Declaration). declarationInRange d ≡ true) (within .clear) (declaration-of-path (inFull (read .path)) (within .inside))))
+      by-verdict : (verdict : Verdict) → read .verdict ≡ verdict → WasRead verdict (read .path)
+      by-verdict Verdict.Accepted e = path-within e
       by-verdict (Verdict.Refused why) e = refused-path e
 
   pub figures-answered : figuresOfRead (read .verdict) (read .path) ≡ figuresOf sheet
@@ -137,13 +136,25 @@ module _ {read : ReadSheet} (sheet : List ℕ) (answered : read ≡ readSheet sh
       by-verdict Verdict.Accepted e = accepted-figures e
       by-verdict (Verdict.Refused why) e = sym (ap (answerTo (figuresOfPath (valueIn sheet) (pathIn sheet))) e) ∙ answer-figures
 
--- the table that is filled is the bound of the declaration's rows; of one row none is read
+-- what was read, with the table of its bound
+pub readable : (verdict : Verdict) (value : PathValue) (bound : List ℕ) → WasRead verdict value
+    → (declarationInRange (value .declaration) ≡ true → Lent (value .declaration .kind) (value .declaration) bound) → Readable verdict value bound
+unfolding inFull
+readable Verdict.Accepted value bound within lent =
+    (within, lent (subst (λ (d : Declaration). declarationInRange d ≡ true) (within .clear) (declaration-of-path (inFull value) (within .inside))))
+readable (Verdict.Refused why) value bound empty lent = empty
+
+-- the table that is filled is, but for its first entry, the bound of the declaration's rows; the standard camera's is that too; of one row none is read
 pub filled-bound : (declared : Declaration) (lent : List ℕ) → length lent ≡ boundLength → hasRows (declared .kind) ≡ true → {after : List ℕ} → after ≡ boundFilled declared lent
-    → declarationInRange declared ≡ true → Lent (declared .kind) declared after
+    → declarationInRange declared ≡ true → Lent (declared .kind) declared (take 1_024 (drop 1 after))
 unfolding boundFilled boundable
 filled-bound declared lent sized several {after} filled inside =
     let rows = kind-of-rows (declared .kind) several in
-    subst (λ (kind : Kind). Lent kind declared after) (sym rows) (filled ∙ rw (eq-eqb (length lent) boundLength sized, several, inside))
+    let whole : after ≡ boundOf declared = filled ∙ rw (eq-eqb (length lent) boundLength sized, several, inside) in
+    subst (λ (kind : Kind). Lent kind declared (take 1_024 (drop 1 after))) (sym rows) (ap (λ (l : List ℕ). 0 ∷ take 1_024 (drop 1 l)) whole ∙ rest-of-bound declared)
+
+pub camera-lent : (declared : Declaration) → hasRows (declared .kind) ≡ true → isCamera declared ≡ true → Lent (declared .kind) declared table
+camera-lent declared several camera = subst (λ (kind : Kind). Lent kind declared table) (sym (kind-of-rows (declared .kind) several)) (camera-bound declared camera)
 
 pub unread-bound : (kind : Kind) (declared : Declaration) (bound : List ℕ) → hasRows kind ≡ false → Lent kind declared bound
 unread-bound Kind.Smooth declared bound one = tt

@@ -52,11 +52,11 @@ pub record Within (longest : ℕ) (p : Progress) : Type 0 where
   pub e : p .e ≤ longest
   pub slowest : RateWithin (p .slowest)
 
--- where the class is of rows, the lent table is their bound
+-- where the class is of rows, the lent table is their bound in 1 slot and more
 abbrev pub Lent : Kind → Declaration → List ℕ → Type 0
 Lent Kind.Smooth declared bound = Unit {0}
 Lent Kind.Uniform declared bound = Unit {0}
-Lent Kind.Rows declared bound = bound ≡ boundOf declared
+Lent Kind.Rows declared bound = 0 ∷ bound ≡ boundOf declared
 
 -- what is kept as the burst is that at the least rate
 abbrev pub BurstKept : Class → LeastRate → Type 0
@@ -104,7 +104,12 @@ pub record PathWithin (value : PathValue) : Type 0 where
   pub inside : pathInRange (inFull value) ≡ true
   pub clear : cleared (value .declaration) ≡ value .declaration
 
--- what was read, with the table of its bound: the empty path beside a refusal
+-- what was read: the empty path beside a refusal
+abbrev pub WasRead : Verdict → PathValue → Type 0
+WasRead Verdict.Accepted value = PathWithin value
+WasRead (Verdict.Refused why) value = value ≡ noPath
+
+-- and with the table of its bound
 abbrev pub Readable : Verdict → PathValue → List ℕ → Type 0
 Readable Verdict.Accepted value bound = PathWithin value × Lent (value .declaration .kind) (value .declaration) bound
 Readable (Verdict.Refused why) value bound = value ≡ noPath

@@ -1,5 +1,5 @@
 // The class between two operators: its burst at a rate, the most that it carries in a window and its change of interval (document 01, section 4; document 02, item 6).
-// A class of rows is the declared one; the most that its rows allow in n slots is entry n of a lent table.
+// A class of rows is the declared one; the most that its rows allow in n slots is entry n − 1 of a lent table.
 
 use flow::Declaration;
 use flow::DeclaredRow;
@@ -11,12 +11,13 @@ use quantity::Units;
 use quantity::divisor::gcd;
 ghost use mathlib.Core.Path.{_≡_};
 ghost use Prim.Native.Nat.{_+_, _-_, _*_, _≤_, max};
+ghost use mathlib.Core.List.{_∷_};
 ghost use lib.ListN.{length, getD};
 ghost use Rattle.quantity.specs.Rounding.{roundUp};
 ghost use Rattle.flow.specs.Rows.{rowCarried, reach, greatestOf};
 ghost use Rattle.flow.specs.Classes.{mostIn, blocksMet, changedQuota, carries, burstAt};
 ghost use Rattle.flow.specs.Declarations.{emptyRow, rowOf};
-ghost use Rattle.flow.specs.Bounds.{boundLength, ClassWithin};
+ghost use Rattle.flow.specs.Bounds.{ClassWithin};
 ghost use Rattle.figures.specs.Carried.{classIn, Lent};
 
 // Smooth or uniform (m, Q). Behind a change of interval Q may be larger than a declared quota. Rows are the declaration's, and have no (m, Q) of their own.
@@ -94,17 +95,17 @@ fn larger(a: u32, b: u32) -> u32
 
 // The greatest that the bound has beyond a rate in 1 to so many slots.
 fn greatest_beyond(bound: &[u32], slots: u32, rate: u32) -> u32
-    requires { ⌜ (length (now bound) ≡ boundLength) × (slots ≤ 1_024) × (rate ≤ 65_535) ⌝ }
-    ensures { λ r. ⌜ r ≡ greatestOf (λ n. getD (now (bound .entry)) n 0 - n * rate) slots ⌝ }
+    requires { ⌜ (slots ≤ length (now bound)) × (slots ≤ 1_024) × (rate ≤ 65_535) ⌝ }
+    ensures { λ r. ⌜ r ≡ greatestOf (λ n. getD (0 ∷ now (bound .entry)) n 0 - n * rate) slots ⌝ }
 {
     let last = slots as usize;
     let mut greatest = 0;
     let mut sent = 0;
     let mut n = 0;
     while n < last {
-        n += 1;
         sent += rate;
         greatest = larger(greatest, beyond(bound[n], sent));
+        n += 1;
     }
     greatest
 }
@@ -126,6 +127,14 @@ pub(crate) fn burst_at(class: FlowClass, declared: Declaration, bound: &[u32], r
     }
 }
 
+// The most in n slots by the table.
+fn entry(bound: &[u32], n: u32) -> u32
+    requires { ⌜ n ≤ length (now bound) ⌝ }
+    ensures { λ r. ⌜ r ≡ getD (0 ∷ now (bound .entry)) n 0 ⌝ }
+{
+    if n == 0 { 0 } else { bound[(n - 1) as usize] }
+}
+
 // The most that the class carries in n neighbouring slots.
 pub(crate) fn most_in(class: FlowClass, declared: Declaration, bound: &[u32], n: Slots) -> Units
     requires { ⌜ ClassWithin (classIn declared class) × Lent (class .kind) declared (now bound) × (n .0 ≤ 1_024) ⌝ }
@@ -141,10 +150,7 @@ pub(crate) fn most_in(class: FlowClass, declared: Declaration, bound: &[u32], n:
             let blocks = round_up(wide(n.0), wide(class.interval.0));
             Units(blocks * class.quota.0)
         }
-        Kind::Rows => {
-            let at = n.0 as usize;
-            Units(wide(bound[at]))
-        }
+        Kind::Rows => Units(wide(entry(bound, n.0))),
     }
 }
 

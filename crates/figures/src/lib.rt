@@ -1,5 +1,7 @@
 // The figures of a path: a capacity and a delay for each operator, and the path's delay (document 01, sections 4 and 7).
 
+use crate::camera::MOST;
+use crate::camera::is_camera;
 use crate::carried::behind;
 use crate::carried::start;
 use crate::each::Planned;
@@ -16,10 +18,14 @@ use sheet::read::ReadSheet;
 use sheet::read::Verdict;
 use sheet::read::read;
 ghost use mathlib.Core.Path.{_≡_};
+ghost use mathlib.Core.Bool.{true};
 ghost use Prim.Native.Nat.{_+_, _<_};
+ghost use Rattle.flow.specs.Declarations.{hasRows};
 ghost use Rattle.figures.specs.Answers.{noFigure, refusedFigures, figuresOf};
-ghost use Rattle.figures.specs.Carried.{Readable, figuresOfRead};
+ghost use Rattle.figures.specs.Carried.{WasRead, Readable, figuresOfRead};
+ghost use Rattle.figures.specs.Cameras.{isCamera};
 
+mod camera;
 mod carried;
 mod class;
 mod each;
@@ -68,7 +74,7 @@ fn next_operator(k: usize) -> usize
     if k < 15 { k + 1 } else { k }
 }
 
-// The figures of a sheet's path, or the first refusal of 2 to 9. Where the declaration has rows their bound is worked out first, once for the whole path.
+// The figures of a sheet's path, or the first refusal of 2 to 9.
 pub fn figures(sheet: &[u8]) -> PathFigures
     ensures { λ r. ⌜ r ≡ figuresOf (now (sheet .entry)) ⌝ }
 {
@@ -76,12 +82,31 @@ pub fn figures(sheet: &[u8]) -> PathFigures
     let declaration = answer.path.declaration;
     let kind = declaration.kind;
     if kind.has_rows() {
-        let mut bound = [0; LENGTH];
-        fill(declaration, &mut bound);
-        return figures_read(answer, &bound);
+        return figures_of_rows(answer);
     }
     let unread = [0; 1];
     figures_read(answer, &unread)
+}
+
+// Where the declaration has rows their bound is worked out first, once for the whole path; the standard camera's is the constant table. Each table is in a function of its own, since a table in memory takes time wherever it is not read.
+fn figures_of_rows(answer: ReadSheet) -> PathFigures
+    requires { ⌜ WasRead (answer .verdict) (answer .path) × (hasRows (answer .path .declaration .kind) ≡ true) ⌝ }
+    ensures { λ r. ⌜ r ≡ figuresOfRead (answer .verdict) (answer .path) ⌝ }
+{
+    let declaration = answer.path.declaration;
+    if is_camera(declaration) {
+        return figures_of_camera(answer);
+    }
+    let mut bound = [0; LENGTH];
+    fill(declaration, &mut bound);
+    figures_read(answer, &bound[1..LENGTH])
+}
+
+fn figures_of_camera(answer: ReadSheet) -> PathFigures
+    requires { ⌜ WasRead (answer .verdict) (answer .path) × (hasRows (answer .path .declaration .kind) ≡ true) × (isCamera (answer .path .declaration) ≡ true) ⌝ }
+    ensures { λ r. ⌜ r ≡ figuresOfRead (answer .verdict) (answer .path) ⌝ }
+{
+    figures_read(answer, &MOST)
 }
 
 // The figures of the path that was read, operator by operator from the left. The answer stands in one place from the start, since copies of it take time.

@@ -2,7 +2,8 @@
 use borrow.Author.Needs.{needs}
 use native.Mathlib.Omega.{arith}
 use mathlib.Core.Path.{_≡_, ap, _∙_}
-use Prim.Native.Nat.{ℕ, _-_, _*_}
+use Prim.Native.Nat.{ℕ, _-_, _*_, _≤_}
+use mathlib.Core.List.{_∷_}
 use lib.ListN.{getD}
 use Rattle.flow.specs.Rows.{greatestOf}
 use Rattle.flow.specs.Classes.{rows, burstAt}
@@ -31,7 +32,7 @@ enum-told-3 c = search needs
 rows-inside : (c : tie.After-enum-told3) → let declared = c .before .before .before .args .declared in ClassWithin (rows (severalAt declared) (declared .count))
 rows-inside c = let s = c .before .before .before in rows-within (s .args .declared) (s .args .class) (c .enum-told3 .given .1) (s .pre .0)
 
-rows-lent : (c : tie.After-enum-told3) → c .before .before .before .args .bound .now ≡ boundOf (c .before .before .before .args .declared)
+rows-lent : (c : tie.After-enum-told3) → 0 ∷ c .before .before .before .args .bound .now ≡ boundOf (c .before .before .before .args .declared)
 rows-lent c = let s = c .before .before .before in lent-rows (s .args .declared) (s .args .class) (s .args .bound .now) (c .enum-told3 .given .1) (s .pre .1)
 
 reach-requires : tie.Need-reach-requires
@@ -42,7 +43,8 @@ greatest-beyond-requires c κs =
     let s = c .before .before .before .before .before in
     let inside = rows-inside (c .before .before) in
     let reached = reach-le (severalAt (s .args .declared)) (s .args .declared .count) (s .args .rate .0) 1_024 (λ i less. inside .2 i less .short) in
-    (lent-length (s .args .declared) (s .args .bound .now) (rows-lent (c .before .before)), omega (arith, c .reach .ensures, reached), s .pre .2)
+    let short : c .reach .result ≤ 1_024 = omega (arith, c .reach .ensures, reached) in
+    (omega (arith, short, lent-length (s .args .declared) (s .args .bound .now) (rows-lent (c .before .before))), short, s .pre .2)
 
 wide-requires : tie.Need-wide-requires
 wide-requires c κs = search needs
@@ -60,7 +62,7 @@ unfolding burstAt
 returns-3 c =
     let told = c .before .before .before .before in
     let s = told .before .before .before in
-    let above : ℕ → ℕ = λ n. getD (s .args .bound .now) n 0 - n * s .args .rate .0 in
+    let above : ℕ → ℕ = λ n. getD (0 ∷ s .args .bound .now) n 0 - n * s .args .rate .0 in
     rw (told .enum-told3 .given .1)
     (c .wide .ensures
     ∙ c .before .greatest-beyond .ensures

@@ -1,8 +1,9 @@
 -- The greatest of the entries passed, each less what the rate sent by then; 1,024 slots at 65,535 fit their width.
 use mathlib.Core.Path.{_≡_, refl, sym, ap, ap₂, _∙_}
-use mathlib.Core.List.{List}
+use mathlib.Core.List.{List, _∷_}
 use Prim.Native.Nat.{ℕ, _+_, _-_, _*_, _≤_, max}
 use native.Mathlib.Nat.{mul-le-mul}
+use native.Mathlib.Numerals.{add-one}
 use native.Mathlib.Omega.{arith}
 use borrow.Author.Needs.{needs}
 use lib.ListN.{getD}
@@ -12,7 +13,7 @@ use Rattle.figures.proofs.class.greatest_beyond.Statement.{statement}
 use Rattle.figures.proofs.class.greatest_beyond.Tie as tie
 
 abbrev above : List ℕ → ℕ → ℕ → ℕ
-above bound rate n = getD bound n 0 - n * rate
+above bound rate n = getD (0 ∷ bound) n 0 - n * rate
 
 abbrev Inv-loop : tie.InvT-loop
 Inv-loop bound slots rate last greatest₀ sent₀ n₀ greatest sent n = (n ≤ slots) × (sent ≡ n * rate) × (greatest ≡ greatestOf (above bound rate) n)
@@ -23,9 +24,6 @@ abbrev μ-loop : tie.MeasureT-loop
 loop-holds : tie.Need-loop-holds Inv-loop μ-loop
 unfolding greatestOf
 loop-holds c = (omega arith, omega arith, refl)
-
-add-n : tie.Need-add-n Inv-loop μ-loop
-add-n c = omega arith
 
 add-sent : tie.Need-add-sent Inv-loop μ-loop
 add-sent c =
@@ -46,6 +44,9 @@ beyond-requires c κs = search needs
 larger-requires : tie.Need-larger-requires Inv-loop μ-loop
 larger-requires c κs = search needs
 
+add-n : tie.Need-add-n Inv-loop μ-loop
+add-n c = omega arith
+
 loop-less : tie.Need-loop-less Inv-loop μ-loop
 loop-less c = omega arith
 
@@ -55,7 +56,7 @@ loop-again c =
     let args = at .before .before .args in
     let f = above (args .bound .now) (args .rate) in
     let sent : at .loop .sent + args .rate ≡ (at .loop .n + 1) * args .rate = omega (arith, at .loop .inv .1) in
-    let here : c .before .beyond .result ≡ f (at .loop .n + 1) = c .before .beyond .ensures ∙ ap (λ (n : ℕ). getD (args .bound .now) (at .loop .n + 1) 0 - n) sent in
+    let here : c .before .beyond .result ≡ f (at .loop .n + 1) = c .before .beyond .ensures ∙ ap (λ (n : ℕ). getD (args .bound .now) (at .loop .n) 0 - n) sent ∙ rw add-one in
     (omega arith, sent, c .larger .ensures ∙ ap₂ max (at .loop .inv .2) here ∙ sym (greatest-next f (at .loop .n)))
 
 returns : tie.Need-returns Inv-loop μ-loop
@@ -72,12 +73,12 @@ greatest-beyond-spec =
     Inv-loop
     μ-loop
     loop-holds
-    add-n
     add-sent
     mul-beyond
     shared-slice-read-beyond
     beyond-requires
     larger-requires
+    add-n
     loop-less
     loop-again
     returns)

@@ -34,11 +34,11 @@ round-up-requires c κs = let pair = smooth-pair (c .before .before) in omega ar
 smooth-blocks : (c : tie.After-round-up) → c .round-up .result ≤ 1_024
 smooth-blocks c = let pair = smooth-pair (c .before .before .before) in omega (arith, round-up-at-most (c .before .before .wide .result) (c .before .wide2 .result) (omega arith))
 
-add-t10 : tie.Need-add-t10
-add-t10 c = omega (arith, smooth-blocks c)
+add-t9 : tie.Need-add-t9
+add-t9 c = omega (arith, smooth-blocks c)
 
-mul-t11 : tie.Need-mul-t11
-mul-t11 c =
+mul-t10 : tie.Need-mul-t10
+mul-t10 c =
     let pair = smooth-pair (c .before .before .before .before) in
     let blocks : c .before .round-up .result + 1 ≤ 1_025 = omega (arith, smooth-blocks (c .before)) in
     omega (arith, mul-le-mul blocks (pair .quota))
@@ -58,25 +58,19 @@ round-up-requires-2 c κs = let pair = uniform-pair (c .before .before) in omega
 uniform-blocks : (c : tie.After-round-up2) → c .round-up2 .result ≤ 1_024
 uniform-blocks c = let pair = uniform-pair (c .before .before .before) in omega (arith, round-up-at-most (c .before .before .wide3 .result) (c .before .wide4 .result) (omega arith))
 
-mul-t12 : tie.Need-mul-t12
-mul-t12 c =
+mul-t11 : tie.Need-mul-t11
+mul-t11 c =
     let pair = uniform-pair (c .before .before .before .before) in
     omega (arith, mul-le-mul (uniform-blocks (c .before)) (pair .quota))
 
 enum-told-3 : tie.Need-enum-told-3
 enum-told-3 c = search needs
 
-cast-at : tie.Need-cast-at
-cast-at c = search needs
-
-mul-wide : tie.Need-mul-wide
-mul-wide c = search needs
-
-shared-slice-read-wide : tie.Need-shared-slice-read-wide
-shared-slice-read-wide c =
-    let s = c .before .before .before .before .before in
-    let lent = lent-rows (s .args .declared) (s .args .class) (s .args .bound .now) (c .before .before .enum-told3 .given .1) (s .pre .1) in
-    omega (arith, lent-length (s .args .declared) (s .args .bound .now) lent)
+entry-requires : tie.Need-entry-requires
+entry-requires c κs =
+    let s = c .before .before .before in
+    let lent = lent-rows (s .args .declared) (s .args .class) (s .args .bound .now) (c .enum-told3 .given .1) (s .pre .1) in
+    omega (arith, s .pre .2, lent-length (s .args .declared) (s .args .bound .now) lent)
 
 wide-requires-5 : tie.Need-wide-requires-5
 wide-requires-5 c κs = search needs
@@ -96,10 +90,11 @@ returns-2 c =
 returns-3 : tie.Need-returns-3
 unfolding mostIn
 returns-3 c =
-    let s = c .before .before .before .before .before .before in
-    let kind = c .before .before .before .enum-told3 .given .1 in
+    let told = c .before .before in
+    let s = told .before .before .before in
+    let kind = told .enum-told3 .given .1 in
     let lent = lent-rows (s .args .declared) (s .args .class) (s .args .bound .now) kind (s .pre .1) in
-    rw kind (c .wide5 .ensures ∙ lent-at (s .args .declared) (s .args .bound .now) lent (s .args .n .0) (s .pre .2))
+    rw kind (c .wide5 .ensures ∙ c .before .entry .ensures ∙ lent-at (s .args .declared) (s .args .bound .now) lent (s .args .n .0) (s .pre .2))
 
 pub most-in-spec : {M : Type 1} → statement M
 most-in-spec =
@@ -109,17 +104,15 @@ most-in-spec =
     wide-requires
     wide-requires-2
     round-up-requires
-    add-t10
-    mul-t11
+    add-t9
+    mul-t10
     enum-told-2
     wide-requires-3
     wide-requires-4
     round-up-requires-2
-    mul-t12
+    mul-t11
     enum-told-3
-    cast-at
-    mul-wide
-    shared-slice-read-wide
+    entry-requires
     wide-requires-5
     returns
     returns-2
