@@ -1,6 +1,7 @@
 //! Pseudo-random inputs, the same in every run.
 
 use crate::plain::Refusal;
+use crate::plain::bound::CAMERA_ROWS;
 use crate::plain::figures::figures;
 use crate::plain::meter::METER_WORDS;
 use crate::plain::run::{Run, WORDS};
@@ -165,6 +166,17 @@ impl Random {
     /// The same under four rows, whose sheets have one length.
     pub fn path_of_four(&mut self) -> Path {
         self.path_with(Random::four)
+    }
+
+    /// The same under the rows of the standard camera.
+    pub fn path_of_camera(&mut self) -> Path {
+        self.path_with(|_| {
+            let [first, second, third] = CAMERA_ROWS;
+            Declaration::Rows(Rows {
+                count: CAMERA_ROWS.len(),
+                rows: [first, second, third, Row::default()],
+            })
+        })
     }
 
     fn path_with(&mut self, declare: fn(&mut Random) -> Declaration) -> Path {

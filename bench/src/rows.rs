@@ -72,7 +72,7 @@ pub struct RowKind {
     calls: Calls,
 }
 
-pub const ROWS: [RowKind; 17] = [
+pub const ROWS: [RowKind; 18] = [
     RowKind {
         name: "figures of 16 operators",
         calls: Calls::Figures(Random::path),
@@ -80,6 +80,10 @@ pub const ROWS: [RowKind; 17] = [
     RowKind {
         name: "figures of 16 operators, four rows, m = 1,024",
         calls: Calls::Figures(Random::slower_and_slower),
+    },
+    RowKind {
+        name: "figures of 16 operators, the standard camera",
+        calls: Calls::Figures(Random::path_of_camera),
     },
     RowKind {
         name: "page of 16 operators",
@@ -308,10 +312,11 @@ pub fn answers_agree() -> Result<u64, String> {
         calls += turns;
         given.play(&PROVED, turns) == given.play(&PLAIN, turns)
     };
-    for turn in 0..300 {
+    for turn in 0..400 {
         let sheet = match turn / 100 {
             0 => sheet_of(&random.path()),
             1 => random.house(),
+            2 => sheet_of(&random.path_of_camera()),
             _ => sheet_of(&random.path_of_several()),
         };
         if !agree(&Given::Writing(Sheets::one(&sheet)), 64) {

@@ -5,30 +5,29 @@ use super::sheet::Row;
 /// The entries of a table: windows of 0 to 1,024 slots.
 const LENGTH: usize = 1_025;
 
-/// Entry n is the most that the rows allow in n slots. Entries are signed, since plain x86-64 has no vector comparison of unsigned words.
+/// Entry n is the most in n slots. Entries are signed, since plain x86-64 has no vector comparison of unsigned words.
+pub type Table = [i32; LENGTH];
+
+/// A table of which no entry is filled.
+pub const UNFILLED: Table = [0; LENGTH];
+
+/// The most that the rows allow in n slots, by a table.
 pub struct Bound<'a> {
     rows: &'a [Row],
-    most: [i32; LENGTH],
+    most: &'a Table,
 }
 
 impl<'a> Bound<'a> {
-    /// A bound of which no entry is filled.
-    pub fn new(rows: &'a [Row]) -> Bound<'a> {
-        Bound {
-            rows,
-            most: [0; LENGTH],
+    /// The bound of these rows. The table is the standard camera's, or it is filled for up to so many slots.
+    pub fn new(rows: &'a [Row], table: &'a mut Table, slots: usize) -> Bound<'a> {
+        if rows == CAMERA_ROWS {
+            return Bound {
+                rows,
+                most: &CAMERA,
+            };
         }
-    }
-
-    /// Fills the entries of up to so many slots.
-    pub fn fill(&mut self, slots: usize) {
-        let table = &mut self.most[1..=slots];
-        if let [first, further @ ..] = self.rows {
-            first_row(table, first);
-            for row in further {
-                next_row(table, row);
-            }
-        }
+        fill(&mut table[1..=slots], rows);
+        Bound { rows, most: table }
     }
 
     /// The most in n slots.
@@ -54,6 +53,55 @@ impl<'a> Bound<'a> {
             greatest = greatest.max(most - sent);
         }
         greatest as u64
+    }
+}
+
+/// The rows of the standard camera (document 02, item 7).
+pub const CAMERA_ROWS: [Row; 3] = [
+    Row {
+        interval: 1,
+        quota: 9,
+    },
+    Row {
+        interval: 3,
+        quota: 15,
+    },
+    Row {
+        interval: 12,
+        quota: 48,
+    },
+];
+
+static CAMERA: Table = camera();
+
+/// Worked upward: the least, over the rows, of Q and the most in the slots that m leaves.
+const fn camera() -> Table {
+    let mut table = UNFILLED;
+    let mut n = 1;
+    while n < LENGTH {
+        let mut least = i32::MAX;
+        let mut i = 0;
+        while i < CAMERA_ROWS.len() {
+            let Row { interval, quota } = CAMERA_ROWS[i];
+            let most = quota as i32 + table[n.saturating_sub(interval as usize)];
+            if most < least {
+                least = most;
+            }
+            i += 1;
+        }
+        table[n] = least;
+        n += 1;
+    }
+    table
+}
+
+/// Fills a table that begins with the most in one slot.
+fn fill(table: &mut [i32], rows: &[Row]) {
+    if let [first, further @ ..] = rows {
+        first_row(table, first);
+        for row in further {
+            next_row(table, row);
+        }
     }
 }
 

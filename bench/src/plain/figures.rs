@@ -1,6 +1,6 @@
 //! The figures of a path (section 4; document 02, item 6).
 
-use super::bound::{Bound, reach};
+use super::bound::{Bound, UNFILLED, reach};
 use super::sheet::{Declaration, MOST_OPERATORS, Operator, Path, Place, Row, read};
 use super::{LARGEST, Refusal};
 
@@ -291,8 +291,8 @@ fn rows_part(
     places: &[Place],
     figures: &mut [Figure; MOST_OPERATORS],
 ) -> Result<u64, Refusal> {
-    let mut bound = Bound::new(rows);
-    bound.fill(slots_asked(rows, places));
+    let mut table = UNFILLED;
+    let bound = Bound::new(rows, &mut table, slots_asked(rows, places));
     let Some((figure, behind)) = framed(&bound, places, 0)? else {
         return filter_part(&bound, places, 0, figures);
     };

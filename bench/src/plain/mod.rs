@@ -1,6 +1,6 @@
 //! The planner's calls in plain Rust, written from documents 01 and 02 alone.
 
-mod bound;
+pub mod bound;
 pub mod figures;
 pub mod ledger;
 pub mod meter;
