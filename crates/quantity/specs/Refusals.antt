@@ -1,10 +1,10 @@
--- Section 7, and 15 of document 02, item 6: the paper's number and place of each refusal, and how a call answers the first that stands.
+-- Section 7, and document 02: the paper's number and place of each refusal, and how a call answers the first that stands.
 use Prim.Native.Nat.{ℕ}
 use mathlib.Core.Bool.{Bool}
 use mathlib.Core.List.{List, [], _∷_}
 use Rattle.quantity.specs.Choice.{pick}
 use Rattle.quantity.specs.declared.refusal.Refusal.{Refusal}
-use Rattle.quantity.specs.declared.refusal.Refusal.the-variants.{Unusable, HeaderCutOff, FieldUnexpected, BodyCutOff, OutOfRange, FramedAfterFilter, FigureTooLarge, RateTooLow, DelayAboveWanted, PathNumberWrong, LedgerFull, LinkShort, InputBreaksDeclaration, ChoiceAboveGreatest, RowsOutOfOrder}
+use Rattle.quantity.specs.declared.refusal.Refusal.the-variants.{Unusable, HeaderCutOff, FieldUnexpected, BodyCutOff, OutOfRange, FramedAfterFilter, FigureTooLarge, RateTooLow, DelayAboveWanted, PathNumberWrong, LedgerFull, LinkShort, InputBreaksDeclaration, ChoiceAboveGreatest, RowsOutOfOrder, ConfirmedAlready}
 
 abbrev pub refusalNumber : Refusal → ℕ
 refusalNumber Unusable = 1
@@ -22,6 +22,7 @@ refusalNumber LinkShort = 12
 refusalNumber InputBreaksDeclaration = 13
 refusalNumber (ChoiceAboveGreatest at) = 14
 refusalNumber (RowsOutOfOrder at) = 15
+refusalNumber ConfirmedAlready = 16
 
 -- the field's first byte for 2 to 5 and 15, the operator's index for 6 to 8 and 14, else 0
 abbrev pub refusalPlace : Refusal → ℕ
@@ -40,6 +41,7 @@ refusalPlace LinkShort = 0
 refusalPlace InputBreaksDeclaration = 0
 refusalPlace (ChoiceAboveGreatest at) = at
 refusalPlace (RowsOutOfOrder at) = at
+refusalPlace ConfirmedAlready = 0
 
 -- a refusal with the condition under which it stands
 pub record Case : Type 0 where

@@ -35,6 +35,8 @@ pub enum Refusal {
     ChoiceAboveGreatest(usize),
     // 15, tested behind 5 in its field (document 02, item 6).
     RowsOutOfOrder(usize),
+    // 16
+    ConfirmedAlready,
 }
 
 impl Refusal {
@@ -58,6 +60,7 @@ impl Refusal {
             Refusal::InputBreaksDeclaration => 13,
             Refusal::ChoiceAboveGreatest(_) => 14,
             Refusal::RowsOutOfOrder(_) => 15,
+            Refusal::ConfirmedAlready => 16,
         }
     }
 
@@ -81,6 +84,7 @@ impl Refusal {
             Refusal::InputBreaksDeclaration => 0,
             Refusal::ChoiceAboveGreatest(at) => at,
             Refusal::RowsOutOfOrder(at) => at,
+            Refusal::ConfirmedAlready => 0,
         }
     }
 }
