@@ -2,15 +2,18 @@
 
 use ledger::Ledger;
 use ledger::Record;
-use ledger::admission::Admission;
-use ledger::admission::admit;
+use ledger::confirming::Confirmed;
+use ledger::confirming::confirm;
+use ledger::holding::Holding;
+use ledger::holding::hold;
 use ledger::opening::Opened;
 use ledger::opening::open;
 use ledger::release::Released;
 use ledger::release::release;
 ghost use mathlib.Core.Path.{_≡_};
 ghost use Rattle.ledger.specs.Opening.{openedOf, recordsOpened};
-ghost use Rattle.ledger.specs.Admission.{admissionOf, recordsAdmitted};
+ghost use Rattle.ledger.specs.Holding.{holdingOf, recordsHeld};
+ghost use Rattle.ledger.specs.Confirming.{confirmedOf, recordsConfirmed};
 ghost use Rattle.ledger.specs.Release.{releasedOf, recordsReleased};
 
 pub struct NewBook {
@@ -18,8 +21,13 @@ pub struct NewBook {
     pub records: [Record; 64],
 }
 
-pub struct AdmittedPath {
-    pub admission: Admission,
+pub struct HeldPath {
+    pub holding: Holding,
+    pub records: [Record; 64],
+}
+
+pub struct ConfirmedPath {
+    pub confirmed: Confirmed,
     pub records: [Record; 64],
 }
 
@@ -39,13 +47,24 @@ pub fn open_book(capacities: [u32; 16], records: [Record; 64]) -> NewBook
     }
 }
 
-pub fn admit_path(ledger: Ledger, records: [Record; 64], number: u32, sheet: &[u8]) -> AdmittedPath
-    ensures { λ r. ⌜ (r .admission ≡ admissionOf ledger records number (now (sheet .entry))) × (r .records ≡ recordsAdmitted ledger records number (now (sheet .entry))) ⌝ }
+pub fn hold_path(ledger: Ledger, records: [Record; 64], number: u32, sheet: &[u8]) -> HeldPath
+    ensures { λ r. ⌜ (r .holding ≡ holdingOf ledger records number (now (sheet .entry))) × (r .records ≡ recordsHeld ledger records number (now (sheet .entry))) ⌝ }
 {
     let mut lent = records;
-    let admission = admit(ledger, &mut lent, number, sheet);
-    AdmittedPath {
-        admission,
+    let holding = hold(ledger, &mut lent, number, sheet);
+    HeldPath {
+        holding,
+        records: lent,
+    }
+}
+
+pub fn confirm_path(ledger: Ledger, records: [Record; 64], number: u32) -> ConfirmedPath
+    ensures { λ r. ⌜ (r .confirmed ≡ confirmedOf ledger records number) × (r .records ≡ recordsConfirmed ledger records number) ⌝ }
+{
+    let mut lent = records;
+    let confirmed = confirm(ledger, &mut lent, number);
+    ConfirmedPath {
+        confirmed,
         records: lent,
     }
 }

@@ -24,15 +24,15 @@ use Rattle.figures.specs.declared.PathFigures.{PathFigures}
 use Rattle.figures.proofs.Promise.{accepted-none}
 use Rattle.ledger.specs.declared.Record.{Record}
 use Rattle.ledger.specs.declared.Ledger.{Ledger}
-use Rattle.ledger.specs.declared.admission.Admission.{Admission}
+use Rattle.ledger.specs.declared.holding.Holding.{Holding}
 use Rattle.ledger.specs.Records.{numberAt, among, stands}
 use Rattle.ledger.specs.Ledgers.{recordCount, linkCount, capacityOf, totalOf}
-use Rattle.ledger.specs.Admission.{rateOf, namesLink, ledgerFull, linkShort, standingCases, admissionCases, refusedAdmission, acceptedAdmission, admissionOf}
+use Rattle.ledger.specs.Holding.{rateOf, namesLink, ledgerFull, linkShort, standingCases, holdingCases, refusedHolding, acceptedHolding, holdingOf}
 use Rattle.ledger.specs.Spare.{totalFits, linksUnusable, spareOf}
 use Rattle.ledger.specs.Admissible.{Admissible}
 use Rattle.ledger.proofs.UsableLedger.{usable-ledger}
 use Rattle.ledger.proofs.Numbers.{not-among}
-use Rattle.ledger.proofs.Admitting.{path-link}
+use Rattle.ledger.proofs.DecidingHold.{path-link}
 use Rattle.ledger.proofs.Deciding.{total-is}
 
 -- the link of an operator is named, and a named link is an operator's
@@ -78,7 +78,7 @@ module _ (ledger : Ledger) (records : List Record) (number : ℕ) (sheet : List 
   unfolding stands among
   new-where absent j less = eqb-false (numberAt records j) number (not-true _ (every-at _ (ledger .count) (not-false _ absent) j less))
 
-  admissible : NoneStands (admissionCases ledger records number sheet) → Admissible ledger records number sheet
+  admissible : NoneStands (holdingCases ledger records number sheet) → Admissible ledger records number sheet
   unfolding ledgerFull figuresOf refusedFigures acceptedFigures
   admissible none =
       let (planned, standing) = none-of-each (sheetCases sheet ++ pathCases value) (standingCases ledger records number value) (none .1 .1) in
@@ -92,7 +92,7 @@ module _ (ledger : Ledger) (records : List Record) (number : ℕ) (sheet : List 
         carried = carried-where (none-of-each (sheetCases sheet) (pathCases value) planned .0) (standing .1 .1 .0);
       }
 
-  none-where : Admissible ledger records number sheet → NoneStands (admissionCases ledger records number sheet)
+  none-where : Admissible ledger records number sheet → NoneStands (holdingCases ledger records number sheet)
   unfolding ledgerFull inRange stands
   none-where a =
       let (fields, figures) = accepted-none sheet (a .planned) in (
@@ -104,11 +104,11 @@ module _ (ledger : Ledger) (records : List Record) (number : ℕ) (sheet : List 
         ),
       )
 
-  pub admitted-iff : (admissionOf ledger records number sheet .verdict ≡ Verdict.Accepted) ↔ Admissible ledger records number sheet
-  unfolding admissionOf refusedAdmission acceptedAdmission
-  admitted-iff = (
-    (λ accepted. admissible (none-where-result (refusedAdmission ledger) (acceptedAdmission ledger value) (λ (a : Admission). a .verdict ≡ Verdict.Accepted) (λ why. never-accepted why) (admissionCases ledger records number sheet) accepted)),
-    (λ a. ap (λ (r : Admission). r .verdict) (firstOf-none (refusedAdmission ledger) (acceptedAdmission ledger value) (admissionCases ledger records number sheet) (none-where a))),
+  pub held-iff : (holdingOf ledger records number sheet .verdict ≡ Verdict.Accepted) ↔ Admissible ledger records number sheet
+  unfolding holdingOf refusedHolding acceptedHolding
+  held-iff = (
+    (λ accepted. admissible (none-where-result (refusedHolding ledger) (acceptedHolding ledger value) (λ (a : Holding). a .verdict ≡ Verdict.Accepted) (λ why. never-accepted why) (holdingCases ledger records number sheet) accepted)),
+    (λ a. ap (λ (r : Holding). r .verdict) (firstOf-none (refusedHolding ledger) (acceptedHolding ledger value) (holdingCases ledger records number sheet) (none-where a))),
   )
 
 -- Neither the count nor a record tells in what asking answers.

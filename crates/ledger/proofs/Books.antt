@@ -1,17 +1,18 @@
 -- A ledger and its records are those of its account, from a new one on and after each call: then refusal 1 lets them pass, and 10 to 12 stand where the account says.
-use mathlib.Core.Path.{_≡_, ap, ap₂, sym, _∙_}
-use mathlib.Core.Bool.{true, false, not}
+use mathlib.Core.Path.{_≡_, refl, ap, ap₂, sym, _∙_}
+use mathlib.Core.Bool.{Bool, true, false, not}
 use mathlib.Core.List.{List}
 use Prim.Native.Nat.{ℕ, _+_, _-_, _≤_, _<_}
 use native.Mathlib.Omega.{arith}
 use lib.ListN.{length}
 use lib.Dec.{ltb, eqb}
 use borrow.Author.Tests.{le-leb, eq-eqb, ne-eqb}
-use Rattle.quantity.specs.Choice.{both}
+use Rattle.quantity.specs.Choice.{pick, both}
 use Rattle.quantity.specs.Sums.{listOf}
-use Rattle.quantity.specs.Ranges.{inRange, linkCapacityRange}
+use Rattle.quantity.specs.Ranges.{inRange, pathNumberRange, linkCapacityRange}
 use Rattle.quantity.specs.Refusals.{Case, firstOf}
 use Rattle.quantity.specs.declared.refusal.Refusal.{Refusal}
+use Rattle.quantity.specs.declared.refusal.Refusal.the-variants.{Unusable, PathNumberWrong, ConfirmedAlready}
 use Rattle.quantity.specs.declared.LinkCapacity.{LinkCapacity}
 use Rattle.quantity.specs.declared.Rate.{Rate}
 use Rattle.quantity.proofs.Laws.{either-none}
@@ -20,17 +21,19 @@ use Rattle.sheet.specs.Paths.{Path}
 use Rattle.sheet.specs.Sheets.{pathIn}
 use Rattle.ledger.specs.declared.Record.{Record}
 use Rattle.ledger.specs.declared.Ledger.{Ledger}
-use Rattle.ledger.specs.Records.{numberAt, stands, reserved, among, allDiffer}
+use Rattle.ledger.specs.Records.{markConfirmed, numberAt, stands, reserved, among, allDiffer}
 use Rattle.ledger.specs.Ledgers.{recordCount, linkCount, capacityOf, totalOf, capacitiesFit, linkFits, totalKept}
 use Rattle.ledger.specs.Opening.{askedFor}
-use Rattle.ledger.specs.Admission.{rateOf, namesLink, ledgerFull, linkShort, admissionCases}
+use Rattle.ledger.specs.Holding.{rateOf, namesLink, ledgerFull, linkShort, holdingCases}
 use Rattle.ledger.specs.Release.{releaseCases}
+use Rattle.ledger.specs.Confirming.{confirmedAlready, confirmCases}
 use Rattle.ledger.specs.Spare.{totalFits, linksUnusable, spareCases}
-use Rattle.ledger.specs.Calls.{Call, admit, release, spare}
-use Rattle.ledger.specs.Account.{Account, reservedOn, standsIn, shortIn, callCases}
+use Rattle.ledger.specs.Calls.{Call, hold, confirm, release, spare}
+use Rattle.ledger.specs.Account.{Account, reservedOn, standsIn, confirmedIn, shortIn, callCases}
 use Rattle.ledger.specs.Lists.{Book}
+use Rattle.ledger.specs.Kept.{markOf}
 use Rattle.ledger.proofs.UsableLedger.{UsableLedger, ledger-usable}
-use Rattle.ledger.proofs.Entries.{recordsOf, reserved-on, stands-in, length-records, Sound, records-fit, numbers-once}
+use Rattle.ledger.proofs.Entries.{recordsOf, reserved-on, stands-in, mark-in, length-records, Sound, records-fit, numbers-once}
 
 module _ (capacities : List ℕ) where
   -- the ledger and the records of an account
@@ -63,6 +66,15 @@ module _ (capacities : List ℕ) where
     pub stands-same : (number : ℕ) → stands (recordsIn entries) (length entries) number ≡ standsIn number entries
     unfolding stands
     stands-same number = stands-in entries (recordCount - length entries) number
+
+    -- 16 of a path that stands
+    confirmed-same : (number : ℕ) → standsIn number entries ≡ true → confirmedAlready (ledgerOf entries) (recordsIn entries) number ≡ confirmedIn number entries
+    unfolding confirmedAlready
+    confirmed-same number standing = ap (λ (mark : ℕ). eqb mark markConfirmed) (mark-in entries (recordCount - length entries) number standing) ∙ mark-tells (confirmedIn number entries)
+      where
+        mark-tells : (t : Bool) → eqb (markOf t) markConfirmed ≡ t
+        mark-tells true = refl
+        mark-tells false = refl
 
     pub short-same : (path : Path) → linkShort (ledgerOf entries) path ≡ shortIn capacities entries path
     unfolding linkShort shortIn
@@ -104,12 +116,22 @@ module _ (capacities : List ℕ) where
 
     -- why a call is refused
     abbrev pub bookCases : Call → List Case
-    bookCases (admit number sheet) = admissionCases (ledgerOf entries) (recordsIn entries) number sheet
+    bookCases (hold number sheet) = holdingCases (ledgerOf entries) (recordsIn entries) number sheet
+    bookCases (confirm number) = confirmCases (ledgerOf entries) (recordsIn entries) number
     bookCases (release number) = releaseCases (ledgerOf entries) (recordsIn entries) number
     bookCases (spare link) = spareCases (ledgerOf entries) link
 
     pub cases-same : SoundAccount entries → {A : Type 0} (refused : Refusal → A) (result : A) (call : Call) → firstOf (bookCases call) refused result ≡ firstOf (callCases capacities entries call) refused result
     unfolding ledgerFull
-    cases-same account refused result (admit number sheet) = rw (ledger-usable (ledgerOf entries) (recordsIn entries) (usable-same account), stands-same number, short-same (pathIn sheet))
+    cases-same account refused result (hold number sheet) = rw (ledger-usable (ledgerOf entries) (recordsIn entries) (usable-same account), stands-same number, short-same (pathIn sheet))
+    cases-same account refused result (confirm number) =
+        rw (ledger-usable (ledgerOf entries) (recordsIn entries) (usable-same account), stands-same number)
+        (ap (pick (not (inRange pathNumberRange number)) (refused Unusable)) (by-test (standsIn number entries) (confirmed-same number)))
+      where
+        by-test : (t : Bool) → (t ≡ true → confirmedAlready (ledgerOf entries) (recordsIn entries) number ≡ confirmedIn number entries)
+            → pick (not t) (refused PathNumberWrong) (pick (confirmedAlready (ledgerOf entries) (recordsIn entries) number) (refused ConfirmedAlready) result)
+            ≡ pick (not t) (refused PathNumberWrong) (pick (confirmedIn number entries) (refused ConfirmedAlready) result)
+        by-test true same = ap (λ (c : Bool). pick c (refused ConfirmedAlready) result) (same refl)
+        by-test false same = refl
     cases-same account refused result (release number) = rw (ledger-usable (ledgerOf entries) (recordsIn entries) (usable-same account), stands-same number)
     cases-same account refused result (spare link) = rw (links-usable account)

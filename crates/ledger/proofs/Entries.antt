@@ -13,11 +13,12 @@ use Rattle.quantity.specs.Ranges.{inRange, rateRange, pathNumberRange}
 use Rattle.quantity.proofs.Laws.{either-false}
 use Rattle.quantity.proofs.Sums.{total-zero, total-first}
 use Rattle.ledger.specs.declared.Record.{Record}
-use Rattle.ledger.specs.Records.{noRecord, recordAt, numberAt, share, reserved, among, placeAmong}
-use Rattle.ledger.specs.Ledgers.{linkCount, recordInRange, recordClear, recordFits}
-use Rattle.ledger.specs.Admission.{rateOf, rateOn, recordOf}
-use Rattle.ledger.specs.Account.{Account, Entry, reservedOn, standsIn, without}
-use Rattle.ledger.specs.Kept.{recordOfEntry}
+use Rattle.ledger.specs.Records.{noRecord, recordAt, numberAt, markAt, share, reserved, among, placeAmong}
+use Rattle.ledger.specs.Ledgers.{linkCount, markRange, recordInRange, recordClear, recordFits}
+use Rattle.ledger.specs.Holding.{rateOf, rateOn, recordOf}
+use Rattle.ledger.specs.Confirming.{confirmedRecord}
+use Rattle.ledger.specs.Account.{Account, Entry, reservedOn, standsIn, confirmedIn, without, withConfirmed}
+use Rattle.ledger.specs.Kept.{markOf, recordOfEntry}
 use Rattle.ledger.proofs.Links.{share-named, links-inside}
 use Rattle.ledger.proofs.Firsts.{among-none, among-first, place-first}
 
@@ -33,7 +34,7 @@ unfolding reserved reservedOn
 reserved-on [] rest link less = total-zero (λ j. share (recordAt (recordsOf [] rest) j) link)
 reserved-on (entry ∷ entries) rest link less =
     total-first (λ j. share (recordAt (recordsOf (entry ∷ entries) rest) j) link) (length entries)
-    ∙ ap₂ _+_ (share-named (entry .number) (entry .path) link less) (reserved-on entries rest link less)
+    ∙ ap₂ _+_ (share-named (entry .number) (entry .path) (markOf (entry .confirmed)) link less) (reserved-on entries rest link less)
 
 pub stands-in : (entries : Account) (rest number : ℕ) → among (numberAt (recordsOf entries rest)) (length entries) number ≡ standsIn number entries
 unfolding standsIn recordOf
@@ -121,8 +122,78 @@ remove-share (entry ∷ entries) rest number link less standing =
     by-test : (t : Bool) → either t (standsIn number entries) ≡ true
         → (standsIn number entries ≡ true → reservedOn link (without number entries) + share (recordAt (recordsOf entries rest) place) link ≡ reservedOn link entries)
         → reservedOn link (pick t entries (entry ∷ without number entries)) + share (recordAt (recordsOf (entry ∷ entries) rest) (pick t 0 (suc place))) link ≡ rateOn link (entry .path) + reservedOn link entries
-    by-test true standing others = omega (arith, share-named (entry .number) (entry .path) link less)
+    by-test true standing others = omega (arith, share-named (entry .number) (entry .path) (markOf (entry .confirmed)) link less)
     by-test false standing others = omega (arith, others standing)
+
+-- Confirming: the path's record has its mark, and nothing else changes.
+
+-- the records once the one at a place is confirmed
+abbrev pub changed : List Record → ℕ → List Record
+changed records place = set records place (confirmedRecord (recordAt records place))
+
+pub confirm-record : (entries : Account) (rest number : ℕ) → standsIn number entries ≡ true
+    → changed (recordsOf entries rest) (placeAmong (numberAt (recordsOf entries rest)) (length entries) number) ≡ recordsOf (withConfirmed number entries) rest
+unfolding standsIn withConfirmed recordOf confirmedRecord
+confirm-record [] rest number standing = absurd (let never : _≡_ {A = ℕ} 0 1 = cc in omega arith)
+confirm-record (entry ∷ entries) rest number standing =
+    ap (changed (recordsOf (entry ∷ entries) rest)) (place-first (numberAt (recordsOf (entry ∷ entries) rest)) number (length entries))
+    ∙ by-test (eqb (entry .number) number) standing (confirm-record entries rest number)
+  where
+    place : ℕ
+    place = placeAmong (numberAt (recordsOf entries rest)) (length entries) number
+
+    by-test : (t : Bool) → either t (standsIn number entries) ≡ true → (standsIn number entries ≡ true → changed (recordsOf entries rest) place ≡ recordsOf (withConfirmed number entries) rest)
+        → changed (recordsOf (entry ∷ entries) rest) (pick t 0 (suc place))
+        ≡ recordsOf (pick t (record { number = entry .number; path = entry .path; confirmed = true } ∷ entries) (entry ∷ withConfirmed number entries)) rest
+    by-test true standing others = refl
+    by-test false standing others = ap (λ records. recordOfEntry entry ∷ records) (others standing)
+
+-- the mark of a path that stands is the account's
+pub mark-in : (entries : Account) (rest number : ℕ) → standsIn number entries ≡ true
+    → markAt (recordsOf entries rest) (placeAmong (numberAt (recordsOf entries rest)) (length entries) number) ≡ markOf (confirmedIn number entries)
+unfolding standsIn confirmedIn recordOf
+mark-in [] rest number standing = absurd (let never : _≡_ {A = ℕ} 0 1 = cc in omega arith)
+mark-in (entry ∷ entries) rest number standing =
+    ap (markAt (recordsOf (entry ∷ entries) rest)) (place-first (numberAt (recordsOf (entry ∷ entries) rest)) number (length entries))
+    ∙ by-test (eqb (entry .number) number) standing (mark-in entries rest number)
+  where
+    place : ℕ
+    place = placeAmong (numberAt (recordsOf entries rest)) (length entries) number
+
+    by-test : (t : Bool) → either t (standsIn number entries) ≡ true → (standsIn number entries ≡ true → markAt (recordsOf entries rest) place ≡ markOf (confirmedIn number entries))
+        → markAt (recordsOf (entry ∷ entries) rest) (pick t 0 (suc place)) ≡ markOf (pick t (entry .confirmed) (confirmedIn number entries))
+    by-test true standing others = refl
+    by-test false standing others = others standing
+
+pub confirm-count : (entries : Account) (number : ℕ) → length (withConfirmed number entries) ≡ length entries
+unfolding withConfirmed
+confirm-count [] number = refl
+confirm-count (entry ∷ entries) number = by-test (eqb (entry .number) number) (confirm-count entries number)
+  where
+    by-test : (t : Bool) → length (withConfirmed number entries) ≡ length entries
+        → length (pick t (record { number = entry .number; path = entry .path; confirmed = true } ∷ entries) (entry ∷ withConfirmed number entries)) ≡ suc (length entries)
+    by-test true others = refl
+    by-test false others = ap suc others
+
+pub confirm-reserved : (entries : Account) (number link : ℕ) → reservedOn link (withConfirmed number entries) ≡ reservedOn link entries
+unfolding reservedOn withConfirmed
+confirm-reserved [] number link = refl
+confirm-reserved (entry ∷ entries) number link = by-test (eqb (entry .number) number) (confirm-reserved entries number link)
+  where
+    by-test : (t : Bool) → reservedOn link (withConfirmed number entries) ≡ reservedOn link entries
+        → reservedOn link (pick t (record { number = entry .number; path = entry .path; confirmed = true } ∷ entries) (entry ∷ withConfirmed number entries)) ≡ rateOn link (entry .path) + reservedOn link entries
+    by-test true others = refl
+    by-test false others = ap (λ (n : ℕ). rateOn link (entry .path) + n) others
+
+pub confirm-stands : (entries : Account) (number other : ℕ) → standsIn other (withConfirmed number entries) ≡ standsIn other entries
+unfolding standsIn withConfirmed
+confirm-stands [] number other = refl
+confirm-stands (entry ∷ entries) number other = by-test (eqb (entry .number) number) (confirm-stands entries number other)
+  where
+    by-test : (t : Bool) → standsIn other (withConfirmed number entries) ≡ standsIn other entries
+        → standsIn other (pick t (record { number = entry .number; path = entry .path; confirmed = true } ∷ entries) (entry ∷ withConfirmed number entries)) ≡ either (eqb (entry .number) other) (standsIn other entries)
+    by-test true others = refl
+    by-test false others = ap (either (eqb (entry .number) other)) others
 
 -- What holds of all paths holds of the rest.
 
@@ -147,7 +218,7 @@ remove-stands (entry ∷ entries) number other absent =
     by-test true here behind others = behind
     by-test false here behind others = rw here others
 
--- A path of the account was admitted: its number and its rate are in their ranges, and no path behind it has its number.
+-- A path of the account was held: its number and its rate are in their ranges, and no path behind it has its number.
 
 pub record SoundEntry (entry : Entry) (behind : Account) : Type 0 where
   pub numbered : inRange pathNumberRange (entry .number) ≡ true
@@ -176,7 +247,21 @@ remove-sound (entry ∷ entries) number (here, sound) = by-test (eqb (entry .num
     by-test true others = sound
     by-test false others = (record { numbered = here .numbered; rated = here .rated; alone = remove-stands entries number (entry .number) (here .alone) }, others)
 
+pub confirm-sound : (entries : Account) (number : ℕ) → Sound entries → Sound (withConfirmed number entries)
+unfolding withConfirmed
+confirm-sound [] number sound = tt
+confirm-sound (entry ∷ entries) number (here, sound) = by-test (eqb (entry .number) number) (confirm-sound entries number sound)
+  where
+    by-test : (t : Bool) → Sound (withConfirmed number entries) → Sound (pick t (record { number = entry .number; path = entry .path; confirmed = true } ∷ entries) (entry ∷ withConfirmed number entries))
+    by-test true others = (record { numbered = here .numbered; rated = here .rated; alone = here .alone }, sound)
+    by-test false others = (record { numbered = here .numbered; rated = here .rated; alone = confirm-stands entries number (entry .number) ∙ here .alone }, others)
+
 -- Then its records fit, and no number stands twice.
+
+mark-inside : (t : Bool) → inRange markRange (markOf t) ≡ true
+unfolding inRange
+mark-inside true = refl
+mark-inside false = refl
 
 clear-at : (n k : ℕ) → recordAt (replicate n noRecord) k ≡ noRecord
 clear-at zero k = refl
@@ -187,7 +272,7 @@ pub records-fit : (entries : Account) (rest j : ℕ) → Sound entries → recor
 unfolding recordFits recordInRange recordClear recordOf
 records-fit [] rest j sound = rw (le-ltb j 0 (omega arith), clear-at rest j)
 records-fit (entry ∷ entries) rest zero (here, sound) =
-    rw (lt-ltb 0 (suc (length entries)) (omega arith), here .numbered, here .rated) (links-inside (entry .path))
+    rw (lt-ltb 0 (suc (length entries)) (omega arith), here .numbered, here .rated, links-inside (entry .path)) (mark-inside (entry .confirmed))
 records-fit (entry ∷ entries) rest (suc j) (here, sound) =
     ap (λ (t : Bool). pick t (recordInRange (recordAt (recordsOf entries rest) j)) (recordClear (recordAt (recordsOf entries rest) j))) (leb·suc-suc (suc j) (length entries)) ∙ records-fit entries rest j sound
 

@@ -24,12 +24,13 @@ use Rattle.ledger.specs.declared.opening.Opened.{Opened}
 use Rattle.ledger.specs.Records.{noRecord, numberAt, reserved}
 use Rattle.ledger.specs.Ledgers.{recordCount, totalOf, capacitiesFit, ledgerUnusable}
 use Rattle.ledger.specs.Opening.{askedFor, openCases, newLedger, refusedOpening, openedOf, recordsOpened}
-use Rattle.ledger.specs.Calls.{Call, admit, release, spare, numberWrong, Answer, refusedBy}
+use Rattle.ledger.specs.Release.{recordOfNumber}
+use Rattle.ledger.specs.Calls.{Call, hold, confirm, release, spare, numberWrong, Answer, refusedBy}
 use Rattle.ledger.specs.Account.{Account, reservedOn, standsIn, shortIn, without, callCases, granted, accountAnswer, accountNext, accountAfter}
 use Rattle.ledger.specs.Lists.{Book, opened, answered, called, calledAll, accountAll}
 use Rattle.ledger.specs.Kept.{Kept}
 use Rattle.ledger.proofs.UsableLedger.{ledger-usable}
-use Rattle.ledger.proofs.Entries.{numbers-once, remove-count}
+use Rattle.ledger.proofs.Entries.{numbers-once, remove-count, mark-in}
 use Rattle.ledger.proofs.Books.{ledgerOf, bookOf, SoundAccount, reserved-same, total-same, usable-same}
 use Rattle.ledger.proofs.NextCalls.{answer-same, called-same}
 use Rattle.ledger.proofs.SheetRefusals.{sheet-refusal}
@@ -80,7 +81,8 @@ verdict-number why other e = ap number e
 module _ (capacities : List ℕ) (entries : Account) where
   granted-accepted : (call : Call) → granted capacities entries call .verdict ≡ Verdict.Accepted
   unfolding granted
-  granted-accepted (admit number sheet) = refl
+  granted-accepted (hold number sheet) = refl
+  granted-accepted (confirm number) = refl
   granted-accepted (release number) = refl
   granted-accepted (spare link) = refl
 
@@ -97,7 +99,7 @@ module _ (capacities : List ℕ) (entries : Account) where
     abbrev standing : List Case
     standing = (standsIn number entries ⇒ PathNumberWrong) ∷ (eqb (length entries) recordCount ⇒ LedgerFull) ∷ (shortIn capacities entries (pathIn sheet) ⇒ LinkShort) ∷ []
 
-    number-first : FirstIs (callCases capacities entries (admit number sheet)) why → refusalNumber why ≡ 1 → not (inRange pathNumberRange number) ≡ true
+    number-first : FirstIs (callCases capacities entries (hold number sheet)) why → refusalNumber why ≡ 1 → not (inRange pathNumberRange number) ≡ true
     number-first (inl (stands, same)) one = stands
     number-first (inr (passed, later)) one = absurd (⊎-elim of-sheet of-ledger (first-of-each why (sheetCases sheet ++ pathCases (pathIn sheet)) standing later))
       where
@@ -110,7 +112,7 @@ module _ (capacities : List ℕ) (entries : Account) where
         of-ledger (inr (_, inr (_, inl (stands, same)))) = omega (arith, one, ap refusalNumber same)
         of-ledger (inr (_, inr (_, inr (_, none)))) = none
 
-    full-first : FirstIs (callCases capacities entries (admit number sheet)) why → refusalNumber why ≡ 11 → length entries ≡ recordCount
+    full-first : FirstIs (callCases capacities entries (hold number sheet)) why → refusalNumber why ≡ 11 → length entries ≡ recordCount
     full-first (inl (stands, same)) eleven = absurd (omega (arith, eleven, ap refusalNumber same))
     full-first (inr (passed, later)) eleven = ⊎-elim (λ first. absurd (of-sheet first)) of-ledger (first-of-each why (sheetCases sheet ++ pathCases (pathIn sheet)) standing later)
       where
@@ -123,6 +125,12 @@ module _ (capacities : List ℕ) (entries : Account) where
         of-ledger (inr (_, inr (_, inl (stands, same)))) = absurd (omega (arith, eleven, ap refusalNumber same))
         of-ledger (inr (_, inr (_, inr (_, none)))) = absurd none
 
+  confirm-first : (number : ℕ) (why : Refusal) → FirstIs (callCases capacities entries (confirm number)) why → refusalNumber why ≡ 1 → not (inRange pathNumberRange number) ≡ true
+  confirm-first number why (inl (stands, same)) one = stands
+  confirm-first number why (inr (_, inl (stands, same))) one = absurd (omega (arith, one, ap refusalNumber same))
+  confirm-first number why (inr (_, inr (_, inl (stands, same)))) one = absurd (omega (arith, one, ap refusalNumber same))
+  confirm-first number why (inr (_, inr (_, inr (_, none)))) one = absurd none
+
   release-first : (number : ℕ) (why : Refusal) → FirstIs (callCases capacities entries (release number)) why → refusalNumber why ≡ 1 → not (inRange pathNumberRange number) ≡ true
   release-first number why (inl (stands, same)) one = stands
   release-first number why (inr (_, inl (stands, same))) one = absurd (omega (arith, one, ap refusalNumber same))
@@ -134,12 +142,13 @@ module _ (capacities : List ℕ) (entries : Account) where
 
   unusable-number : (call : Call) → accountAnswer capacities entries call .verdict ≡ Verdict.Refused Unusable → numberWrong call ≡ true
   unfolding numberWrong
-  unusable-number (admit number sheet) refused = let (why, (first, one)) = first-of-answer (admit number sheet) Unusable refused in number-first number sheet why first one
+  unusable-number (hold number sheet) refused = let (why, (first, one)) = first-of-answer (hold number sheet) Unusable refused in number-first number sheet why first one
+  unusable-number (confirm number) refused = let (why, (first, one)) = first-of-answer (confirm number) Unusable refused in confirm-first number why first one
   unusable-number (release number) refused = let (why, (first, one)) = first-of-answer (release number) Unusable refused in release-first number why first one
   unusable-number (spare link) refused = let (why, (first, one)) = first-of-answer (spare link) Unusable refused in absurd (spare-first link why first one)
 
-  full-only : (number : ℕ) (sheet : List ℕ) → accountAnswer capacities entries (admit number sheet) .verdict ≡ Verdict.Refused LedgerFull → length entries ≡ recordCount
-  full-only number sheet refused = let (why, (first, eleven)) = first-of-answer (admit number sheet) LedgerFull refused in full-first number sheet why first eleven
+  full-only : (number : ℕ) (sheet : List ℕ) → accountAnswer capacities entries (hold number sheet) .verdict ≡ Verdict.Refused LedgerFull → length entries ≡ recordCount
+  full-only number sheet refused = let (why, (first, eleven)) = first-of-answer (hold number sheet) LedgerFull refused in full-first number sheet why first eleven
 
   -- a release that is taken leaves a record free
   one-free : SoundAccount capacities entries → (number : ℕ) → accountAnswer capacities entries (release number) .verdict ≡ Verdict.Accepted → length (accountAfter capacities entries (release number)) < recordCount
@@ -168,12 +177,13 @@ ledger-kept capacities lent accepted calls =
       once = subst (λ (b : Book). (i j : ℕ) → i < j → j < b .ledger .count → numberAt (b .records) i ≡ numberAt (b .records) j → ⊥) (sym is) (λ i j. numbers-once entries (recordCount - length entries) i j (led .sound .sound));
       counted = ap (λ (b : Book). b .ledger .count) is;
       ordered = ap (λ (b : Book). b .records) is;
+      marks = λ number standing. ap (λ (b : Book). recordOfNumber (b .ledger) (b .records) number .mark) is ∙ mark-in entries (recordCount - length entries) number standing;
       freed =
           λ number granted next sheet full.
           let released : accountAnswer capacities entries (release number) .verdict ≡ Verdict.Accepted = sym (ap (λ (a : Answer). a .verdict) (answers (release number))) ∙ granted in
           let (left, sound) = called-same capacities entries (led .sound) (release number) in
           let after = accountAfter capacities entries (release number) in
-          let same : answered (called (calledAll (opened capacities lent) calls) (release number)) (admit next sheet) ≡ accountAnswer capacities after (admit next sheet) = ap (λ (b : Book). answered (called b (release number)) (admit next sheet)) is ∙ ap (λ (b : Book). answered b (admit next sheet)) left ∙ answer-same capacities after sound (admit next sheet) in
+          let same : answered (called (calledAll (opened capacities lent) calls) (release number)) (hold next sheet) ≡ accountAnswer capacities after (hold next sheet) = ap (λ (b : Book). answered (called b (release number)) (hold next sheet)) is ∙ ap (λ (b : Book). answered b (hold next sheet)) left ∙ answer-same capacities after sound (hold next sheet) in
           let filled = full-only capacities after next sheet (sym (ap (λ (a : Answer). a .verdict) same) ∙ full) in
           let free = one-free capacities entries (led .sound) number released in
           omega arith;

@@ -7,11 +7,11 @@ use Prim.Native.Nat.{ℕ, _≤_, _<_}
 use native.Mathlib.Omega.{arith}
 use lib.ListN.{length, set, replicate, drop-of-length-le}
 use lib.Dec.{ltb, eqb}
-use borrow.Author.Tests.{eqb-true, eqb-false, lt-ltb, not-false}
+use borrow.Author.Tests.{eqb-true, eqb-false, ltb-true, lt-ltb, not-false}
 use Rattle.quantity.specs.Ranges.{inRange, pathNumberRange}
 use Rattle.quantity.specs.Refusals.{Case, _⇒_, firstOf}
 use Rattle.quantity.specs.declared.refusal.Refusal.{Refusal}
-use Rattle.quantity.specs.declared.refusal.Refusal.the-variants.{Unusable, PathNumberWrong}
+use Rattle.quantity.specs.declared.refusal.Refusal.the-variants.{Unusable, PathNumberWrong, ConfirmedAlready}
 use Rattle.quantity.proofs.Laws.{pick-true}
 use Rattle.quantity.proofs.Refusals.{NoneStands, FirstIs, firstOf-none, none-or-first, none-of-each, first-answered}
 use Rattle.sheet.specs.Sheets.{sheetCases, pathIn}
@@ -19,15 +19,18 @@ use Rattle.sheet.specs.declared.read.Verdict.{Verdict}
 use Rattle.figures.specs.Answers.{pathCases}
 use Rattle.ledger.specs.declared.Record.{Record}
 use Rattle.ledger.specs.declared.Ledger.{Ledger}
-use Rattle.ledger.specs.declared.admission.Admitting.{Admitting}
+use Rattle.ledger.specs.declared.holding.Appending.{Appending}
 use Rattle.ledger.specs.declared.release.Releasing.{Releasing}
+use Rattle.ledger.specs.declared.confirming.Marking.{Marking}
 use Rattle.ledger.specs.declared.opening.Clearing.{Clearing}
-use Rattle.ledger.specs.Records.{noRecord, numberAt, placeAmong, stands}
+use Rattle.ledger.specs.Records.{markHeld, noRecord, numberAt, placeAmong, stands}
 use Rattle.ledger.specs.Ledgers.{recordCount, ledgerUnusable}
 use Rattle.ledger.specs.Opening.{openCases, newLedger, refusedOpening, openedOf, recordsOpened}
-use Rattle.ledger.specs.Admission.{recordOf, ledgerFull, standingCases, admissionCases, refusedAdmission, acceptedAdmission, admissionOf, recordsAdmitted}
+use Rattle.ledger.specs.Holding.{recordOf, ledgerFull, standingCases, holdingCases, refusedHolding, acceptedHolding, holdingOf, recordsHeld}
 use Rattle.ledger.specs.Release.{releaseCases, closedUp, refusedRelease, acceptedRelease, recordOfNumber, releasedOf, recordsReleased}
-use Rattle.ledger.specs.Steps.{loadedOf, loadedRecords, appended, filled, refusedClearing, clearingOf, refusedAdmitting, acceptedAdmitting, admittingOf, refusedReleasing, releasingOf}
+use Rattle.ledger.specs.Confirming.{confirmedAlready, confirmCases, refusedConfirming, confirmedOf, confirmedAt, recordsConfirmed}
+use Rattle.ledger.specs.Steps.{loadedOf, loadedRecords, appended, marked, filled, refusedMarking, markingOf, refusedClearing, clearingOf, refusedAppending, acceptedAppending, appendingOf, refusedReleasing, releasingOf}
+use Rattle.ledger.proofs.Deciding.{stands-below}
 use Rattle.ledger.proofs.UsableLedger.{usable-ledger, ledger-unusable}
 
 -- the value of 64 lent records stands for them
@@ -67,51 +70,59 @@ appended-nowhere : (records : List Record) (entry : Record) → appended records
 unfolding appended
 appended-nowhere records entry = refl
 
+marked-there : (records : List Record) (at : ℕ) → at < recordCount → marked records at ≡ confirmedAt records at
+unfolding marked
+marked-there records at less = pick-true (ltb at recordCount) _ _ (lt-ltb at recordCount less)
+
+marked-nowhere : (records : List Record) → marked records recordCount ≡ records
+unfolding marked
+marked-nowhere records = refl
+
 closed-nowhere : (records : List Record) (last : Record) → closedUp records recordCount last ≡ records
 unfolding closedUp
 closed-nowhere records last = refl
 
 module _ (ledger : Ledger) (records : List Record) (number : ℕ) (sheet : List ℕ) where
-  admitting-held : admittingOf ledger (loadedRecords (loadedOf records)) number sheet ≡ admittingOf ledger records number sheet
-  unfolding admittingOf
-  admitting-held = from-held (λ rs. admittingOf ledger rs number sheet) records (λ other. by-one [] (unusable-size ledger [] refl) ∙ sym (by-one records (unusable-size ledger records other)))
+  appending-loaded : appendingOf ledger (loadedRecords (loadedOf records)) number sheet ≡ appendingOf ledger records number sheet
+  unfolding appendingOf
+  appending-loaded = from-held (λ rs. appendingOf ledger rs number sheet) records (λ other. by-one [] (unusable-size ledger [] refl) ∙ sym (by-one records (unusable-size ledger records other)))
     where
-      by-one : (rs : List Record) → ledgerUnusable ledger rs ≡ true → admittingOf ledger rs number sheet ≡ refusedAdmitting ledger Unusable
-      by-one rs = refused-by-one (refusedAdmitting ledger) (acceptedAdmitting ledger number (pathIn sheet)) (not (inRange pathNumberRange number)) (ledgerUnusable ledger rs) ((sheetCases sheet ++ pathCases (pathIn sheet)) ++ standingCases ledger rs number (pathIn sheet))
+      by-one : (rs : List Record) → ledgerUnusable ledger rs ≡ true → appendingOf ledger rs number sheet ≡ refusedAppending ledger Unusable
+      by-one rs = refused-by-one (refusedAppending ledger) (acceptedAppending ledger number (pathIn sheet)) (not (inRange pathNumberRange number)) (ledgerUnusable ledger rs) ((sheetCases sheet ++ pathCases (pathIn sheet)) ++ standingCases ledger rs number (pathIn sheet))
 
-  -- what the admission decides: its answer, a place only where 64 records are lent, and with what is appended there the records of the call
-  abbrev pub Admits : Admitting → Type 0
-  Admits a = (a .admission ≡ admissionOf ledger records number sheet) × ((a .at < recordCount → length records ≡ recordCount) × (appended records (a .at) (a .entry) ≡ recordsAdmitted ledger records number sheet))
+  -- what the holding decides: its answer, a place only where 64 records are lent, and with what is appended there the records of the call
+  abbrev pub Appends : Appending → Type 0
+  Appends a = (a .holding ≡ holdingOf ledger records number sheet) × ((a .at < recordCount → length records ≡ recordCount) × (appended records (a .at) (a .entry) ≡ recordsHeld ledger records number sheet))
 
-  pub admitted : (a : Admitting) → a ≡ admittingOf ledger (loadedRecords (loadedOf records)) number sheet → Admits a
-  unfolding admittingOf admissionOf recordsAdmitted refusedAdmitting acceptedAdmitting ledgerFull
-  admitted a e = ⊎-elim taken left (none-or-first cases)
+  pub holds : (a : Appending) → a ≡ appendingOf ledger (loadedRecords (loadedOf records)) number sheet → Appends a
+  unfolding appendingOf holdingOf recordsHeld refusedAppending acceptedAppending ledgerFull
+  holds a e = ⊎-elim taken left (none-or-first cases)
     where
       cases : List Case
-      cases = admissionCases ledger records number sheet
+      cases = holdingCases ledger records number sheet
 
-      taken : NoneStands cases → Admits a
+      taken : NoneStands cases → Appends a
       taken none =
-          let is : a ≡ acceptedAdmitting ledger number (pathIn sheet) = e ∙ admitting-held ∙ firstOf-none (refusedAdmitting ledger) (acceptedAdmitting ledger number (pathIn sheet)) cases none in
+          let is : a ≡ acceptedAppending ledger number (pathIn sheet) = e ∙ appending-loaded ∙ firstOf-none (refusedAppending ledger) (acceptedAppending ledger number (pathIn sheet)) cases none in
           let sound = usable-ledger ledger records (none .1 .0) in
           let not-full = none-of-each (sheetCases sheet ++ pathCases (pathIn sheet)) (standingCases ledger records number (pathIn sheet)) (none .1 .1) .1 .1 .0 in
           let room : ledger .count < recordCount = let other = eqb-false (ledger .count) recordCount not-full in let few = sound .few in omega arith in (
-            ap (λ x. x .admission) is ∙ sym (firstOf-none (refusedAdmission ledger) (acceptedAdmission ledger (pathIn sheet)) cases none),
+            ap (λ x. x .holding) is ∙ sym (firstOf-none (refusedHolding ledger) (acceptedHolding ledger (pathIn sheet)) cases none),
             (
               (λ less. sound .sized),
-              ap (λ x. appended records (x .at) (x .entry)) is ∙ appended-there records (ledger .count) (recordOf number (pathIn sheet)) room
-                  ∙ sym (firstOf-none (λ why. records) (set records (ledger .count) (recordOf number (pathIn sheet))) cases none),
+              ap (λ x. appended records (x .at) (x .entry)) is ∙ appended-there records (ledger .count) (recordOf number (pathIn sheet) markHeld) room
+                  ∙ sym (firstOf-none (λ why. records) (set records (ledger .count) (recordOf number (pathIn sheet) markHeld)) cases none),
             ),
           )
 
-      left : ((why : Refusal) × FirstIs cases why) → Admits a
+      left : ((why : Refusal) × FirstIs cases why) → Appends a
       left (why, first) =
-          let is : a ≡ refusedAdmitting ledger why = e ∙ admitting-held ∙ first-answered (refusedAdmitting ledger) (acceptedAdmitting ledger number (pathIn sheet)) why cases first in (
-            ap (λ x. x .admission) is ∙ sym (first-answered (refusedAdmission ledger) (acceptedAdmission ledger (pathIn sheet)) why cases first),
+          let is : a ≡ refusedAppending ledger why = e ∙ appending-loaded ∙ first-answered (refusedAppending ledger) (acceptedAppending ledger number (pathIn sheet)) why cases first in (
+            ap (λ x. x .holding) is ∙ sym (first-answered (refusedHolding ledger) (acceptedHolding ledger (pathIn sheet)) why cases first),
             (
-              (λ less. absurd (let at = ap (λ (x : Admitting). x .at) is in omega (arith, at, less))),
+              (λ less. absurd (let at = ap (λ (x : Appending). x .at) is in omega (arith, at, less))),
               ap (λ x. appended records (x .at) (x .entry)) is ∙ appended-nowhere records noRecord
-                  ∙ sym (first-answered (λ why. records) (set records (ledger .count) (recordOf number (pathIn sheet))) why cases first),
+                  ∙ sym (first-answered (λ why. records) (set records (ledger .count) (recordOf number (pathIn sheet) markHeld)) why cases first),
             ),
           )
 
@@ -159,6 +170,54 @@ module _ (ledger : Ledger) (records : List Record) (number : ℕ) where
             (
               (λ less. absurd (let at = ap (λ (x : Releasing). x .at) is in omega (arith, at, less))),
               ap (λ x. closedUp records (x .at) (x .last)) is ∙ closed-nowhere records noRecord ∙ sym (first-answered (λ why. records) (closedUp records place noRecord) why cases first),
+            ),
+          )
+
+module _ (ledger : Ledger) (records : List Record) (number : ℕ) where
+  abbrev acceptedMarking : List Record → Marking
+  acceptedMarking rs = record { confirmed = record { verdict = Verdict.Accepted }; at = placeAmong (numberAt rs) (ledger .count) number }
+
+  marking-held : markingOf ledger (loadedRecords (loadedOf records)) number ≡ markingOf ledger records number
+  unfolding markingOf
+  marking-held = from-held (λ rs. markingOf ledger rs number) records (λ other. by-one [] (unusable-size ledger [] refl) ∙ sym (by-one records (unusable-size ledger records other)))
+    where
+      by-one : (rs : List Record) → ledgerUnusable ledger rs ≡ true → markingOf ledger rs number ≡ refusedMarking Unusable
+      by-one rs =
+          refused-by-one refusedMarking (acceptedMarking rs) (not (inRange pathNumberRange number)) (ledgerUnusable ledger rs)
+          ((not (stands rs (ledger .count) number) ⇒ PathNumberWrong) ∷ (confirmedAlready ledger rs number ⇒ ConfirmedAlready) ∷ [])
+
+  -- and what confirming decides
+  abbrev pub Confirms : Marking → Type 0
+  Confirms a = (a .confirmed ≡ confirmedOf ledger records number) × ((a .at < recordCount → length records ≡ recordCount) × (marked records (a .at) ≡ recordsConfirmed ledger records number))
+
+  pub confirms : (a : Marking) → a ≡ markingOf ledger (loadedRecords (loadedOf records)) number → Confirms a
+  unfolding markingOf confirmedOf recordsConfirmed refusedMarking
+  confirms a e = ⊎-elim taken left (none-or-first cases)
+    where
+      cases : List Case
+      cases = confirmCases ledger records number
+
+      taken : NoneStands cases → Confirms a
+      taken none =
+          let is : a ≡ acceptedMarking records = e ∙ marking-held ∙ firstOf-none refusedMarking (acceptedMarking records) cases none in
+          let sound = usable-ledger ledger records (none .1 .0) in
+          let below : place ledger records number < recordCount =
+          let few = sound .few in let less = ltb-true (place ledger records number) (ledger .count) (stands-below records (ledger .count) number refl ∙ not-false (stands records (ledger .count) number) (none .1 .1 .0)) in omega arith in (
+            ap (λ x. x .confirmed) is ∙ sym (firstOf-none refusedConfirming (record { verdict = Verdict.Accepted }) cases none),
+            (
+              (λ less. sound .sized),
+              ap (λ x. marked records (x .at)) is ∙ marked-there records (place ledger records number) below
+                  ∙ sym (firstOf-none (λ why. records) (confirmedAt records (place ledger records number)) cases none),
+            ),
+          )
+
+      left : ((why : Refusal) × FirstIs cases why) → Confirms a
+      left (why, first) =
+          let is : a ≡ refusedMarking why = e ∙ marking-held ∙ first-answered refusedMarking (acceptedMarking records) why cases first in (
+            ap (λ x. x .confirmed) is ∙ sym (first-answered refusedConfirming (record { verdict = Verdict.Accepted }) why cases first),
+            (
+              (λ less. absurd (let at = ap (λ (x : Marking). x .at) is in omega (arith, at, less))),
+              ap (λ x. marked records (x .at)) is ∙ marked-nowhere records ∙ sym (first-answered (λ why. records) (confirmedAt records (place ledger records number)) why cases first),
             ),
           )
 

@@ -13,7 +13,7 @@ use Rattle.quantity.proofs.Sums.{total-suc}
 use Rattle.sheet.specs.Paths.{Path}
 use Rattle.ledger.specs.Records.{hasLink, share}
 use Rattle.ledger.specs.Ledgers.{linkCount, linksRange}
-use Rattle.ledger.specs.Admission.{namesLink, bitsOf, linksOf, rateOf, rateOn, recordOf}
+use Rattle.ledger.specs.Holding.{namesLink, bitsOf, linksOf, rateOf, rateOn, recordOf}
 use Rattle.ledger.proofs.Naming.{bits-below}
 
 -- a higher power of 2 is an even number of times a lower one
@@ -58,6 +58,6 @@ unfolding inRange linksOf
 links-inside path = rw (le-leb 0 (linksOf path) (omega arith)) (le-leb (linksOf path) 65535 (le-of-suc-le-suc (bits-below (namesLink path) linkCount)))
 
 -- so its share is the path's rate where the path names the link
-pub share-named : (number : ℕ) (path : Path) (link : ℕ) → link < linkCount → share (recordOf number path) link ≡ rateOn link path
+pub share-named : (number : ℕ) (path : Path) (mark link : ℕ) → link < linkCount → share (recordOf number path mark) link ≡ rateOn link path
 unfolding share recordOf rateOn
-share-named number path link less = ap (λ (t : Bool). pick t (rateOf path) 0) (has-named path link less)
+share-named number path mark link less = ap (λ (t : Bool). pick t (rateOf path) 0) (has-named path link less)

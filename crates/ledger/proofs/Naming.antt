@@ -22,7 +22,7 @@ use Rattle.sheet.specs.Forms.{inFull}
 use Rattle.sheet.specs.declared.LinkedOperator.{LinkedOperator}
 use Rattle.sheet.specs.declared.PathValue.{PathValue}
 use Rattle.ledger.specs.Ledgers.{linkCount}
-use Rattle.ledger.specs.Admission.{namesLink, bitsOf}
+use Rattle.ledger.specs.Holding.{namesLink, bitsOf}
 use Rattle.ledger.specs.Steps.{namedBy, rateAt, shortOf}
 
 -- The bits of the links below one, which are below its own bit.

@@ -23,19 +23,22 @@ use Rattle.sheet.specs.Sheets.{sheetCases, pathIn}
 use Rattle.figures.specs.Answers.{pathCases}
 use Rattle.ledger.specs.declared.Record.{Record}
 use Rattle.ledger.specs.declared.Ledger.{Ledger}
-use Rattle.ledger.specs.declared.admission.Admission.{Admission}
+use Rattle.ledger.specs.declared.holding.Holding.{Holding}
 use Rattle.ledger.specs.declared.release.Released.{Released}
+use Rattle.ledger.specs.declared.confirming.Confirmed.{Confirmed}
 use Rattle.ledger.specs.declared.spare.Spare.{Spare}
-use Rattle.ledger.specs.Records.{noRecord, recordAt, numberAt, share, placeAmong}
+use Rattle.ledger.specs.Records.{markHeld, noRecord, recordAt, numberAt, share, placeAmong}
 use Rattle.ledger.specs.Ledgers.{recordCount, linkCount, capacityOf, totalOf}
 use Rattle.ledger.specs.Opening.{askedFor}
-use Rattle.ledger.specs.Admission.{rateOf, namesLink, rateOn, recordOf, refusedAdmission, acceptedAdmission, admissionOf, recordsAdmitted}
+use Rattle.ledger.specs.Holding.{rateOf, namesLink, rateOn, recordOf, refusedHolding, acceptedHolding, holdingOf, recordsHeld}
 use Rattle.ledger.specs.Release.{closedUp, refusedRelease, acceptedRelease, recordOfNumber, releasedOf, recordsReleased}
+use Rattle.ledger.specs.Confirming.{refusedConfirming, confirmedOf, confirmedAt, recordsConfirmed}
 use Rattle.ledger.specs.Spare.{refusedSpare, spareOf}
-use Rattle.ledger.specs.Calls.{Call, admit, release, spare, Answer, refusedBy}
-use Rattle.ledger.specs.Account.{Account, Entry, reservedOn, standsIn, shortIn, without, callCases, granted, accountAnswer, accountNext, accountAfter}
+use Rattle.ledger.specs.Calls.{Call, hold, confirm, release, spare, Answer, refusedBy}
+use Rattle.ledger.specs.Account.{Account, Entry, reservedOn, standsIn, shortIn, without, withConfirmed, callCases, granted, accountAnswer, accountNext, accountAfter}
 use Rattle.ledger.specs.Lists.{answered, called}
-use Rattle.ledger.proofs.Entries.{recordsOf, append-record, append-reserved, append-sound, remove-record, remove-count, remove-share, remove-reserved, remove-sound, place-below, stands-none}
+use Rattle.ledger.proofs.Entries.{recordsOf, length-records, append-record, confirm-record, confirm-count, confirm-reserved, confirm-sound, append-reserved, append-sound, remove-record, remove-count, remove-share, remove-reserved, remove-sound, place-below, stands-none}
+use Rattle.ledger.proofs.MarkingOne.{confirmed-there}
 use Rattle.ledger.proofs.Reserving.{listOf-same}
 use Rattle.ledger.proofs.Rates.{rate-inside}
 use Rattle.ledger.proofs.Books.{ledgerOf, recordsIn, bookOf, SoundAccount, capacity-of, total-of, bookCases, cases-same}
@@ -55,8 +58,11 @@ module _ (capacities : List ℕ) (entries : Account) (account : SoundAccount cap
   turned-down refused result call why first = cases-same capacities entries account refused result call ∙ first-answered refused result why (callCases capacities entries call) first
 
   -- what is answered
-  abbrev of-admission : Admission → Answer
-  of-admission a = record { verdict = a .verdict; rate = a .rate .0; delay = a .delay .0 }
+  abbrev of-holding : Holding → Answer
+  of-holding a = record { verdict = a .verdict; rate = a .rate .0; delay = a .delay .0 }
+
+  abbrev of-confirming : Confirmed → Answer
+  of-confirming a = record { verdict = a .verdict; rate = 0; delay = 0 }
 
   abbrev of-release : Released → Answer
   of-release a = record { verdict = a .verdict; rate = 0; delay = 0 }
@@ -68,10 +74,13 @@ module _ (capacities : List ℕ) (entries : Account) (account : SoundAccount cap
   spare-left link inside = let less : link < linkCount = omega (arith, le-largest linkRange link inside) in ap₂ _-_ (capacity-of capacities entries link less) (total-of capacities entries link less)
 
   pub answer-same : (call : Call) → answered (bookOf capacities entries) call ≡ accountAnswer capacities entries call
-  unfolding answered accountAnswer granted admissionOf refusedAdmission acceptedAdmission releasedOf refusedRelease acceptedRelease spareOf refusedSpare
-  answer-same (admit number sheet) =
-      firstOf-map of-admission (refusedAdmission ledger) (acceptedAdmission ledger (pathIn sheet)) (bookCases capacities entries (admit number sheet))
-      ∙ cases-same capacities entries account (λ why. of-admission (refusedAdmission ledger why)) (of-admission (acceptedAdmission ledger (pathIn sheet))) (admit number sheet)
+  unfolding answered accountAnswer granted holdingOf refusedHolding acceptedHolding confirmedOf refusedConfirming releasedOf refusedRelease acceptedRelease spareOf refusedSpare
+  answer-same (hold number sheet) =
+      firstOf-map of-holding (refusedHolding ledger) (acceptedHolding ledger (pathIn sheet)) (bookCases capacities entries (hold number sheet))
+      ∙ cases-same capacities entries account (λ why. of-holding (refusedHolding ledger why)) (of-holding (acceptedHolding ledger (pathIn sheet))) (hold number sheet)
+  answer-same (confirm number) =
+      firstOf-map of-confirming refusedConfirming (record { verdict = Verdict.Accepted }) (bookCases capacities entries (confirm number))
+      ∙ cases-same capacities entries account (λ why. of-confirming (refusedConfirming why)) (of-confirming (record { verdict = Verdict.Accepted })) (confirm number)
   answer-same (release number) =
       firstOf-map of-release (refusedRelease ledger) (acceptedRelease ledger (recordOfNumber ledger records number)) (bookCases capacities entries (release number))
       ∙ cases-same capacities entries account (λ why. of-release (refusedRelease ledger why)) (of-release (acceptedRelease ledger (recordOfNumber ledger records number))) (release number)
@@ -89,37 +98,37 @@ module _ (capacities : List ℕ) (entries : Account) (account : SoundAccount cap
       by-range false same = refl
 
   -- what is left where a call is taken
-  abbrev admitted-entry : ℕ → List ℕ → Entry
-  admitted-entry number sheet = record { number = number; path = pathIn sheet }
+  abbrev held-entry : ℕ → List ℕ → Entry
+  held-entry number sheet = record { number = number; path = pathIn sheet; confirmed = false }
 
-  module _ (number : ℕ) (sheet : List ℕ) (none : NoneStands (callCases capacities entries (admit number sheet))) where
+  module _ (number : ℕ) (sheet : List ℕ) (none : NoneStands (callCases capacities entries (hold number sheet))) where
     room : length entries < recordCount
     room =
         let not-full = none-of-each (sheetCases sheet ++ pathCases (pathIn sheet)) _ (none .1) .1 .1 .0 in
         let other = eqb-false (length entries) recordCount not-full in let few = account .few in omega arith
 
-    one-more : length (entries ++ (admitted-entry number sheet ∷ [])) ≡ length entries + 1
-    one-more = length-append entries (admitted-entry number sheet ∷ [])
+    one-more : length (entries ++ (held-entry number sheet ∷ [])) ≡ length entries + 1
+    one-more = length-append entries (held-entry number sheet ∷ [])
 
     abbrev next : Account
-    next = entries ++ (admitted-entry number sheet ∷ [])
+    next = entries ++ (held-entry number sheet ∷ [])
 
-    admit-ledger : admissionOf ledger records number sheet .ledger ≡ ledgerOf capacities next
-    unfolding admissionOf acceptedAdmission
-    admit-ledger =
-        ap (λ (a : Admission). a .ledger) (taken (refusedAdmission ledger) (acceptedAdmission ledger (pathIn sheet)) (admit number sheet) none)
+    hold-ledger : holdingOf ledger records number sheet .ledger ≡ ledgerOf capacities next
+    unfolding holdingOf acceptedHolding
+    hold-ledger =
+        ap (λ (a : Holding). a .ledger) (taken (refusedHolding ledger) (acceptedHolding ledger (pathIn sheet)) (hold number sheet) none)
         ∙ ap₂ (λ (totals : List Rate) (n : ℕ). record { capacities = ledger .capacities; totals = totals; count = n }) (listOf-same _ _ linkCount (λ link less. ap (λ (n : ℕ). record { 0 = n }) (more-reserved link less))) (sym one-more)
       where
         more-reserved : (link : ℕ) → link < linkCount → totalOf ledger link + rateOn link (pathIn sheet) ≡ reservedOn link next
-        more-reserved link less = ap (λ (n : ℕ). n + rateOn link (pathIn sheet)) (total-of capacities entries link less) ∙ sym (append-reserved entries (admitted-entry number sheet) link)
+        more-reserved link less = ap (λ (n : ℕ). n + rateOn link (pathIn sheet)) (total-of capacities entries link less) ∙ sym (append-reserved entries (held-entry number sheet) link)
 
-    admit-records : recordsAdmitted ledger records number sheet ≡ recordsIn capacities next
-    unfolding recordsAdmitted
-    admit-records =
+    hold-records : recordsHeld ledger records number sheet ≡ recordsIn capacities next
+    unfolding recordsHeld
+    hold-records =
         let rest : recordCount - length entries ≡ suc (recordCount - length next) = let more = one-more in let least = room in omega arith in
-        taken (λ why. records) (set records (length entries) (recordOf number (pathIn sheet))) (admit number sheet) none
-        ∙ ap (λ (n : ℕ). set (recordsOf entries n) (length entries) (recordOf number (pathIn sheet))) rest
-        ∙ append-record entries (admitted-entry number sheet) (recordCount - length next)
+        taken (λ why. records) (set records (length entries) (recordOf number (pathIn sheet) markHeld)) (hold number sheet) none
+        ∙ ap (λ (n : ℕ). set (recordsOf entries n) (length entries) (recordOf number (pathIn sheet) markHeld)) rest
+        ∙ append-record entries (held-entry number sheet) (recordCount - length next)
 
     -- a link that the path names carries it
     carried : (link : ℕ) → link < linkCount → reservedOn link entries + rateOn link (pathIn sheet) ≤ askedFor capacities link
@@ -132,17 +141,47 @@ module _ (capacities : List ℕ) (entries : Account) (account : SoundAccount cap
         by-name true fits = ltb-false _ _ (not-true _ fits)
         by-name false fits = omega (arith, account .within link less)
 
-    admit-sound : SoundAccount capacities next
-    admit-sound =
+    hold-sound : SoundAccount capacities next
+    hold-sound =
         let (planned, standing) = none-of-each (sheetCases sheet ++ pathCases (pathIn sheet)) _ (none .1) in
         record {
           inside = account .inside;
           few = let more = one-more in let least = room in omega arith;
           sound =
-              append-sound entries (admitted-entry number sheet) (account .sound)
+              append-sound entries (held-entry number sheet) (account .sound)
               (record { numbered = not-false _ (none .0); rated = rate-inside sheet (none-of-each (sheetCases sheet) (pathCases (pathIn sheet)) planned .0); alone = stands-none number })
               (standing .0);
-          within = λ link less. omega (arith, append-reserved entries (admitted-entry number sheet) link, carried link less);
+          within = λ link less. omega (arith, append-reserved entries (held-entry number sheet) link, carried link less);
+        }
+
+  module _ (number : ℕ) (none : NoneStands (callCases capacities entries (confirm number))) where
+    abbrev confirmed : Account
+    confirmed = withConfirmed number entries
+
+    confirm-ledger : ledger ≡ ledgerOf capacities confirmed
+    confirm-ledger =
+        ap₂ (λ (totals : List Rate) (n : ℕ). record { capacities = ledger .capacities; totals = totals; count = n })
+        (listOf-same _ _ linkCount (λ link less. ap (λ (n : ℕ). record { 0 = n }) (sym (confirm-reserved entries number link)))) (sym (confirm-count entries number))
+
+    confirm-records : recordsConfirmed ledger records number ≡ recordsIn capacities confirmed
+    unfolding recordsConfirmed
+    confirm-records =
+        let few = account .few in
+        let standing = not-false (standsIn number entries) (none .1 .0) in
+        let place = placeAmong (numberAt records) (length entries) number in
+        let below : place < recordCount = let among = place-below entries (recordCount - length entries) number standing in omega arith in
+        taken (λ why. records) (confirmedAt records place) (confirm number) none
+        ∙ confirmed-there records place (length-records entries (recordCount - length entries) ∙ omega arith) below
+        ∙ confirm-record entries (recordCount - length entries) number standing
+        ∙ ap (λ (n : ℕ). recordsOf confirmed (recordCount - n)) (sym (confirm-count entries number))
+
+    confirmed-sound : SoundAccount capacities confirmed
+    confirmed-sound =
+        record {
+          inside = account .inside;
+          few = let same = confirm-count entries number in let few = account .few in omega arith;
+          sound = confirm-sound entries number (account .sound);
+          within = λ link less. omega (arith, account .within link less, confirm-reserved entries number link);
         }
 
   module _ (number : ℕ) (none : NoneStands (callCases capacities entries (release number))) where
@@ -191,23 +230,28 @@ module _ (capacities : List ℕ) (entries : Account) (account : SoundAccount cap
 
   taken-same : (call : Call) → NoneStands (callCases capacities entries call) → called (bookOf capacities entries) call ≡ bookOf capacities (accountNext entries call)
   unfolding called accountNext
-  taken-same (admit number sheet) none = ap₂ (λ (l : Ledger) (r : List Record). record { ledger = l; records = r }) (admit-ledger number sheet none) (admit-records number sheet none)
+  taken-same (hold number sheet) none = ap₂ (λ (l : Ledger) (r : List Record). record { ledger = l; records = r }) (hold-ledger number sheet none) (hold-records number sheet none)
+  taken-same (confirm number) none = ap₂ (λ (l : Ledger) (r : List Record). record { ledger = l; records = r }) (confirm-ledger number none) (confirm-records number none)
   taken-same (release number) none = ap₂ (λ (l : Ledger) (r : List Record). record { ledger = l; records = r }) (release-ledger number none) (release-records number none)
   taken-same (spare link) none = refl
 
   next-sound : (call : Call) → NoneStands (callCases capacities entries call) → SoundAccount capacities (accountNext entries call)
   unfolding accountNext
-  next-sound (admit number sheet) none = admit-sound number sheet none
+  next-sound (hold number sheet) none = hold-sound number sheet none
+  next-sound (confirm number) none = confirmed-sound number none
   next-sound (release number) none = release-sound number none
   next-sound (spare link) none = account
 
   -- and where it is refused
   refused-same : (call : Call) (why : Refusal) → FirstIs (callCases capacities entries call) why → called (bookOf capacities entries) call ≡ bookOf capacities entries
-  unfolding called admissionOf refusedAdmission recordsAdmitted releasedOf refusedRelease recordsReleased
-  refused-same (admit number sheet) why first =
+  unfolding called holdingOf refusedHolding recordsHeld recordsConfirmed releasedOf refusedRelease recordsReleased
+  refused-same (hold number sheet) why first =
       ap₂ (λ (l : Ledger) (r : List Record). record { ledger = l; records = r })
-      (ap (λ (a : Admission). a .ledger) (turned-down (refusedAdmission ledger) (acceptedAdmission ledger (pathIn sheet)) (admit number sheet) why first))
-      (turned-down (λ why. records) (set records (length entries) (recordOf number (pathIn sheet))) (admit number sheet) why first)
+      (ap (λ (a : Holding). a .ledger) (turned-down (refusedHolding ledger) (acceptedHolding ledger (pathIn sheet)) (hold number sheet) why first))
+      (turned-down (λ why. records) (set records (length entries) (recordOf number (pathIn sheet) markHeld)) (hold number sheet) why first)
+  refused-same (confirm number) why first =
+      ap (λ (r : List Record). record { ledger = ledger; records = r })
+      (turned-down (λ why. records) (confirmedAt records (placeAmong (numberAt records) (length entries) number)) (confirm number) why first)
   refused-same (release number) why first =
       ap₂ (λ (l : Ledger) (r : List Record). record { ledger = l; records = r })
       (ap (λ (a : Released). a .ledger) (turned-down (refusedRelease ledger) (acceptedRelease ledger (recordOfNumber ledger records number)) (release number) why first))

@@ -15,7 +15,7 @@ use Rattle.flow.specs.Declarations.{lastRow, declarationInRange}
 use Rattle.flow.proofs.Declarations.{last-inside}
 use Rattle.sheet.specs.Sheets.{sheetCases, pathIn, restInRange, pathInRange}
 use Rattle.sheet.proofs.Accepted.{sheet-path}
-use Rattle.ledger.specs.Admission.{rateOf}
+use Rattle.ledger.specs.Holding.{rateOf}
 
 -- rounded up, a quotient of 1 or more is 1 or more, and no larger than what was divided
 round-up-some : (x y : ℕ) → 1 ≤ y → 1 ≤ x → 1 ≤ roundUp x y

@@ -1,4 +1,4 @@
--- Ledgers that no list of calls leads to, as one table that is computed from the definitions: which of them refusal 1 lets pass, what a release and a spare rate answer then, a new ledger over records that hold something; and an admission with its rate.
+-- Ledgers that no list of calls leads to, as one table that is computed from the definitions: which of them refusal 1 lets pass, what a release, a confirming and a spare rate answer then, a new ledger over records that hold something; and a holding with its rate.
 use mathlib.Core.Path.{_≡_, refl}
 use mathlib.Core.Bool.{Bool, true, false}
 use mathlib.Core.List.{List, [], _∷_}
@@ -28,13 +28,17 @@ use Rattle.ledger.specs.declared.Ledger.{Ledger}
 use Rattle.ledger.specs.Records.{noRecord, hasLink, share, reserved, among, placeAmong, allDiffer, stands}
 use Rattle.ledger.specs.Ledgers.{capacitiesFit, recordInRange, recordClear, recordFits, linkFits, totalKept, ledgerUnusable}
 use Rattle.ledger.specs.Opening.{newLedger, refusedOpening, openedOf, recordsOpened}
-use Rattle.ledger.specs.Admission.{rateOf, namesLink, rateOn, bitsOf, linksOf, recordOf, ledgerFull, linkShort, refusedAdmission, acceptedAdmission, admissionOf, recordsAdmitted}
+use Rattle.ledger.specs.Holding.{rateOf, namesLink, rateOn, bitsOf, linksOf, recordOf, ledgerFull, linkShort, refusedHolding, acceptedHolding, holdingOf, recordsHeld}
 use Rattle.ledger.specs.Release.{closedUp, refusedRelease, acceptedRelease, releasedOf, recordsReleased}
+use Rattle.ledger.specs.Confirming.{confirmedAlready, refusedConfirming, confirmedOf, confirmedRecord, confirmedAt, recordsConfirmed}
 use Rattle.ledger.specs.Spare.{totalFits, linksUnusable, refusedSpare, spareOf}
 
--- a record
+-- a record with its mark, and that of a held path
+abbrev pub marked : ℕ → ℕ → ℕ → ℕ → Record
+marked number rate links mark = record { number = record { 0 = number }; rate = record { 0 = rate }; links = links; mark = mark }
+
 abbrev pub entry : ℕ → ℕ → ℕ → Record
-entry number rate links = record { number = record { 0 = number }; rate = record { 0 = rate }; links = links }
+entry number rate links = marked number rate links 0
 
 -- totals that begin with these three, and sixteen links of one capacity with so many paths and such totals
 abbrev pub totals-of : ℕ → ℕ → ℕ → List Rate
@@ -75,6 +79,10 @@ computed =
     ∷ ledgerUnusable (links-of 1000 2 kept) (set two 63 (entry 1 0 0))
     ∷ ledgerUnusable (links-of 1000 2 kept) (set two 2 (entry 0 1 0))
     ∷ ledgerUnusable (links-of 1000 2 kept) (set two 2 (entry 0 0 1))
+    -- a mark of 1 and one of 2 in a standing record, and one of 1 past the count
+    ∷ ledgerUnusable (links-of 1000 2 kept) (set two 1 (marked 20 4 1 1))
+    ∷ ledgerUnusable (links-of 1000 2 kept) (set two 1 (marked 20 4 1 2))
+    ∷ ledgerUnusable (links-of 1000 2 kept) (set two 2 (marked 0 0 0 1))
     -- a path that is counted and does not stand
     ∷ ledgerUnusable (links-of 1000 3 kept) two
     -- a number twice
@@ -90,7 +98,7 @@ computed =
 
 pub expected : List Bool
 expected =
-    false ∷ true ∷ true ∷ true ∷ false ∷ true ∷ false ∷ true ∷ true ∷ false ∷ true ∷ false ∷ true ∷ true ∷ true ∷ true ∷ true ∷ true ∷ true ∷ false ∷ true ∷ true ∷ true ∷ true ∷ []
+    false ∷ true ∷ true ∷ true ∷ false ∷ true ∷ false ∷ true ∷ true ∷ false ∷ true ∷ false ∷ true ∷ true ∷ true ∷ true ∷ true ∷ false ∷ true ∷ true ∷ true ∷ true ∷ false ∷ true ∷ true ∷ true ∷ true ∷ []
 
 pub reference-ledgers : computed ≡ expected
 unfolding computed expected ledgerUnusable capacitiesFit recordFits recordInRange recordClear linkFits totalKept reserved share hasLink allDiffer among inRange every total
@@ -113,6 +121,25 @@ reference-answers = refl
 pub reference-damaged : released (links-of 6 2 kept) two ≡ ((1 ∷ 0 ∷ []) ∷ (1 ∷ 0 ∷ []) ∷ (1 ∷ 0 ∷ []) ∷ [])
 unfolding released releasedOf refusedRelease acceptedRelease stands ledgerUnusable capacitiesFit recordFits recordInRange recordClear linkFits totalKept reserved share hasLink allDiffer among inRange every total
 reference-damaged = refl
+
+-- what confirming answers, of 17, of 20, of 18 and of 65,536
+pub confirmed : Ledger → List Record → List (List ℕ)
+confirmed ledger records =
+    refusal (confirmedOf ledger records 17 .verdict) ∷ refusal (confirmedOf ledger records 20 .verdict) ∷ refusal (confirmedOf ledger records 18 .verdict) ∷ refusal (confirmedOf ledger records 65_536 .verdict) ∷ []
+
+-- 17 is held and 20 confirmed; and a ledger whose mark of 20 is 2
+pub reference-confirmings : confirmed (links-of 1000 2 kept) (set two 1 (marked 20 4 1 1)) ≡ ([] ∷ (16 ∷ 0 ∷ []) ∷ (10 ∷ 0 ∷ []) ∷ (1 ∷ 0 ∷ []) ∷ [])
+unfolding confirmed confirmedOf refusedConfirming confirmedAlready placeAmong stands ledgerUnusable capacitiesFit recordFits recordInRange recordClear linkFits totalKept reserved share hasLink allDiffer among inRange every total
+reference-confirmings = refl
+
+pub reference-mark-of-two : confirmed (links-of 1000 2 kept) (set two 1 (marked 20 4 1 2)) ≡ ((1 ∷ 0 ∷ []) ∷ (1 ∷ 0 ∷ []) ∷ (1 ∷ 0 ∷ []) ∷ (1 ∷ 0 ∷ []) ∷ [])
+unfolding confirmed confirmedOf refusedConfirming confirmedAlready placeAmong stands ledgerUnusable capacitiesFit recordFits recordInRange recordClear linkFits totalKept reserved share hasLink allDiffer among inRange every total
+reference-mark-of-two = refl
+
+-- the confirming of 17 sets its mark, and no other value
+pub reference-confirmed : recordsConfirmed (links-of 1000 2 kept) two 17 ≡ (marked 17 3 5 1 ∷ entry 20 4 1 ∷ replicate 62 noRecord)
+unfolding recordsConfirmed confirmedAt confirmedRecord confirmedAlready placeAmong stands ledgerUnusable capacitiesFit recordFits recordInRange recordClear linkFits totalKept reserved share hasLink allDiffer among inRange every total listOf
+reference-confirmed = refl
 
 -- what asking about a link answers: a rate, and a refusal where there is one
 abbrev pub asked : Ledger → ℕ → List ℕ
@@ -166,15 +193,15 @@ pub reference-cleared : recordsOpened (replicate 16 5) (replicate 64 (entry 99_9
 unfolding recordsOpened capacitiesFit inRange every
 reference-cleared = refl
 
--- an admission to an empty ledger: smooth (10, 31), delay wanted 30, a compactor 10 on link 2; it reserves ⌈31/10⌉ on that link alone, whose total is then 4
-abbrev pub admitted : List ℕ
-admitted = 1 ∷ 0 ∷ 7 ∷ 0 ∷ 0 ∷ 10 ∷ 0 ∷ 0 ∷ 0 ∷ 31 ∷ 2 ∷ 0 ∷ 4 ∷ 0 ∷ 0 ∷ 0 ∷ 30 ∷ 3 ∷ 0 ∷ 6 ∷ 1 ∷ 2 ∷ 0 ∷ 0 ∷ 0 ∷ 10 ∷ []
+-- a path held in an empty ledger: smooth (10, 31), delay wanted 30, a compactor 10 on link 2; it reserves ⌈31/10⌉ on that link alone, whose total is then 4
+abbrev pub sheet : List ℕ
+sheet = 1 ∷ 0 ∷ 7 ∷ 0 ∷ 0 ∷ 10 ∷ 0 ∷ 0 ∷ 0 ∷ 31 ∷ 2 ∷ 0 ∷ 4 ∷ 0 ∷ 0 ∷ 0 ∷ 30 ∷ 3 ∷ 0 ∷ 6 ∷ 1 ∷ 2 ∷ 0 ∷ 0 ∷ 0 ∷ 10 ∷ []
 
-pub reference-admission : admissionOf (links-of 1000 0 (totals-of 0 0 0)) (replicate 64 noRecord) 17 admitted
+pub reference-holding : holdingOf (links-of 1000 0 (totals-of 0 0 0)) (replicate 64 noRecord) 17 sheet
     ≡ record { verdict = Verdict.Accepted; ledger = links-of 1000 1 (totals-of 0 0 4); rate = record { 0 = 4 }; delay = record { 0 = 10 } }
-unfolding roundUp euclid gcd total every listOf inRange valueOfBytes part rowCount rowAt lastRow rowInRange declarationInRange rowsInOrder cleared inRowsForm rowsGiven firstFormat declaredIn declarationCases wantedAt numberInRange declarationIn declarationFits wantedIn wantedFits operatorOf operatorIn operatorInRange operatorFits bodyAt fieldMissing headerCutOff fieldUnexpected bodyCutOff bodyOutOfRange furtherCases inHouseForm sheetCases operatorsFrom fieldsPath valueIn valueOfPath standsFor inFull pathIn carries burstAt mostIn blocksMet classOf slower behind progressAt partCapacity partDelay capacity ownDelay pairs isFramed framedAfterFilter changedQuota quotaBehind figureTooLarge rateTooLow operatorAt before pairedAt capacityAt delayAt pathDelay operatorsCases rateOf namesLink rateOn bitsOf linksOf recordOf ledgerFull linkShort acceptedAdmission refusedAdmission admissionOf recordsAdmitted stands ledgerUnusable capacitiesFit recordFits recordInRange recordClear linkFits totalKept reserved share hasLink allDiffer among
-reference-admission = refl
+unfolding roundUp euclid gcd total every listOf inRange valueOfBytes part rowCount rowAt lastRow rowInRange declarationInRange rowsInOrder cleared inRowsForm rowsGiven firstFormat declaredIn declarationCases wantedAt numberInRange declarationIn declarationFits wantedIn wantedFits operatorOf operatorIn operatorInRange operatorFits bodyAt fieldMissing headerCutOff fieldUnexpected bodyCutOff bodyOutOfRange furtherCases inHouseForm sheetCases operatorsFrom fieldsPath valueIn valueOfPath standsFor inFull pathIn carries burstAt mostIn blocksMet classOf slower behind progressAt partCapacity partDelay capacity ownDelay pairs isFramed framedAfterFilter changedQuota quotaBehind figureTooLarge rateTooLow operatorAt before pairedAt capacityAt delayAt pathDelay operatorsCases rateOf namesLink rateOn bitsOf linksOf recordOf ledgerFull linkShort acceptedHolding refusedHolding holdingOf recordsHeld stands ledgerUnusable capacitiesFit recordFits recordInRange recordClear linkFits totalKept reserved share hasLink allDiffer among
+reference-holding = refl
 
-pub reference-admitted : recordsAdmitted (links-of 1000 0 (totals-of 0 0 0)) (replicate 64 noRecord) 17 admitted ≡ (entry 17 4 4 ∷ replicate 63 noRecord)
-unfolding roundUp euclid gcd total every listOf inRange valueOfBytes part rowCount rowAt lastRow rowInRange declarationInRange rowsInOrder cleared inRowsForm rowsGiven firstFormat declaredIn declarationCases wantedAt numberInRange declarationIn declarationFits wantedIn wantedFits operatorOf operatorIn operatorInRange operatorFits bodyAt fieldMissing headerCutOff fieldUnexpected bodyCutOff bodyOutOfRange furtherCases inHouseForm sheetCases operatorsFrom fieldsPath valueIn valueOfPath standsFor inFull pathIn carries burstAt mostIn blocksMet classOf slower behind progressAt partCapacity partDelay capacity ownDelay pairs isFramed framedAfterFilter changedQuota quotaBehind figureTooLarge rateTooLow operatorAt before pairedAt capacityAt delayAt pathDelay operatorsCases rateOf namesLink rateOn bitsOf linksOf recordOf ledgerFull linkShort acceptedAdmission refusedAdmission admissionOf recordsAdmitted stands ledgerUnusable capacitiesFit recordFits recordInRange recordClear linkFits totalKept reserved share hasLink allDiffer among
-reference-admitted = refl
+pub reference-held : recordsHeld (links-of 1000 0 (totals-of 0 0 0)) (replicate 64 noRecord) 17 sheet ≡ (entry 17 4 4 ∷ replicate 63 noRecord)
+unfolding roundUp euclid gcd total every listOf inRange valueOfBytes part rowCount rowAt lastRow rowInRange declarationInRange rowsInOrder cleared inRowsForm rowsGiven firstFormat declaredIn declarationCases wantedAt numberInRange declarationIn declarationFits wantedIn wantedFits operatorOf operatorIn operatorInRange operatorFits bodyAt fieldMissing headerCutOff fieldUnexpected bodyCutOff bodyOutOfRange furtherCases inHouseForm sheetCases operatorsFrom fieldsPath valueIn valueOfPath standsFor inFull pathIn carries burstAt mostIn blocksMet classOf slower behind progressAt partCapacity partDelay capacity ownDelay pairs isFramed framedAfterFilter changedQuota quotaBehind figureTooLarge rateTooLow operatorAt before pairedAt capacityAt delayAt pathDelay operatorsCases rateOf namesLink rateOn bitsOf linksOf recordOf ledgerFull linkShort acceptedHolding refusedHolding holdingOf recordsHeld stands ledgerUnusable capacitiesFit recordFits recordInRange recordClear linkFits totalKept reserved share hasLink allDiffer among
+reference-held = refl

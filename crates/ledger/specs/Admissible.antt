@@ -1,4 +1,4 @@
--- Demand 2: when a path is admitted, to any ledger and records.
+-- Demand 2: when a path is held, in any ledger and records.
 use Prim.Native.Nat.{ℕ, _+_, _≤_, _<_}
 use mathlib.Core.Path.{_≡_}
 use mathlib.Core.Bool.{false}
@@ -12,7 +12,7 @@ use Rattle.ledger.specs.declared.Record.{Record}
 use Rattle.ledger.specs.declared.Ledger.{Ledger}
 use Rattle.ledger.specs.Records.{numberAt, reserved}
 use Rattle.ledger.specs.Ledgers.{recordCount, linkCount, capacityOf, totalOf, ledgerUnusable}
-use Rattle.ledger.specs.Admission.{rateOf}
+use Rattle.ledger.specs.Holding.{rateOf}
 
 module _ (ledger : Ledger) (records : List Record) (number : ℕ) (sheet : List ℕ) where
   abbrev pub path : Path

@@ -7,8 +7,10 @@ use Rattle.quantity.specs.declared.refusal.Refusal.{Refusal}
 use Rattle.sheet.specs.declared.read.Verdict.{Verdict}
 
 pub data Call : Type 0 where
-  -- admit a sheet's path under a number
-  admit : ℕ → List ℕ → Call
+  -- hold a sheet's path under a number
+  hold : ℕ → List ℕ → Call
+  -- confirm the path of a number
+  confirm : ℕ → Call
   -- release the path of a number
   release : ℕ → Call
   -- ask for a link's spare rate
@@ -16,11 +18,12 @@ pub data Call : Type 0 where
 
 -- the path number that it gives is out of its range
 unfoldable pub numberWrong : Call → Bool
-numberWrong (admit number sheet) = not (inRange pathNumberRange number)
+numberWrong (hold number sheet) = not (inRange pathNumberRange number)
+numberWrong (confirm number) = not (inRange pathNumberRange number)
 numberWrong (release number) = not (inRange pathNumberRange number)
 numberWrong (spare link) = false
 
--- the rate that an admission reserves or that a link has to spare, and an admission's delay; else 0
+-- the rate that a held path reserves or that a link has to spare, and a held path's delay; else 0
 pub record Answer : Type 0 where
   pub verdict : Verdict
   pub rate : ℕ

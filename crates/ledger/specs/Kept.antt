@@ -1,23 +1,29 @@
 -- What is promised of a ledger after every list of calls from a new one.
 use Prim.Native.Nat.{ℕ, _-_, _≤_, _<_}
 use mathlib.Core.Path.{_≡_}
-use mathlib.Core.Bool.{true, false}
+use mathlib.Core.Bool.{Bool, true, false}
 use mathlib.Core.List.{List, [], _++_, map}
 use lib.ListN.{length, replicate}
+use Rattle.quantity.specs.Choice.{pick}
 use Rattle.quantity.specs.declared.refusal.Refusal.the-variants.{Unusable, LedgerFull}
 use Rattle.sheet.specs.declared.read.Verdict.{Verdict}
 use Rattle.ledger.specs.declared.Record.{Record}
-use Rattle.ledger.specs.Records.{noRecord, numberAt, reserved}
+use Rattle.ledger.specs.Records.{markHeld, markConfirmed, noRecord, numberAt, reserved}
 use Rattle.ledger.specs.Ledgers.{recordCount, linkCount, totalOf, ledgerUnusable}
 use Rattle.ledger.specs.Opening.{askedFor}
-use Rattle.ledger.specs.Admission.{recordOf}
-use Rattle.ledger.specs.Calls.{Call, admit, release, numberWrong}
-use Rattle.ledger.specs.Account.{Account, Entry, reservedOn, accountAnswer}
+use Rattle.ledger.specs.Holding.{recordOf}
+use Rattle.ledger.specs.Release.{recordOfNumber}
+use Rattle.ledger.specs.Calls.{Call, hold, release, numberWrong}
+use Rattle.ledger.specs.Account.{Account, Entry, reservedOn, standsIn, confirmedIn, accountAnswer}
 use Rattle.ledger.specs.Lists.{Book, opened, answered, called, calledAll, accountAll}
+
+-- the mark of a path by whether it is confirmed
+abbrev pub markOf : Bool → ℕ
+markOf confirmed = pick confirmed markConfirmed markHeld
 
 -- the record of a path of the account
 abbrev pub recordOfEntry : Entry → Record
-recordOfEntry entry = recordOf (entry .number) (entry .path)
+recordOfEntry entry = recordOf (entry .number) (entry .path) (markOf (entry .confirmed))
 
 module _ (capacities : List ℕ) (lent : List Record) (calls : List Call) where
   -- the ledger and its records after these calls, and their account
@@ -35,7 +41,7 @@ module _ (capacities : List ℕ) (lent : List Record) (calls : List Call) where
     pub answers : (call : Call) → answered book call ≡ accountAnswer capacities entries call
     -- the stored total of each link is the sum over the records that stand
     pub stored : (link : ℕ) → link < linkCount → totalOf (book .ledger) link ≡ reserved (book .records) standing link
-    -- which is the rates of the paths admitted and not yet released that name the link
+    -- which is the rates of the paths held or confirmed, and not yet released, that name the link
     pub totals : (link : ℕ) → link < linkCount → reserved (book .records) standing link ≡ reservedOn link entries
     -- and never above its capacity
     pub within : (link : ℕ) → link < linkCount → reservedOn link entries ≤ askedFor capacities link
@@ -45,9 +51,11 @@ module _ (capacities : List ℕ) (lent : List Record) (calls : List Call) where
     pub unusable-only : (call : Call) → answered book call .verdict ≡ Verdict.Refused Unusable → numberWrong call ≡ true
     -- no number stands twice
     pub once : (i j : ℕ) → i < j → j < standing → numberAt (book .records) i ≡ numberAt (book .records) j → ⊥
-    -- the records are those of the account's paths, in order of admission; all behind them are clear
+    -- the records are those of the account's paths, in the order in which they were held; all behind them are clear
     pub counted : standing ≡ length entries
     pub ordered : book .records ≡ map recordOfEntry entries ++ replicate (recordCount - length entries) noRecord
-    -- a freed record serves again: an admission after a release is not refused by 11
+    -- the mark of each is the account's: 1 if the path is confirmed, 0 while it is held
+    pub marks : (number : ℕ) → standsIn number entries ≡ true → recordOfNumber (book .ledger) (book .records) number .mark ≡ markOf (confirmedIn number entries)
+    -- a freed record serves again: after a release a path is not refused by 11
     pub freed : (number : ℕ) → answered book (release number) .verdict ≡ Verdict.Accepted
-        → (next : ℕ) (sheet : List ℕ) → answered (called book (release number)) (admit next sheet) .verdict ≡ Verdict.Refused LedgerFull → ⊥
+        → (next : ℕ) (sheet : List ℕ) → answered (called book (release number)) (hold next sheet) .verdict ≡ Verdict.Refused LedgerFull → ⊥

@@ -21,6 +21,10 @@ linkCount = 16
 abbrev pub linksRange : Range
 linksRange = record { least = 0; largest = 65535 }
 
+-- a mark: 0 or 1 (document 02, item 8)
+abbrev pub markRange : Range
+markRange = record { least = 0; largest = 1 }
+
 abbrev pub capacityOf : Ledger → ℕ → ℕ
 capacityOf ledger link = getD (ledger .capacities) link (record { 0 = 0 }) .0
 
@@ -34,11 +38,11 @@ capacitiesFit capacities = every (λ link. inRange linkCapacityRange (capacities
 
 -- a standing record has its values in their ranges
 unfoldable pub recordInRange : Record → Bool
-recordInRange r = both (inRange pathNumberRange (r .number .0)) (both (inRange rateRange (r .rate .0)) (inRange linksRange (r .links)))
+recordInRange r = both (inRange pathNumberRange (r .number .0)) (both (inRange rateRange (r .rate .0)) (both (inRange linksRange (r .links)) (inRange markRange (r .mark))))
 
 -- any other is 0
 unfoldable pub recordClear : Record → Bool
-recordClear r = both (eqb (r .number .0) 0) (both (eqb (r .rate .0) 0) (eqb (r .links) 0))
+recordClear r = both (eqb (r .number .0) 0) (both (eqb (r .rate .0) 0) (both (eqb (r .links) 0) (eqb (r .mark) 0)))
 
 unfoldable pub recordFits : ℕ → List Record → ℕ → Bool
 recordFits count records j = pick (ltb j count) (recordInRange (recordAt records j)) (recordClear (recordAt records j))

@@ -1,8 +1,9 @@
 pub mod Records
 pub mod Ledgers
 pub mod Opening
-pub mod Admission
+pub mod Holding
 pub mod Release
+pub mod Confirming
 pub mod Spare
 pub mod Admissible
 pub mod Calls

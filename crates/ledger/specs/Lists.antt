@@ -4,10 +4,11 @@ use mathlib.Core.List.{List, [], _∷_}
 use Rattle.ledger.specs.declared.Record.{Record}
 use Rattle.ledger.specs.declared.Ledger.{Ledger}
 use Rattle.ledger.specs.Opening.{openedOf, recordsOpened}
-use Rattle.ledger.specs.Admission.{admissionOf, recordsAdmitted}
+use Rattle.ledger.specs.Holding.{holdingOf, recordsHeld}
+use Rattle.ledger.specs.Confirming.{confirmedOf, recordsConfirmed}
 use Rattle.ledger.specs.Release.{releasedOf, recordsReleased}
 use Rattle.ledger.specs.Spare.{spareOf}
-use Rattle.ledger.specs.Calls.{Call, admit, release, spare, Answer}
+use Rattle.ledger.specs.Calls.{Call, hold, confirm, release, spare, Answer}
 use Rattle.ledger.specs.Account.{Account, accountAfter}
 
 -- a ledger and its records
@@ -21,16 +22,18 @@ opened capacities lent = record { ledger = openedOf capacities lent .ledger; rec
 
 -- what a call answers
 unfoldable pub answered : Book → Call → Answer
-answered book (admit number sheet) =
-    let admission = admissionOf (book .ledger) (book .records) number sheet in
-    record { verdict = admission .verdict; rate = admission .rate .0; delay = admission .delay .0 }
+answered book (hold number sheet) =
+    let holding = holdingOf (book .ledger) (book .records) number sheet in
+    record { verdict = holding .verdict; rate = holding .rate .0; delay = holding .delay .0 }
+answered book (confirm number) = record { verdict = confirmedOf (book .ledger) (book .records) number .verdict; rate = 0; delay = 0 }
 answered book (release number) = record { verdict = releasedOf (book .ledger) (book .records) number .verdict; rate = 0; delay = 0 }
 answered book (spare link) = let asked = spareOf (book .ledger) link in record { verdict = asked .verdict; rate = asked .rate .0; delay = 0 }
 
 -- what it returned and left
 unfoldable pub called : Book → Call → Book
-called book (admit number sheet) =
-    record { ledger = admissionOf (book .ledger) (book .records) number sheet .ledger; records = recordsAdmitted (book .ledger) (book .records) number sheet }
+called book (hold number sheet) =
+    record { ledger = holdingOf (book .ledger) (book .records) number sheet .ledger; records = recordsHeld (book .ledger) (book .records) number sheet }
+called book (confirm number) = record { ledger = book .ledger; records = recordsConfirmed (book .ledger) (book .records) number }
 called book (release number) =
     record { ledger = releasedOf (book .ledger) (book .records) number .ledger; records = recordsReleased (book .ledger) (book .records) number }
 called book (spare link) = book

@@ -1,4 +1,4 @@
--- Section 6: a path's record, and what the records that stand reserve on a link.
+-- Section 6, and document 02, item 8: a path's record, and what the records that stand reserve on a link.
 use Prim.Native.Nat.{ℕ, zero, suc, _/_, _%_, _^_}
 use mathlib.Core.Bool.{Bool, not}
 use mathlib.Core.List.{List}
@@ -8,15 +8,25 @@ use Rattle.quantity.specs.Choice.{pick}
 use Rattle.quantity.specs.Sums.{total, every}
 use Rattle.ledger.specs.declared.Record.{Record}
 
+-- a record's last field, its mark: 0 while the path is held, 1 once it is confirmed
+abbrev pub markHeld : ℕ
+markHeld = 0
+
+abbrev pub markConfirmed : ℕ
+markConfirmed = 1
+
 -- the clear record
 abbrev pub noRecord : Record
-noRecord = record { number = record { 0 = 0 }; rate = record { 0 = 0 }; links = 0 }
+noRecord = record { number = record { 0 = 0 }; rate = record { 0 = 0 }; links = 0; mark = 0 }
 
 abbrev pub recordAt : List Record → ℕ → Record
 recordAt records j = getD records j noRecord
 
 abbrev pub numberAt : List Record → ℕ → ℕ
 numberAt records j = recordAt records j .number .0
+
+abbrev pub markAt : List Record → ℕ → ℕ
+markAt records j = recordAt records j .mark
 
 -- bit i stands for link i
 unfoldable pub hasLink : ℕ → ℕ → Bool
@@ -43,6 +53,6 @@ placeAmong numbers (suc n) number = pick (ltb (placeAmong numbers n number) n) (
 unfoldable pub allDiffer : (ℕ → ℕ) → ℕ → Bool
 allDiffer numbers n = every (λ j. not (among numbers j (numbers j))) n
 
--- a path of this number stands
+-- a path of this number stands, held or confirmed
 unfoldable pub stands : List Record → ℕ → ℕ → Bool
 stands records count number = among (numberAt records) count number

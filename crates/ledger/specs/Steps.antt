@@ -25,14 +25,16 @@ use Rattle.ledger.specs.declared.records.Loaded.{Loaded}
 use Rattle.ledger.specs.declared.test.Tested.{Tested}
 use Rattle.ledger.specs.declared.opening.Clearing.{Clearing}
 use Rattle.ledger.specs.declared.opening.Checked.{Checked}
-use Rattle.ledger.specs.declared.admission.Admitting.{Admitting}
+use Rattle.ledger.specs.declared.holding.Appending.{Appending}
 use Rattle.ledger.specs.declared.release.Releasing.{Releasing}
+use Rattle.ledger.specs.declared.confirming.Marking.{Marking}
 use Rattle.ledger.specs.declared.spare.Spares.{Spares}
-use Rattle.ledger.specs.Records.{noRecord, numberAt, share, reserved, placeAmong}
+use Rattle.ledger.specs.Records.{markHeld, noRecord, numberAt, share, reserved, placeAmong}
 use Rattle.ledger.specs.Ledgers.{recordCount, linkCount, capacityOf, totalOf, capacitiesFit, ledgerUnusable}
 use Rattle.ledger.specs.Opening.{askedFor, openCases, newLedger, noLedger, refusedOpening}
-use Rattle.ledger.specs.Admission.{namesLink, recordOf, admissionCases, refusedAdmission, acceptedAdmission}
+use Rattle.ledger.specs.Holding.{namesLink, recordOf, holdingCases, refusedHolding, acceptedHolding}
 use Rattle.ledger.specs.Release.{releaseCases, refusedRelease, acceptedRelease, recordOfNumber}
+use Rattle.ledger.specs.Confirming.{confirmCases, refusedConfirming, confirmedAt}
 use Rattle.ledger.specs.Spare.{linksUnusable}
 
 -- The lent records.
@@ -42,10 +44,14 @@ loadedOf records = pick (eqb (length records) recordCount) (record { sized = tru
 
 -- the records that a value stands for: none where 64 were not lent
 unfoldable pub loadedRecords : Loaded → List Record
-loadedRecords held = pick (held .sized) (held .records) []
+loadedRecords loaded = pick (loaded .sized) (loaded .records) []
 
 unfoldable pub appended : List Record → ℕ → Record → List Record
 appended records at r = pick (ltb at recordCount) (set records at r) records
+
+-- the record at a place confirmed; 64 is no place
+unfoldable pub marked : List Record → ℕ → List Record
+marked records at = pick (ltb at recordCount) (confirmedAt records at) records
 
 unfoldable pub filled : List Record → ℕ → Record → List Record
 filled records count with = replicate count with ++ drop count records
@@ -105,17 +111,17 @@ Decidable ledger value =
     × (value .count ≤ 16)
     × ((k : ℕ) → k < 16 → getD (value .operators) k noLinkedOperator .link .0 < linkCount)
 
--- an admission, and the record that it appends; 64 is no place
-unfoldable pub refusedAdmitting : Ledger → Refusal → Admitting
-refusedAdmitting ledger why = record { admission = refusedAdmission ledger why; at = recordCount; entry = noRecord }
+-- a holding, and the record that it appends; 64 is no place
+unfoldable pub refusedAppending : Ledger → Refusal → Appending
+refusedAppending ledger why = record { holding = refusedHolding ledger why; at = recordCount; entry = noRecord }
 
-unfoldable pub acceptedAdmitting : Ledger → ℕ → Path → Admitting
-acceptedAdmitting ledger number path = record { admission = acceptedAdmission ledger path; at = ledger .count; entry = recordOf number path }
+unfoldable pub acceptedAppending : Ledger → ℕ → Path → Appending
+acceptedAppending ledger number path = record { holding = acceptedHolding ledger path; at = ledger .count; entry = recordOf number path markHeld }
 
-unfoldable pub admittingOf : Ledger → List Record → ℕ → List ℕ → Admitting
-unfolding refusedAdmitting acceptedAdmitting
-admittingOf ledger records number sheet =
-    firstOf (admissionCases ledger records number sheet) (refusedAdmitting ledger) (acceptedAdmitting ledger number (pathIn sheet))
+unfoldable pub appendingOf : Ledger → List Record → ℕ → List ℕ → Appending
+unfolding refusedAppending acceptedAppending
+appendingOf ledger records number sheet =
+    firstOf (holdingCases ledger records number sheet) (refusedAppending ledger) (acceptedAppending ledger number (pathIn sheet))
 
 -- a release, the place that it closes up, and the clear record
 unfoldable pub refusedReleasing : Ledger → Refusal → Releasing
@@ -126,6 +132,15 @@ unfolding refusedReleasing
 releasingOf ledger records number =
     firstOf (releaseCases ledger records number) (refusedReleasing ledger)
     (record { released = acceptedRelease ledger (recordOfNumber ledger records number); at = placeAmong (numberAt records) (ledger .count) number; last = noRecord })
+
+-- a confirming, and the place of the record that it marks
+unfoldable pub refusedMarking : Refusal → Marking
+refusedMarking why = record { confirmed = refusedConfirming why; at = recordCount }
+
+unfoldable pub markingOf : Ledger → List Record → ℕ → Marking
+unfolding refusedMarking
+markingOf ledger records number =
+    firstOf (confirmCases ledger records number) refusedMarking (record { confirmed = record { verdict = Verdict.Accepted }; at = placeAmong (numberAt records) (ledger .count) number })
 
 -- Ask.
 

@@ -6,7 +6,8 @@ use quantity::Rate;
 ghost use mathlib.Core.Path.{_≡_};
 ghost use Rattle.ledger.specs.Records.{noRecord};
 
-pub mod admission;
+pub mod confirming;
+pub mod holding;
 pub mod opening;
 mod records;
 pub mod release;
@@ -21,11 +22,17 @@ const LAST: usize = 63;
 
 const LINKS: usize = 16;
 
-// A path that stands: its number, what it reserves on each link that it names, and these links as 16 bits, bit i for link i.
+// The mark of a path that is held, and of one that is confirmed.
+const HELD: u32 = 0;
+
+const CONFIRMED: u32 = 1;
+
+// A path that stands: its number, what it reserves on each link that it names, these links as 16 bits, bit i for link i, and its mark, 0 while it is held and 1 once it is confirmed.
 pub struct Record {
     pub number: PathNumber,
     pub rate: Rate,
     pub links: u32,
+    pub mark: u32,
 }
 
 // The capacities of the sixteen links, what the paths that stand reserve on each, and how many stand. Their records are lent.
@@ -43,5 +50,6 @@ pub fn no_record() -> Record
         number: PathNumber(0),
         rate: Rate(0),
         links: 0,
+        mark: 0,
     }
 }

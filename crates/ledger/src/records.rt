@@ -1,4 +1,4 @@
-// The lent records: read into values once, and written by an append, a close-up or a clearing. Nothing here decides.
+// The lent records: read into values once, and written by an append, a mark, a close-up or a clearing. Nothing here decides.
 
 use crate::Record;
 use quantity::PathNumber;
@@ -6,7 +6,7 @@ use quantity::Rate;
 ghost use mathlib.Core.Path.{_≡_};
 ghost use Prim.Native.Nat.{_<_, _≤_};
 ghost use lib.ListN.{length};
-ghost use Rattle.ledger.specs.Steps.{loadedOf, appended, filled};
+ghost use Rattle.ledger.specs.Steps.{loadedOf, appended, marked, filled};
 ghost use Rattle.ledger.specs.Release.{closedUp};
 
 // The lent records by value, clear ones where there are not 64.
@@ -22,6 +22,7 @@ pub(crate) fn load(records: &[Record]) -> Loaded
         number: PathNumber(0),
         rate: Rate(0),
         links: 0,
+        mark: 0,
     }; 64];
     if records.len() != crate::RECORDS {
         return Loaded {
@@ -47,6 +48,16 @@ pub(crate) fn append(records: &mut [Record], at: usize, entry: Record)
 {
     if at < crate::RECORDS {
         records[at] = entry;
+    }
+}
+
+// The mark of one record is set, and nothing else. 64 is no place, and nothing is written there.
+pub(crate) fn mark(records: &mut [Record], at: usize)
+    requires { ⌜ (at < 64 → length (now records) ≡ 64) ⌝ }
+    ensures { λ r. ⌜ now (records .exit) ≡ marked (now (records .entry)) at ⌝ }
+{
+    if at < crate::RECORDS {
+        records[at].mark = crate::CONFIRMED;
     }
 }
 

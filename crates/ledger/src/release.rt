@@ -37,21 +37,21 @@ pub struct Releasing {
 pub fn release(ledger: Ledger, records: &mut [Record], number: u32) -> Released
     ensures { λ r. ⌜ (r ≡ releasedOf ledger (now (records .entry)) number) × (now (records .exit) ≡ recordsReleased ledger (now (records .entry)) number) ⌝ }
 {
-    let held = load(records);
-    let releasing = decide(ledger, held, number);
+    let loaded = load(records);
+    let releasing = decide(ledger, loaded, number);
     let at = releasing.at;
     let last = releasing.last;
     close_up(records, at, last);
     releasing.released
 }
 
-fn decide(ledger: Ledger, held: Loaded, number: u32) -> Releasing
-    ensures { λ r. ⌜ r ≡ releasingOf ledger (loadedRecords held) number ⌝ }
+fn decide(ledger: Ledger, loaded: Loaded, number: u32) -> Releasing
+    ensures { λ r. ⌜ r ≡ releasingOf ledger (loadedRecords loaded) number ⌝ }
 {
     match PathNumber::checked(number) {
         CheckedPathNumber::OutOfRange => refused(ledger, Refusal::Unusable),
         CheckedPathNumber::InRange(number) => {
-            let tested = test(ledger, held);
+            let tested = test(ledger, loaded);
             if !tested.usable {
                 return refused(ledger, Refusal::Unusable);
             }
@@ -61,7 +61,7 @@ fn decide(ledger: Ledger, held: Loaded, number: u32) -> Releasing
             if at == count {
                 return refused(ledger, Refusal::PathNumberWrong);
             }
-            let records = held.records;
+            let records = loaded.records;
             let gone = records[at];
             let totals = ledger.totals;
             let left = discharge(totals, gone);

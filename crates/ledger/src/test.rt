@@ -1,4 +1,4 @@
-// The first step of an admission and of a release: each stored value is tested once (document 01, section 7, 1).
+// The first step of holding, confirming and release: each stored value is tested once (document 01, section 7, 1).
 
 use crate::Ledger;
 use crate::Record;
@@ -22,11 +22,11 @@ pub struct Tested {
     pub numbers: [u32; 64],
 }
 
-pub(crate) fn test(ledger: Ledger, held: Loaded) -> Tested
-    ensures { λ r. ⌜ r ≡ testedOf ledger (loadedRecords held) ⌝ }
+pub(crate) fn test(ledger: Ledger, loaded: Loaded) -> Tested
+    ensures { λ r. ⌜ r ≡ testedOf ledger (loadedRecords loaded) ⌝ }
 {
     let count = ledger.count;
-    if !held.sized {
+    if !loaded.sized {
         return not_tested();
     }
     if crate::RECORDS < count {
@@ -36,7 +36,7 @@ pub(crate) fn test(ledger: Ledger, held: Loaded) -> Tested
     if !capacities_fit(capacities) {
         return not_tested();
     }
-    let records = held.records;
+    let records = loaded.records;
     if !records_fit(records, count) {
         return not_tested();
     }
@@ -94,9 +94,11 @@ fn record_fits(entry: Record, standing: bool) -> bool
     let number = entry.number;
     let rate = entry.rate;
     if standing {
-        number.in_range() && rate.in_range() && entry.links <= 65535
+        let marked = and(entry.links <= 65535, entry.mark <= crate::CONFIRMED);
+        and(number.in_range(), and(rate.in_range(), marked))
     } else {
-        number.0 == 0 && rate.0 == 0 && entry.links == 0
+        let unmarked = and(entry.links == 0, entry.mark == 0);
+        and(number.0 == 0, and(rate.0 == 0, unmarked))
     }
 }
 

@@ -1,6 +1,7 @@
 // An evening's re-planning from text: one command a line, one answer each (document 01, sections 6 and 7).
 
-use book::admit_path;
+use book::confirm_path;
+use book::hold_path;
 use book::open_book;
 use book::release_path;
 use console::input::Input;
@@ -24,7 +25,6 @@ use console::words::find;
 use console::words::row;
 use ledger::Ledger;
 use ledger::Record;
-use ledger::admission::Admission;
 use ledger::no_record;
 use ledger::opening::no_ledger;
 use ledger::spare::spare_rate;
@@ -51,24 +51,36 @@ const RELEASE: usize = 1;
 
 const SPARE: usize = 2;
 
-const ADMIT: usize = 3;
+const CONFIRM: usize = 3;
 
-const FIGURES: usize = 4;
+const ADMIT: usize = 4;
 
-const PAGE: usize = 5;
+const HOLD: usize = 5;
 
-const READ: usize = 6;
+const FIGURES: usize = 6;
 
-const LIST: usize = 7;
+const PAGE: usize = 7;
 
-const UNKNOWN: usize = 8;
+const READ: usize = 8;
 
-// The ledger and its records, the capacities that it was opened with, and whether an admission was asked for.
+const LIST: usize = 9;
+
+const UNKNOWN: usize = 10;
+
+// The ledger and its records, the capacities that it was opened with, and whether a path was asked for.
 struct Book {
     ledger: Ledger,
     records: [Record; 64],
     capacities: [u32; 16],
     begun: bool,
+}
+
+// What a call answered, and the book then.
+struct Done {
+    verdict: Verdict,
+    rate: u64,
+    delay: u64,
+    book: Book,
 }
 
 fn main() {
@@ -111,8 +123,8 @@ fn answer_line(book: Book, lines: u64, line: &[u8]) -> Book {
     let found = command_in(line);
     let command = found.index;
     match command {
-        CAPACITY | RELEASE | SPARE => answer_numbers(book, lines, found, line),
-        ADMIT => admit_sheet(book, lines, found.behind, line),
+        CAPACITY | RELEASE | SPARE | CONFIRM => answer_numbers(book, lines, found, line),
+        ADMIT | HOLD => answer_path(book, lines, found, line),
         FIGURES | PAGE | READ => answer_sheet(book, lines, found, 0, line),
         LIST => {
             list_paths(book);
@@ -127,7 +139,10 @@ fn answer_line(book: Book, lines: u64, line: &[u8]) -> Book {
 
 // A command with numbers or a sheet goes on behind its word, one without ends with it.
 fn command_in(line: &[u8]) -> Found {
-    let found = find(b"capacity|release|spare|admit|figures|page|read|list", line);
+    let found = find(
+        b"capacity|release|spare|confirm|admit|hold|figures|page|read|list",
+        line,
+    );
     let goes_on = found.behind <= line.len();
     if goes_on == (found.index < LIST) {
         return found;
@@ -148,6 +163,7 @@ fn answer_numbers(book: Book, lines: u64, found: Found, line: &[u8]) -> Book {
     match command {
         CAPACITY => set_capacity(book, lines, numbers),
         RELEASE => release_number(book, numbers.first),
+        CONFIRM => confirm_number(book, numbers.first),
         _ => {
             ask_spare(book, numbers.first);
             book
@@ -203,17 +219,41 @@ fn release_number(book: Book, path: u64) -> Book {
     let ledger = released.ledger;
     let records = done.records;
     let verdict = released.verdict;
-    say_released(path, verdict);
+    let numbers = [path];
+    say(verdict, b"released ", &numbers);
     with_ledger(book, ledger, records, book.begun)
 }
 
-fn say_released(path: u64, verdict: Verdict) {
+// A refusal, or what was done.
+fn say(verdict: Verdict, done: &[u8], numbers: &[u64]) {
     match verdict {
         Verdict::Refused(why) => refused(why),
-        Verdict::Accepted => {
-            let numbers = [path];
-            row(b"released ", &numbers);
-        }
+        Verdict::Accepted => row(done, numbers),
+    }
+}
+
+// `confirm NUMBER`
+fn confirm_number(book: Book, path: u64) -> Book {
+    let done = confirm(book, path);
+    let verdict = done.verdict;
+    let numbers = [path];
+    say(verdict, b"confirmed ", &numbers);
+    done.book
+}
+
+fn confirm(book: Book, path: u64) -> Done {
+    let ledger = book.ledger;
+    let lent = book.records;
+    let answer = confirm_path(ledger, lent, narrow(path));
+    let confirmed = answer.confirmed;
+    let records = answer.records;
+    let verdict = confirmed.verdict;
+    let next = with_ledger(book, ledger, records, book.begun);
+    Done {
+        verdict,
+        rate: 0,
+        delay: 0,
+        book: next,
     }
 }
 
@@ -240,17 +280,17 @@ fn ask_spare(book: Book, link: u64) {
     }
 }
 
-// `admit NUMBER SHEET`
-fn admit_sheet(book: Book, lines: u64, from: usize, line: &[u8]) -> Book {
+// `hold NUMBER SHEET` and `admit NUMBER SHEET`
+fn answer_path(book: Book, lines: u64, command: Found, line: &[u8]) -> Book {
     let mut fault = 0;
-    match decimal_at(line, from) {
+    match decimal_at(line, command.behind) {
         Decimal::NoDigit => {}
         Decimal::TooLarge => fault = 1,
         Decimal::Number { value, next } => {
             if next < line.len() {
                 if line[next] == SPACE {
                     let found = Found {
-                        index: ADMIT,
+                        index: command.index,
                         behind: next + 1,
                     };
                     return answer_sheet(book, lines, found, value, line);
@@ -282,6 +322,7 @@ fn answer_bytes(book: Book, command: usize, path: u64, bytes: &[u8], n: usize) -
     let sheet = &bytes[0..n];
     match command {
         ADMIT => return admit_bytes(book, path, sheet),
+        HOLD => return hold_bytes(book, path, sheet),
         FIGURES => list(sheet),
         PAGE => print_page(sheet),
         _ => write_back(sheet),
@@ -289,24 +330,48 @@ fn answer_bytes(book: Book, command: usize, path: u64, bytes: &[u8], n: usize) -
     book
 }
 
-fn admit_bytes(book: Book, path: u64, sheet: &[u8]) -> Book {
-    let before = book.ledger;
-    let lent = book.records;
-    let done = admit_path(before, lent, narrow(path), sheet);
-    let admission = done.admission;
-    say_admitted(path, admission);
-    let ledger = admission.ledger;
-    let records = done.records;
-    with_ledger(book, ledger, records, true)
+fn hold_bytes(book: Book, path: u64, sheet: &[u8]) -> Book {
+    let done = hold(book, path, sheet);
+    let verdict = done.verdict;
+    let numbers = [path, done.rate, done.delay];
+    say(verdict, b"held | rate | delay ", &numbers);
+    done.book
 }
 
-fn say_admitted(path: u64, admission: Admission) {
-    let verdict = admission.verdict;
+// A path is admitted by being held and, if that is accepted, confirmed at once.
+fn admit_bytes(book: Book, path: u64, sheet: &[u8]) -> Book {
+    let held = hold(book, path, sheet);
+    let settled = settle(held, path);
+    let verdict = settled.verdict;
+    let numbers = [path, held.rate, held.delay];
+    say(verdict, b"admitted | rate | delay ", &numbers);
+    settled.book
+}
+
+fn hold(book: Book, path: u64, sheet: &[u8]) -> Done {
+    let before = book.ledger;
+    let lent = book.records;
+    let answer = hold_path(before, lent, narrow(path), sheet);
+    let holding = answer.holding;
+    let ledger = holding.ledger;
+    let records = answer.records;
+    let verdict = holding.verdict;
+    let next = with_ledger(book, ledger, records, true);
+    Done {
+        verdict,
+        rate: holding.rate.0 as u64,
+        delay: holding.delay.0 as u64,
+        book: next,
+    }
+}
+
+fn settle(held: Done, path: u64) -> Done {
+    let verdict = held.verdict;
     match verdict {
-        Verdict::Refused(why) => refused(why),
+        Verdict::Refused(_) => held,
         Verdict::Accepted => {
-            let numbers = [path, admission.rate.0 as u64, admission.delay.0 as u64];
-            row(b"admitted | rate | delay ", &numbers);
+            let book = held.book;
+            confirm(book, path)
         }
     }
 }
@@ -334,7 +399,7 @@ fn write_path(path: PathValue) {
     }
 }
 
-// `list`: a line for each path that stands, in order, and how many there are.
+// `list`: a line for each path that stands, in order, a held one's with that word at its end, and how many there are.
 fn list_paths(book: Book) {
     let records = book.records;
     let count = book.ledger.count;
@@ -360,6 +425,13 @@ fn list_record(entry: Record) {
         }
         bits /= 2;
         link += 1;
+    }
+    end_record(entry);
+}
+
+fn end_record(entry: Record) {
+    if entry.mark == 0 {
+        text(b" held");
     }
     end_line();
 }

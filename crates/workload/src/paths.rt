@@ -1,11 +1,13 @@
-// Admissions into a ledger, releases from it and the spare rates of its links. Each turn begins with the same ledger.
+// Paths held in a ledger, and confirmed there, releases from it and the spare rates of its links. Each turn begins with the same ledger.
 
 use crate::after;
 use crate::mix;
 use crate::mix_refusal;
-use book::AdmittedPath;
+use book::ConfirmedPath;
+use book::HeldPath;
 use book::ReleasedPath;
-use book::admit_path;
+use book::confirm_path;
+use book::hold_path;
 use book::open_book;
 use book::release_path;
 use ledger::Ledger;
@@ -24,7 +26,7 @@ struct Book {
     records: [Record; 64],
 }
 
-// A ledger of sixteen links of one capacity, into which a sheet's path is admitted under each of some numbers, from the last on.
+// A ledger of sixteen links of one capacity, in which a sheet's path is held and confirmed under each of some numbers, from the last on.
 fn filled(capacity: u32, numbers: &[u32], sheets: &[u8], width: usize) -> Book
     requires { ⌜ width ≤ length (now sheets) ⌝ }
 {
@@ -41,22 +43,35 @@ fn filled(capacity: u32, numbers: &[u32], sheets: &[u8], width: usize) -> Book
         let ledger = book.ledger;
         let records = book.records;
         let end = at + width;
-        book = admitted(admit_path(ledger, records, numbers[left], &sheets[at..end]));
+        let number = numbers[left];
+        book = settled(hold_path(ledger, records, number, &sheets[at..end]), number);
         at = after(at, width, sheets.len());
     }
     book
 }
 
-fn admitted(answer: AdmittedPath) -> Book {
-    let admission = answer.admission;
-    let ledger = admission.ledger;
-    let records = answer.records;
-    Book { ledger, records }
+// The book once a path was held and, if that was accepted, confirmed.
+fn settled(answer: HeldPath, number: u32) -> Book {
+    let holding = answer.holding;
+    let ledger = holding.ledger;
+    let held = answer.records;
+    let verdict = holding.verdict;
+    match verdict {
+        Verdict::Refused(_) => Book {
+            ledger,
+            records: held,
+        },
+        Verdict::Accepted => {
+            let done = confirm_path(ledger, held, number);
+            let records = done.records;
+            Book { ledger, records }
+        }
+    }
 }
 
-// A ledger with paths; then in each turn an admission into it, under the next of further numbers.
+// A ledger with paths; then in each turn a path is held in it, under the next of further numbers.
 #[no_mangle]
-pub extern "C" fn workload_admissions(
+pub extern "C" fn workload_holdings(
     capacity: u32,
     standing: &[u32],
     further: &[u32],
@@ -79,9 +94,47 @@ pub extern "C" fn workload_admissions(
     let mut left = turns;
     while 0 < left {
         let end = at + width;
-        sum = mix_admitted(
+        sum = mix_held(
             sum,
-            admit_path(ledger, records, further[j], &sheets[at..end]),
+            hold_path(ledger, records, further[j], &sheets[at..end]),
+        );
+        at = after(at, width, sheets.len());
+        j = after(j, 1, further.len());
+        left -= 1;
+    }
+    sum
+}
+
+// The same, and the path is confirmed at once.
+#[no_mangle]
+pub extern "C" fn workload_confirmings(
+    capacity: u32,
+    standing: &[u32],
+    further: &[u32],
+    sheets: &[u8],
+    width: usize,
+    turns: u64,
+) -> u64 {
+    let mut sum: u64 = 0;
+    if further.len() == 0 {
+        return sum;
+    }
+    if sheets.len() < width {
+        return sum;
+    }
+    let book = filled(capacity, standing, sheets, width);
+    let ledger = book.ledger;
+    let records = book.records;
+    let mut at = 0;
+    let mut j = 0;
+    let mut left = turns;
+    while 0 < left {
+        let end = at + width;
+        let number = further[j];
+        sum = mix_settled(
+            sum,
+            hold_path(ledger, records, number, &sheets[at..end]),
+            number,
         );
         at = after(at, width, sheets.len());
         j = after(j, 1, further.len());
@@ -163,16 +216,43 @@ fn mix_spare(sum: u64, answer: Spare) -> u64 {
     }
 }
 
-fn mix_admitted(sum: u64, answer: AdmittedPath) -> u64 {
-    let admission = answer.admission;
-    let ledger = admission.ledger;
-    let verdict = admission.verdict;
+fn mix_held(sum: u64, answer: HeldPath) -> u64 {
+    let holding = answer.holding;
+    let ledger = holding.ledger;
+    let verdict = holding.verdict;
     let next = mix(sum, ledger.count as u64);
     match verdict {
         Verdict::Refused(why) => mix_refusal(next, why),
         Verdict::Accepted => {
             let entry = answer.records[63];
-            mix_record(mix(next, admission.delay.0 as u64), entry)
+            mix_record(mix(next, holding.delay.0 as u64), entry)
+        }
+    }
+}
+
+// A path that was held, and is confirmed if that was accepted.
+fn mix_settled(sum: u64, answer: HeldPath, number: u32) -> u64 {
+    let next = mix_held(sum, answer);
+    let holding = answer.holding;
+    let verdict = holding.verdict;
+    match verdict {
+        Verdict::Refused(_) => next,
+        Verdict::Accepted => {
+            let ledger = holding.ledger;
+            let held = answer.records;
+            mix_confirmed(next, confirm_path(ledger, held, number))
+        }
+    }
+}
+
+fn mix_confirmed(sum: u64, answer: ConfirmedPath) -> u64 {
+    let confirmed = answer.confirmed;
+    let verdict = confirmed.verdict;
+    match verdict {
+        Verdict::Refused(why) => mix_refusal(sum, why),
+        Verdict::Accepted => {
+            let entry = answer.records[63];
+            mix_record(sum, entry)
         }
     }
 }
@@ -192,8 +272,6 @@ fn mix_released(sum: u64, answer: ReleasedPath, k: usize) -> u64
 }
 
 fn mix_record(sum: u64, entry: Record) -> u64 {
-    mix(
-        mix(mix(sum, entry.number.0 as u64), entry.rate.0 as u64),
-        entry.links as u64,
-    )
+    let path = mix(mix(sum, entry.number.0 as u64), entry.rate.0 as u64);
+    mix(mix(path, entry.links as u64), entry.mark as u64)
 }

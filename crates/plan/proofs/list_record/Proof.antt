@@ -5,10 +5,10 @@ use Rattle.plan.proofs.list_record.Statement.{statement}
 use Rattle.plan.proofs.list_record.Tie as tie
 
 abbrev Inv-loop : tie.InvT-loop
-Inv-loop bits₀ link₀ t6 bits link = link ≤ 16
+Inv-loop entry bits₀ link₀ t6 bits link = link ≤ 16
 
 abbrev μ-loop : tie.MeasureT-loop
-μ-loop bits₀ link₀ t6 bits link = 16 - link
+μ-loop entry bits₀ link₀ t6 bits link = 16 - link
 
 cast-number : tie.Need-cast-number Inv-loop μ-loop
 cast-number c = search needs
@@ -49,8 +49,8 @@ loop-less c = search needs
 loop-again : tie.Need-loop-again Inv-loop μ-loop
 loop-again c = search needs
 
-end-line-requires : tie.Need-end-line-requires Inv-loop μ-loop
-end-line-requires c κs = search needs
+end-record-requires : tie.Need-end-record-requires Inv-loop μ-loop
+end-record-requires c κs = search needs
 
 returns : tie.Need-returns Inv-loop μ-loop
 returns c = search needs
@@ -74,5 +74,5 @@ list-record-spec =
     add-link
     loop-less
     loop-again
-    end-line-requires
+    end-record-requires
     returns)

@@ -149,7 +149,7 @@ module _ {M : Type 1} (𝓤 : URA M) (H : Heap 𝓤) (A : Atoms 𝓤) (W : Given
           (λ h. let below = ltb→lt n 64 h in let within : 63 < length (mixed 63 zs ys) = omega (arith, mixed-long 63 zs ys long (omega (arith, full below)), full below) in
           rewrite ! 0 (λ (i : ℕ). ‵ (row T.the-row fullShare (mixed i zs ys) b o)) (at-end below) refl $
           assigns ! (bin ! (load ! (from ! (fld ! refl (stop !))) (look-in ! 28 (sub ! 0 refl (whole !)))) (lit ! tt) tt) (from ! (stop !)) (init ! 4 refl (tt, tt)) $
-          rewrite ! 4 (λ (p : ℕ). ‵ (fat fullShare tyPtr l₁₃ 0 (vptr b p))) (sym (place-is 12 o 63)) refl $
+          rewrite ! 4 (λ (p : ℕ). ‵ (fat fullShare tyPtr l₁₃ 0 (vptr b p))) (sym (place-is 16 o 63)) refl $
           elem-out ! T.the-row (Is T.the-row) (shows 𝓤 H A T.the-row) vals₁ (LL.tells T.the-type T′.the-laws) fullShare (mixed 63 zs ys) 63 v b o within (λ _.
           assigns-last ! (of-opd ! (load ! (from ! (stop !)) (look ! 26 refl))) (from ! (hop ! (look ! 6 refl) (stop !))) (store-raw ! 0 refl (LL.lawful T.the-type T′.the-laws 𝓤 H A W .typed v _ g .0)) $
           exec ! (𝓣 .C) (𝓣 .Λ) E body.t-5 (atRet E Post) $
@@ -169,14 +169,14 @@ module _ {M : Type 1} (𝓤 : URA M) (H : Heap 𝓤) (A : Atoms 𝓤) (W : Given
           rewrite ! 18 (λ (i : ℕ). ‵ (fat fullShare (tyInt w64) l₆ 0 (vint w64 i))) (add-one j) refl $
           assigns ! (bin ! (load ! (from ! (stop !)) (look ! 18 refl)) (lit ! tt) (record { fits = omega (arith, l) })) (from ! (stop !)) (init ! 16 refl (tt, record { fits = omega (arith, l) })) $
           assigns ! (bin ! (load ! (from ! (fld ! refl (stop !))) (look-in ! 28 (sub ! 0 refl (whole !)))) (load ! (from ! (stop !)) (look ! 16 refl)) tt) (from ! (stop !)) (init ! 14 refl (tt, tt)) $
-          rewrite ! 14 (λ (i : ℕ). ‵ (fat fullShare tyPtr l₈ 0 (vptr b i))) (sym (place-is 12 o (suc j))) refl $
+          rewrite ! 14 (λ (i : ℕ). ‵ (fat fullShare tyPtr l₈ 0 (vptr b i))) (sym (place-is 16 o (suc j))) refl $
           -- the next record is copied out
           elem-out ! T.the-row (Is T.the-row) (shows 𝓤 H A T.the-row) vals₁ (LL.tells T.the-type T′.the-laws) fullShare ws (suc j) v b o next-within (λ is.
           assigns ! (of-opd ! (load ! (from ! (hop ! (look ! 16 refl) (stop !))) (look-raw ! 0 refl))) (from ! (stop !)) (init ! 14 refl (LL.lawful T.the-type T′.the-laws 𝓤 H A W .typed r _ is .0)) $
           elem-back ! T.the-row fullShare ws (suc j) v (vals₁ r) b o next-within $
           assigns ! (bin ! (load ! (from ! (stop !)) (look ! 22 refl)) (lit ! tt) (record { fits = omega (arith, l) })) (from ! (stop !)) (init ! 10 refl (tt, record { fits = omega (arith, l) })) $
           assigns ! (bin ! (load ! (from ! (fld ! refl (stop !))) (look-in ! 28 (sub ! 0 refl (whole !)))) (load ! (from ! (stop !)) (look ! 10 refl)) tt) (from ! (stop !)) (init ! 8 refl (tt, tt)) $
-          rewrite ! 8 (λ (i : ℕ). ‵ (fat fullShare tyPtr l₁₁ 0 (vptr b i))) (sym (place-is 12 o j)) refl $
+          rewrite ! 8 (λ (i : ℕ). ‵ (fat fullShare tyPtr l₁₁ 0 (vptr b i))) (sym (place-is 16 o j)) refl $
           -- and stored before it
           elem-out ! T.the-row (Is T.the-row) (shows 𝓤 H A T.the-row) vals₁ (LL.tells T.the-type T′.the-laws) fullShare ws j v b o within (λ _.
           assigns ! (of-opd ! (load ! (from ! (stop !)) (look ! 14 refl))) (from ! (hop ! (look ! 10 refl) (stop !))) (store-raw ! 0 refl (LL.lawful T.the-type T′.the-laws 𝓤 H A W .typed r _ is .0)) $

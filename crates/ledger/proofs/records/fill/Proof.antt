@@ -64,7 +64,7 @@ abbrev vals₁ : Record → List Val
 vals₁ = LL.vals T.the-type T′.the-laws
 
 -- where the record lies: the product that the MIR makes fits
-place-fits : (n i : ℕ) → Room T.the-row n → i < n → i * 12 < 2 ^ 64
+place-fits : (n i : ℕ) → Room T.the-row n → i < n → i * 16 < 2 ^ 64
 place-fits n i room within = omega (arith, room .1, within)
 
 module _ {M : Type 1} (𝓤 : URA M) (H : Heap 𝓤) (A : Atoms 𝓤) (W : Given 𝓤 H A) (at-mem : Memory → SProp 𝓤) (run : Routine → Fun 𝓤) (κ : Lft) (q : Share) (b o : ℕ) (γ : GName) (ys : List Record) (n : ℕ) (v : Record) where
@@ -129,7 +129,7 @@ module _ {M : Type 1} (𝓤 : URA M) (H : Heap 𝓤) (A : Atoms 𝓤) (W : Given
         stays ! (load ! (from ! (stop !)) (look ! 2 refl)) $
         assigns ! (bin ! (load ! (from ! (stop !)) (look ! 1 refl)) (lit ! tt) (record { fits = place-fits (length ys) j room ly })) (from ! (stop !)) (init ! 3 refl (tt, record { fits = place-fits (length ys) j room ly })) $
         assigns ! (bin ! (load ! (from ! (fld ! refl (stop !))) (look-in ! 5 (sub ! 0 refl (whole !)))) (load ! (from ! (stop !)) (look ! 3 refl)) tt) (from ! (stop !)) (init ! 4 refl (tt, tt)) $
-        rewrite ! 4 (λ (p : ℕ). ‵ (fat fullShare tyPtr l₇ 0 (vptr b p))) (sym (place-is 12 o j)) refl $
+        rewrite ! 4 (λ (p : ℕ). ‵ (fat fullShare tyPtr l₇ 0 (vptr b p))) (sym (place-is 16 o j)) refl $
         elem-out ! T.the-row (Is T.the-row) (shows 𝓤 H A T.the-row) vals₁ (LL.tells T.the-type T′.the-laws) fullShare (filled ys j v) j v b o long (λ _.
         -- [records[j]; what it owns; the others; j; _5; _6; _7 (6); _1; _2; _3 (9); …]
         assigns ! (of-opd ! (load ! (from ! (stop !)) (look ! 9 refl))) (from ! (hop ! (look ! 6 refl) (stop !))) (store-raw ! 0 refl (LL.lawful T.the-type T′.the-laws 𝓤 H A W .typed v _ g .0)) $

@@ -77,7 +77,7 @@ vals₁ = LL.vals T.the-type T′.the-laws
 
 -- what the local array holds at first
 noRecord-is : Is T.the-row noRecord (vals₁ noRecord)
-noRecord-is = LL.owes T.the-type T′.the-laws noRecord ((_, (refl, ((refl, lit< tt), tt))), ((_, (refl, ((refl, lit< tt), tt))), ((refl, lit< tt), tt)))
+noRecord-is = LL.owes T.the-type T′.the-laws noRecord ((_, (refl, ((refl, lit< tt), tt))), ((_, (refl, ((refl, lit< tt), tt))), ((refl, lit< tt), ((refl, lit< tt), tt))))
 
 abbrev zs : List Record
 zs = replicate 64 noRecord
@@ -148,7 +148,7 @@ module _ {M : Type 1} (𝓤 : URA M) (H : Heap 𝓤) (A : Atoms 𝓤) (W : Given
           stays ! (load ! (from ! (stop !)) (look ! 3 refl)) $
           assigns ! (bin ! (load ! (from ! (stop !)) (look ! 2 refl)) (lit ! tt) (record { fits = omega (arith, l) })) (from ! (stop !)) (init ! 4 refl (tt, record { fits = omega (arith, l) })) $
           assigns ! (bin ! (load ! (from ! (fld ! refl (stop !))) (look-in ! 10 (sub ! 0 refl (whole !)))) (load ! (from ! (stop !)) (look ! 4 refl)) tt) (from ! (stop !)) (init ! 5 refl (tt, tt)) $
-          rewrite ! 5 (λ (p : ℕ). ‵ (fat fullShare tyPtr l₁₂ 0 (vptr b p))) (sym (place-is 12 o j)) refl $
+          rewrite ! 5 (λ (p : ℕ). ‵ (fat fullShare tyPtr l₁₂ 0 (vptr b p))) (sym (place-is 16 o j)) refl $
           -- the slice's record is copied out
           move ! (1 ∷ []) $ elem-out ! T.the-row (Is T.the-row) (shows 𝓤 H A T.the-row) vals₁ (LL.tells T.the-type T′.the-laws) q′ ys j noRecord b o ly (λ g.
           assigns ! (of-opd ! (load ! (from ! (hop ! (look ! 7 refl) (stop !))) (look-raw ! 0 refl))) (from ! (stop !)) (init ! 8 refl (LL.lawful T.the-type T′.the-laws 𝓤 H A W .typed r _ g .0)) $
@@ -156,7 +156,7 @@ module _ {M : Type 1} (𝓤 : URA M) (H : Heap 𝓤) (A : Atoms 𝓤) (W : Given
           assigns ! (bin ! (load ! (from ! (stop !)) (look ! 2 refl)) (lit ! tt) (record { fits = omega (arith, l) })) (from ! (stop !)) (init ! 7 refl (tt, record { fits = omega (arith, l) })) $
           assigns ! (addr ! (from ! (stop !))) (from ! (stop !)) (init ! 8 refl (tt, tt)) $
           assigns ! (bin ! (load ! (from ! (stop !)) (look ! 8 refl)) (load ! (from ! (stop !)) (look ! 7 refl)) tt) (from ! (stop !)) (init ! 9 refl (tt, tt)) $
-          rewrite ! 9 (λ (p : ℕ). ‵ (fat fullShare tyPtr l₁₆ 0 (vptr l₂ p))) (sym (place-is 12 0 j)) refl $
+          rewrite ! 9 (λ (p : ℕ). ‵ (fat fullShare tyPtr l₁₆ 0 (vptr l₂ p))) (sym (place-is 16 0 j)) refl $
           -- and stored to the array's
           move ! (1 ∷ []) $ elem-out ! T.the-row (Is T.the-row) (shows 𝓤 H A T.the-row) vals₁ (LL.tells T.the-type T′.the-laws) fullShare (mixed j ys zs) j noRecord l₂ 0 long (λ _.
           assigns ! (of-opd ! (load ! (from ! (stop !)) (look ! 8 refl))) (from ! (hop ! (look ! 11 refl) (stop !))) (store-raw ! 0 refl (LL.lawful T.the-type T′.the-laws 𝓤 H A W .typed r _ g .0)) $
@@ -249,7 +249,7 @@ module _ {M : Type 1} (𝓤 : URA M) (H : Heap 𝓤) (A : Atoms 𝓤) (W : Given
       -- [_17; …; _k (34 - 2k); …]
       assigns ! (agg ! (and-then ! (lit ! tt) (no-more !))) (from ! (stop !)) (init ! 26 refl (tt, (record { fits = lit< tt }, tt))) $
       assigns ! (agg ! (and-then ! (lit ! tt) (no-more !))) (from ! (stop !)) (init ! 24 refl (tt, (record { fits = lit< tt }, tt))) $
-      assigns ! (agg ! (and-then ! (load ! (from ! (stop !)) (look ! 26 refl)) (and-then ! (load ! (from ! (stop !)) (look ! 24 refl)) (and-then ! (lit ! tt) (no-more !))))) (from ! (stop !)) (init ! 22 refl (LL.lawful T.the-type T′.the-laws 𝓤 H A W .typed noRecord _ noRecord-is .0)) $
+      assigns ! (agg ! (and-then ! (load ! (from ! (stop !)) (look ! 26 refl)) (and-then ! (load ! (from ! (stop !)) (look ! 24 refl)) (and-then ! (lit ! tt) (and-then ! (lit ! tt) (no-more !)))))) (from ! (stop !)) (init ! 22 refl (LL.lawful T.the-type T′.the-laws 𝓤 H A W .typed noRecord _ noRecord-is .0)) $
       owned ! T.the-row (Is T.the-row) (LL.makes T.the-type T′.the-plain 𝓤 H A) noRecord _ noRecord-is $
       use1 W (‵ (Array T.the-row 64 .own zs (clear ∷ []))) (array-repeat 𝓤 H A W T.the-row (LL.copy T.the-type T′.the-copy 𝓤 H A W) 64 noRecord (only (vals₁ noRecord))) $
       peeks ! (Array T.the-row 64) (Is (Array T.the-row 64)) (shows 𝓤 H A (Array T.the-row 64)) zs (clear ∷ []) (λ is.

@@ -1,34 +1,24 @@
--- Three tests in turn, of a standing record or of a clear one.
-use mathlib.Core.Path.{_≡_, refl, ap, sym, _∙_}
+-- Four tests joined, of a standing record or of a clear one.
+use mathlib.Core.Path.{_≡_, ap, ap₂, sym, _∙_}
 use mathlib.Core.Bool.{Bool}
-use mathlib.Core.Logic.{⊎-elim}
-use Prim.Native.Nat.{zero-le}
+use Prim.Native.Nat.{ℕ, zero-le}
 use lib.Dec.{leb, eqb}
 use borrow.Author.Needs.{needs}
-use borrow.Author.Tests.{eq-eqb, ne-eqb, le-leb}
+use borrow.Author.Tests.{le-leb}
 use Rattle.quantity.specs.Choice.{both}
-use Rattle.quantity.specs.Ranges.{inRange, pathNumberRange, rateRange}
+use Rattle.quantity.specs.Ranges.{inRange}
 use Rattle.quantity.proofs.Laws.{pick-true, pick-false}
-use Rattle.quantity.proofs.Sums.{both-assoc}
-use Rattle.ledger.specs.Ledgers.{recordInRange, recordClear, linksRange}
-use Rattle.ledger.proofs.Testing.{both-taken, both-left}
+use Rattle.ledger.specs.Ledgers.{recordInRange, recordClear}
 use Rattle.ledger.proofs.test.record_fits.Statement.{statement}
 use Rattle.ledger.proofs.test.record_fits.Tie as tie
 
--- the first two tests of a standing record
-two-in-range : (c : tie.Joined2) →
-    let r = c .before .before .before .before .before .args .entry in
-    c .if2 .if3 ≡ both (inRange pathNumberRange (r .number .0)) (inRange rateRange (r .rate .0))
-two-in-range c =
-    let first = c .before .in-range .ensures in
-    ⊎-elim (λ w. both-taken _ _ (sym first ∙ w .0 .taken) (w .2 ∙ w .1 .ensures)) (λ w. both-left _ _ (sym first ∙ w .0 .left) (w .1 ∙ w .0 .left)) (c .if2 .came)
+-- a range from 0 on asks for its largest value alone
+from-zero : (most value : ℕ) → leb value most ≡ inRange (record { least = 0; largest = most }) value
+unfolding inRange
+from-zero most value = sym (ap (λ (t : Bool). both t (leb value most)) (le-leb 0 value zero-le))
 
--- and of a clear one
-two-clear : (c : tie.Joined4) →
-    let r = c .before .before .before .before .before .args .entry in
-    c .if4 .if5 ≡ both (eqb (r .number .0) 0) (eqb (r .rate .0) 0)
-two-clear c =
-    ⊎-elim (λ w. both-taken _ _ (eq-eqb _ _ (w .0 .taken)) (w .2)) (λ w. both-left _ _ (ne-eqb _ _ (w .0 .left)) (w .1 ∙ ne-eqb _ _ (w .0 .left))) (c .if4 .came)
+and-requires : tie.Need-and-requires
+and-requires c κs = search needs
 
 in-range-requires : tie.Need-in-range-requires
 in-range-requires c κs = search needs
@@ -36,43 +26,51 @@ in-range-requires c κs = search needs
 in-range-requires-2 : tie.Need-in-range-requires-2
 in-range-requires-2 c κs = search needs
 
+and-requires-2 : tie.Need-and-requires-2
+and-requires-2 c κs = search needs
+
+and-requires-3 : tie.Need-and-requires-3
+and-requires-3 c κs = search needs
+
+and-requires-4 : tie.Need-and-requires-4
+and-requires-4 c κs = search needs
+
+and-requires-5 : tie.Need-and-requires-5
+and-requires-5 c κs = search needs
+
+and-requires-6 : tie.Need-and-requires-6
+and-requires-6 c κs = search needs
+
 returns : tie.Need-returns
-unfolding recordInRange inRange
+unfolding recordInRange
 returns c =
-    let joined = c .before .before in
-    let r = joined .before .before .before .before .before .args .entry in
-    both-taken _ (inRange linksRange (r .links)) (sym (two-in-range joined) ∙ c .before .if3 .taken) (sym (ap (λ (t : Bool). both t (leb (r .links) 65535)) (le-leb 0 (r .links) zero-le)))
-    ∙ both-assoc (inRange pathNumberRange (r .number .0)) (inRange rateRange (r .rate .0)) (inRange linksRange (r .links))
-    ∙ sym (pick-true _ (recordInRange r) (recordClear r) (joined .before .before .if1 .taken))
+    let start = c .before .before .before .before .before .before .before .before .before .before in
+    let r = start .args .entry in
+    let links = c .before .before .before .before .and .ensures ∙ ap₂ both (from-zero 65535 (r .links)) (from-zero 1 (r .mark)) in
+    c .and3 .ensures
+    ∙ ap₂ both (c .before .before .before .in-range .ensures) (c .before .and2 .ensures ∙ ap₂ both (c .before .before .in-range2 .ensures) links)
+    ∙ sym (pick-true _ (recordInRange r) (recordClear r) (c .before .before .before .before .before .before .before .if1 .taken))
 
 returns-2 : tie.Need-returns-2
-unfolding recordInRange
+unfolding recordClear
 returns-2 c =
-    let joined = c .before in
-    let r = joined .before .before .before .before .before .args .entry in
-    both-left _ (inRange linksRange (r .links)) (sym (two-in-range joined) ∙ c .if3 .left) (c .if3 .left)
-    ∙ both-assoc (inRange pathNumberRange (r .number .0)) (inRange rateRange (r .rate .0)) (inRange linksRange (r .links))
-    ∙ sym (pick-true _ (recordInRange r) (recordClear r) (joined .before .before .if1 .taken))
-
-returns-3 : tie.Need-returns-3
-unfolding recordClear
-returns-3 c =
-    let joined = c .before .before in
-    let r = joined .before .before .before .before .before .args .entry in
-    both-taken _ (eqb (r .links) 0) (sym (two-clear joined) ∙ c .before .if5 .taken) refl
-    ∙ both-assoc (eqb (r .number .0) 0) (eqb (r .rate .0) 0) (eqb (r .links) 0)
-    ∙ sym (pick-false _ (recordInRange r) (recordClear r) (joined .before .before .if1 .left))
-
-returns-4 : tie.Need-returns-4
-unfolding recordClear
-returns-4 c =
-    let joined = c .before in
-    let r = joined .before .before .before .before .before .args .entry in
-    both-left _ (eqb (r .links) 0) (sym (two-clear joined) ∙ c .if5 .left) (c .if5 .left)
-    ∙ both-assoc (eqb (r .number .0) 0) (eqb (r .rate .0) 0) (eqb (r .links) 0)
-    ∙ sym (pick-false _ (recordInRange r) (recordClear r) (joined .before .before .if1 .left))
+    let start = c .before .before .before .before .before .before .before .before .before .before in
+    let r = start .args .entry in
+    c .and6 .ensures
+    ∙ ap (both (eqb (r .number .0) 0)) (c .before .and5 .ensures ∙ ap (both (eqb (r .rate .0) 0)) (c .before .before .before .before .and4 .ensures))
+    ∙ sym (pick-false _ (recordInRange r) (recordClear r) (c .before .before .before .before .before .before .before .if1 .left))
 
 pub record-fits-spec : {M : Type 1} → statement M
 record-fits-spec =
     tie.close
-    (tie.spec in-range-requires in-range-requires-2 returns returns-2 returns-3 returns-4)
+    (tie.spec
+    and-requires
+    in-range-requires
+    in-range-requires-2
+    and-requires-2
+    and-requires-3
+    and-requires-4
+    and-requires-5
+    and-requires-6
+    returns
+    returns-2)

@@ -32,31 +32,31 @@ abbrev numbered : tie.After-all-differ → tie.Else4
 numbered c = c .before .before .before .before
 
 -- what each test answers
-sized : (c : tie.Start) → length (c .args .held .records) ≡ recordCount
-sized c = sym (length-map (c .args .held .records) _) ∙ c .good .1 .0 .1 .1 .1 .0 .1 .0 .1
+sized : (c : tie.Start) → length (c .args .loaded .records) ≡ recordCount
+sized c = sym (length-map (c .args .loaded .records) _) ∙ c .good .1 .0 .1 .1 .1 .0 .1 .0 .1
 
-lent : (c : tie.Else1) → start c .args .held .sized ≡ true
+lent : (c : tie.Else1) → start c .args .loaded .sized ≡ true
 lent c = not-false _ (c .if1 .left)
 
 fit : (c : tie.Else4) →
     let args = start (counted c .before) .args in
-    every (recordFits (args .ledger .count) (args .held .records)) recordCount ≡ true
+    every (recordFits (args .ledger .count) (args .loaded .records)) recordCount ≡ true
 fit c = sym (c .before .records-fit .ensures) ∙ not-false _ (c .if4 .left)
 
 differing : (c : tie.After-all-differ) →
     let args = start (counted (numbered c) .before) .args in
-    c .all-differ .result ≡ allDiffer (numberAt (args .held .records)) (args .ledger .count)
+    c .all-differ .result ≡ allDiffer (numberAt (args .loaded .records)) (args .ledger .count)
 differing c =
     let passed = counted (numbered c) in
     let args = start (passed .before) .args in
     let count = args .ledger .count in
     c .all-differ .ensures
     ∙ ap (λ (numbers : List ℕ). allDiffer (λ k. getD (take (count - 0) numbers) k 0) (length (take (count - 0) numbers))) (c .before .before .before .numbers-of .ensures)
-    ∙ numbers-differ (args .held .records) count (passed .if2 .left)
+    ∙ numbers-differ (args .loaded .records) count (passed .if2 .left)
 
 linked : (c : tie.After-totals-fit) →
     let args = start (counted (numbered (c .before .before .before)) .before) .args in
-    c .totals-fit .result ≡ every (linkFits (args .ledger) (args .held .records)) linkCount
+    c .totals-fit .result ≡ every (linkFits (args .ledger) (args .loaded .records)) linkCount
 linked c =
     let ledger = start (counted (numbered (c .before .before .before)) .before) .args .ledger in
     c .totals-fit .ensures
@@ -65,7 +65,7 @@ linked c =
 
 kept : (c : tie.After-same-rates) →
     let args = start (counted (numbered (c .before .before .before .before .before .before)) .before) .args in
-    c .same-rates .result ≡ every (totalKept (args .ledger) (args .held .records)) linkCount
+    c .same-rates .result ≡ every (totalKept (args .ledger) (args .loaded .records)) linkCount
 kept c =
     let ledger = start (counted (numbered (c .before .before .before .before .before .before)) .before) .args .ledger in
     c .same-rates .ensures
@@ -78,7 +78,7 @@ not-tested-requires c κs = search needs
 returns : tie.Need-returns
 returns c =
     let args = c .before .before .before .args in
-    c .not-tested .ensures ∙ tested-unsized (args .ledger) (args .held) (not-true _ (c .before .if1 .taken))
+    c .not-tested .ensures ∙ tested-unsized (args .ledger) (args .loaded) (not-true _ (c .before .if1 .taken))
 
 not-tested-requires-2 : tie.Need-not-tested-requires-2
 not-tested-requires-2 c κs = search needs
@@ -86,7 +86,7 @@ not-tested-requires-2 c κs = search needs
 returns-2 : tie.Need-returns-2
 returns-2 c =
     let passed = c .before .before in
-    c .not-tested2 .ensures ∙ tested-held-not (start passed .args .ledger) (start passed .args .held) (lent passed) (λ usable. omega (arith, usable .few, c .before .if2 .taken))
+    c .not-tested2 .ensures ∙ tested-held-not (start passed .args .ledger) (start passed .args .loaded) (lent passed) (λ usable. omega (arith, usable .few, c .before .if2 .taken))
 
 capacities-fit-requires : tie.Need-capacities-fit-requires
 capacities-fit-requires c κs = search needs
@@ -99,7 +99,7 @@ returns-3 c =
     let tested = c .before .before in
     let passed = tested .before .before .before in
     c .not-tested3 .ensures
-    ∙ tested-held-not (start passed .args .ledger) (start passed .args .held) (lent passed)
+    ∙ tested-held-not (start passed .args .ledger) (start passed .args .loaded) (lent passed)
     (λ usable. contradiction (tested .capacities-fit .ensures ∙ usable .capacities-fit) (not-true _ (c .before .if3 .taken)))
 
 records-fit-requires : tie.Need-records-fit-requires
@@ -113,7 +113,7 @@ returns-4 c =
     let tested = c .before .before in
     let passed = tested .before .before .before .before .before .before in
     c .not-tested4 .ensures
-    ∙ tested-held-not (start passed .args .ledger) (start passed .args .held) (lent passed)
+    ∙ tested-held-not (start passed .args .ledger) (start passed .args .loaded) (lent passed)
     (λ usable. contradiction (tested .records-fit .ensures ∙ usable .records-fit) (not-true _ (c .before .if4 .taken)))
 
 numbers-of-requires : tie.Need-numbers-of-requires
@@ -139,7 +139,7 @@ returns-5 c =
     let tested = c .before .before in
     let passed = counted (numbered tested) .before in
     c .not-tested5 .ensures
-    ∙ tested-held-not (start passed .args .ledger) (start passed .args .held) (lent passed)
+    ∙ tested-held-not (start passed .args .ledger) (start passed .args .loaded) (lent passed)
     (λ usable. contradiction (differing tested ∙ usable .all-differ) (not-true _ (c .before .if5 .taken)))
 
 reserve-requires : tie.Need-reserve-requires
@@ -158,7 +158,7 @@ returns-6 c =
     let tested = c .before .before in
     let passed = counted (numbered (tested .before .before .before)) .before in
     c .not-tested6 .ensures
-    ∙ tested-held-not (start passed .args .ledger) (start passed .args .held) (lent passed)
+    ∙ tested-held-not (start passed .args .ledger) (start passed .args .loaded) (lent passed)
     (λ usable. contradiction (linked tested ∙ usable .links-fit) (not-true _ (c .before .if6 .taken)))
 
 same-rates-requires : tie.Need-same-rates-requires
@@ -172,7 +172,7 @@ returns-7 c =
     let tested = c .before .before in
     let passed = counted (numbered (tested .before .before .before .before .before .before)) .before in
     c .not-tested7 .ensures
-    ∙ tested-held-not (start passed .args .ledger) (start passed .args .held) (lent passed)
+    ∙ tested-held-not (start passed .args .ledger) (start passed .args .loaded) (lent passed)
     (λ usable. contradiction (kept tested ∙ usable .totals-kept) (not-true _ (c .before .if7 .taken)))
 
 returns-8 : tie.Need-returns-8
@@ -181,7 +181,7 @@ returns-8 c =
     let tested = linked-at .before .before .before in
     let passed = counted (numbered tested) in
     let args = start (passed .before) .args in
-    let usable : UsableLedger (args .ledger) (args .held .records) = record {
+    let usable : UsableLedger (args .ledger) (args .loaded .records) = record {
       sized = sized (start (passed .before));
       few = passed .if2 .left;
       capacities-fit = sym (numbered tested .before .before .before .before .capacities-fit .ensures) ∙ not-false _ (numbered tested .before .before .before .if3 .left);
@@ -191,7 +191,7 @@ returns-8 c =
       totals-kept = sym (kept (c .before)) ∙ not-false _ (c .if7 .left);
     } in
     ap (λ (numbers : List ℕ). record { usable = true; numbers = numbers }) (tested .before .before .before .numbers-of .ensures)
-    ∙ tested-held (args .ledger) (args .held) (lent (passed .before)) usable
+    ∙ tested-held (args .ledger) (args .loaded) (lent (passed .before)) usable
 
 pub test-spec : {M : Type 1} → statement M
 test-spec =

@@ -26,26 +26,26 @@ sub-left c = search needs
 add-end : tie.Need-add-end Inv-loop μ-loop
 add-end c = search needs
 
-mul-admit-path : tie.Need-mul-admit-path Inv-loop μ-loop
-mul-admit-path c = search needs
+mul-number : tie.Need-mul-number Inv-loop μ-loop
+mul-number c = search needs
 
-shared-slice-read-admit-path : tie.Need-shared-slice-read-admit-path Inv-loop μ-loop
-shared-slice-read-admit-path c = search needs
+shared-slice-read-number : tie.Need-shared-slice-read-number Inv-loop μ-loop
+shared-slice-read-number c = search needs
 
-sub-admit-path : tie.Need-sub-admit-path Inv-loop μ-loop
-sub-admit-path c = search needs
+sub-hold-path : tie.Need-sub-hold-path Inv-loop μ-loop
+sub-hold-path c = search needs
 
-part-admit-path-start : tie.Need-part-admit-path-start Inv-loop μ-loop
-part-admit-path-start c = search needs
+part-hold-path-start : tie.Need-part-hold-path-start Inv-loop μ-loop
+part-hold-path-start c = search needs
 
-part-admit-path-end : tie.Need-part-admit-path-end Inv-loop μ-loop
-part-admit-path-end c = search needs
+part-hold-path-end : tie.Need-part-hold-path-end Inv-loop μ-loop
+part-hold-path-end c = search needs
 
-admit-path-requires : tie.Need-admit-path-requires Inv-loop μ-loop
-admit-path-requires c κs = search needs
+hold-path-requires : tie.Need-hold-path-requires Inv-loop μ-loop
+hold-path-requires c κs = search needs
 
-admitted-requires : tie.Need-admitted-requires Inv-loop μ-loop
-admitted-requires c κs = search needs
+settled-requires : tie.Need-settled-requires Inv-loop μ-loop
+settled-requires c κs = search needs
 
 after-requires : tie.Need-after-requires Inv-loop μ-loop
 after-requires c κs = search needs
@@ -70,13 +70,13 @@ filled-spec =
     loop-holds
     sub-left
     add-end
-    mul-admit-path
-    shared-slice-read-admit-path
-    sub-admit-path
-    part-admit-path-start
-    part-admit-path-end
-    admit-path-requires
-    admitted-requires
+    mul-number
+    shared-slice-read-number
+    sub-hold-path
+    part-hold-path-start
+    part-hold-path-end
+    hold-path-requires
+    settled-requires
     after-requires
     loop-less
     loop-again

@@ -1,0 +1,91 @@
+-- The loop counts down, and each turn has a number and a sheet within those that are lent.
+use Prim.Native.Nat.{_+_, _≤_}
+use lib.ListN.{length}
+use borrow.Author.Needs.{needs}
+use Rattle.workload.proofs.paths.workload_confirmings.Statement.{statement}
+use Rattle.workload.proofs.paths.workload_confirmings.Tie as tie
+
+abbrev Inv-loop : tie.InvT-loop
+Inv-loop capacity standing further sheets width turns sum₀ ledger records at₀ j₀ left₀ sum at j left = (at + width ≤ length sheets) × (j + 1 ≤ length further)
+
+abbrev μ-loop : tie.MeasureT-loop
+μ-loop capacity standing further sheets width turns sum₀ ledger records at₀ j₀ left₀ sum at j left = left
+
+returns : tie.Need-returns Inv-loop μ-loop
+returns c = search needs
+
+returns-2 : tie.Need-returns-2 Inv-loop μ-loop
+returns-2 c = search needs
+
+filled-requires : tie.Need-filled-requires Inv-loop μ-loop
+filled-requires c κs = search needs
+
+loop-holds : tie.Need-loop-holds Inv-loop μ-loop
+loop-holds c = search needs
+
+add-end : tie.Need-add-end Inv-loop μ-loop
+add-end c = search needs
+
+mul-number : tie.Need-mul-number Inv-loop μ-loop
+mul-number c = search needs
+
+shared-slice-read-number : tie.Need-shared-slice-read-number Inv-loop μ-loop
+shared-slice-read-number c = search needs
+
+sub-hold-path : tie.Need-sub-hold-path Inv-loop μ-loop
+sub-hold-path c = search needs
+
+part-hold-path-start : tie.Need-part-hold-path-start Inv-loop μ-loop
+part-hold-path-start c = search needs
+
+part-hold-path-end : tie.Need-part-hold-path-end Inv-loop μ-loop
+part-hold-path-end c = search needs
+
+hold-path-requires : tie.Need-hold-path-requires Inv-loop μ-loop
+hold-path-requires c κs = search needs
+
+mix-settled-requires : tie.Need-mix-settled-requires Inv-loop μ-loop
+mix-settled-requires c κs = search needs
+
+after-requires : tie.Need-after-requires Inv-loop μ-loop
+after-requires c κs = search needs
+
+after-requires-2 : tie.Need-after-requires-2 Inv-loop μ-loop
+after-requires-2 c κs = search needs
+
+sub-left : tie.Need-sub-left Inv-loop μ-loop
+sub-left c = search needs
+
+loop-less : tie.Need-loop-less Inv-loop μ-loop
+loop-less c = search needs
+
+loop-again : tie.Need-loop-again Inv-loop μ-loop
+loop-again c = search needs
+
+returns-3 : tie.Need-returns-3 Inv-loop μ-loop
+returns-3 c = search needs
+
+pub workload-confirmings-spec : {M : Type 1} → statement M
+workload-confirmings-spec =
+    tie.close
+    (tie.spec
+    Inv-loop
+    μ-loop
+    returns
+    returns-2
+    filled-requires
+    loop-holds
+    add-end
+    mul-number
+    shared-slice-read-number
+    sub-hold-path
+    part-hold-path-start
+    part-hold-path-end
+    hold-path-requires
+    mix-settled-requires
+    after-requires
+    after-requires-2
+    sub-left
+    loop-less
+    loop-again
+    returns-3)
