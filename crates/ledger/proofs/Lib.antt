@@ -27,4 +27,5 @@ pub mod NextCalls
 pub mod SheetRefusals
 pub mod Kept
 pub mod Admissible
+pub mod Confirmable
 pub mod ReferenceLedgers

@@ -6,6 +6,7 @@ pub mod Release
 pub mod Confirming
 pub mod Spare
 pub mod Admissible
+pub mod Confirmable
 pub mod Calls
 pub mod Account
 pub mod Lists
