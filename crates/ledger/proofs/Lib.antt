@@ -28,4 +28,6 @@ pub mod SheetRefusals
 pub mod Kept
 pub mod Admissible
 pub mod Confirmable
+pub mod HeldLedger
+pub mod Former
 pub mod ReferenceLedgers

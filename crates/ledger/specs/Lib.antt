@@ -11,4 +11,5 @@ pub mod Calls
 pub mod Account
 pub mod Lists
 pub mod Kept
+pub mod Former
 pub mod Steps
