@@ -171,10 +171,10 @@ fn answer_numbers(book: Book, lines: u64, found: Found, line: &[u8]) -> Book {
     }
 }
 
-// `capacity LINK CAPACITY`, before the first admission: the ledger is opened anew.
+// `capacity LINK CAPACITY`, before the first path is held: the ledger is opened anew.
 fn set_capacity(book: Book, lines: u64, numbers: Numbers) -> Book {
     if book.begun {
-        error(lines, b"capacities are set before the first admission");
+        error(lines, b"capacities are set before the first path is held");
         return book;
     }
     let link = narrow(numbers.first);
