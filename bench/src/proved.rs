@@ -48,7 +48,19 @@ mod exported {
             turns: u64,
         ) -> u64;
 
-        pub fn workload_admissions(
+        pub fn workload_holdings(
+            capacity: u32,
+            standing: *const u32,
+            standing_count: usize,
+            further: *const u32,
+            further_count: usize,
+            sheets: *const u8,
+            size: usize,
+            width: usize,
+            turns: u64,
+        ) -> u64;
+
+        pub fn workload_confirmings(
             capacity: u32,
             standing: *const u32,
             standing_count: usize,
@@ -161,7 +173,7 @@ pub fn metering(declared: &[u32], slot: u32, words: &mut [u32], inputs: &[u64], 
     }
 }
 
-pub fn admissions(
+pub fn holdings(
     capacity: u32,
     standing: &[u32],
     further: &[u32],
@@ -170,7 +182,30 @@ pub fn admissions(
     turns: u64,
 ) -> u64 {
     unsafe {
-        exported::workload_admissions(
+        exported::workload_holdings(
+            capacity,
+            standing.as_ptr(),
+            standing.len(),
+            further.as_ptr(),
+            further.len(),
+            sheets.as_ptr(),
+            sheets.len(),
+            width,
+            turns,
+        )
+    }
+}
+
+pub fn confirmings(
+    capacity: u32,
+    standing: &[u32],
+    further: &[u32],
+    sheets: &[u8],
+    width: usize,
+    turns: u64,
+) -> u64 {
+    unsafe {
+        exported::workload_confirmings(
             capacity,
             standing.as_ptr(),
             standing.len(),

@@ -18,7 +18,8 @@ pub struct Planner {
     writing: fn(&[u8], usize, &mut [u8], u64) -> u64,
     slots: fn(&[u8], &mut [u32], &[u64], &[u64], usize, u64) -> u64,
     metering: fn(&[u32], u32, &mut [u32], &[u64], u64) -> u64,
-    admissions: fn(u32, &[u32], &[u32], &[u8], usize, u64) -> u64,
+    holdings: fn(u32, &[u32], &[u32], &[u8], usize, u64) -> u64,
+    confirmings: fn(u32, &[u32], &[u32], &[u8], usize, u64) -> u64,
     releases: fn(u32, &[u32], &[u32], &[u8], usize, u64) -> u64,
     spare_rates: fn(u32, &[u32], &[u32], &[u8], usize, u64) -> u64,
 }
@@ -30,7 +31,8 @@ pub const PROVED: Planner = Planner {
     writing: proved::writing,
     slots: proved::slots,
     metering: proved::metering,
-    admissions: proved::admissions,
+    holdings: proved::holdings,
+    confirmings: proved::confirmings,
     releases: proved::releases,
     spare_rates: proved::spare_rates,
 };
@@ -42,7 +44,8 @@ pub const PLAIN: Planner = Planner {
     writing: turns::writing,
     slots: turns::slots,
     metering: turns::metering,
-    admissions: turns::admissions,
+    holdings: turns::holdings,
+    confirmings: turns::confirmings,
     releases: turns::releases,
     spare_rates: turns::spare_rates,
 };
@@ -62,7 +65,8 @@ pub enum Calls {
     Reading,
     Writing,
     Slots(fn(&mut Random) -> Path),
-    Admissions,
+    Holdings,
+    Confirmings,
     Releases,
     SpareRates,
 }
@@ -72,7 +76,7 @@ pub struct RowKind {
     calls: Calls,
 }
 
-pub const ROWS: [RowKind; 18] = [
+pub const ROWS: [RowKind; 19] = [
     RowKind {
         name: "figures of 16 operators",
         calls: Calls::Figures(Random::path),
@@ -134,8 +138,12 @@ pub const ROWS: [RowKind; 18] = [
         calls: Calls::Slots(|random| random.delayers(Uniform(sixteen_a_slot(1_024)))),
     },
     RowKind {
-        name: "admission into a ledger of 63",
-        calls: Calls::Admissions,
+        name: "holding in a ledger of 63",
+        calls: Calls::Holdings,
+    },
+    RowKind {
+        name: "holding and confirming in a ledger of 63",
+        calls: Calls::Confirmings,
     },
     RowKind {
         name: "release from a ledger of 63",
@@ -160,7 +168,8 @@ enum Given {
     Writing(Sheets),
     Slots(Slots),
     Metering(Inputs),
-    Admissions(Paths),
+    Holdings(Paths),
+    Confirmings(Paths),
     Releases(Paths),
     SpareRates(Paths),
 }
@@ -185,15 +194,8 @@ impl RowKind {
                 let path = path(&mut random);
                 Given::Slots(Slots::taken(&mut random, &path, calls))
             }
-            Calls::Admissions => {
-                let numbers = random.path_numbers(2 * STANDING);
-                Given::Admissions(Paths {
-                    capacity: CAPACITY,
-                    standing: numbers[..STANDING].to_vec(),
-                    numbers: numbers[STANDING..].to_vec(),
-                    sheets: random.sheets(SHEETS, Random::path),
-                })
-            }
+            Calls::Holdings => Given::Holdings(Paths::further(&mut random)),
+            Calls::Confirmings => Given::Confirmings(Paths::further(&mut random)),
             Calls::Releases => {
                 let standing = random.path_numbers(STANDING);
                 Given::Releases(Paths {
@@ -241,7 +243,8 @@ impl Given {
             }
             Given::Slots(slots) => slots.play(planner, calls),
             Given::Metering(inputs) => inputs.play(planner, calls),
-            Given::Admissions(paths) => paths.play(planner.admissions, calls),
+            Given::Holdings(paths) => paths.play(planner.holdings, calls),
+            Given::Confirmings(paths) => paths.play(planner.confirmings, calls),
             Given::Releases(paths) => paths.play(planner.releases, calls),
             Given::SpareRates(paths) => paths.play(planner.spare_rates, calls),
         }
@@ -292,6 +295,17 @@ impl Inputs {
 }
 
 impl Paths {
+    /// Paths that stand, and the numbers of as many further ones.
+    fn further(random: &mut Random) -> Paths {
+        let numbers = random.path_numbers(2 * STANDING);
+        Paths {
+            capacity: CAPACITY,
+            standing: numbers[..STANDING].to_vec(),
+            numbers: numbers[STANDING..].to_vec(),
+            sheets: random.sheets(SHEETS, Random::path),
+        }
+    }
+
     fn play(&self, workload: fn(u32, &[u32], &[u32], &[u8], usize, u64) -> u64, calls: u64) -> u64 {
         workload(
             self.capacity,
@@ -363,7 +377,8 @@ pub fn answers_agree() -> Result<u64, String> {
         };
         let sheets = random.sheets(40, path);
         for (what, calls_on, asked) in [
-            ("admissions", Given::Admissions as fn(Paths) -> Given, None),
+            ("holdings", Given::Holdings as fn(Paths) -> Given, None),
+            ("confirmings", Given::Confirmings, None),
             ("releases", Given::Releases, None),
             ("spare rates", Given::SpareRates, Some((0..18).collect())),
         ] {

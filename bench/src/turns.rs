@@ -182,13 +182,18 @@ fn filled(
     let mut at = 0;
     for &number in numbers.iter().rev() {
         // a refused path does not stand
-        let _ = ledger.admit(&mut records, number, &sheets[at..at + width]);
+        if ledger
+            .hold(&mut records, number, &sheets[at..at + width])
+            .is_ok()
+        {
+            let _ = ledger.confirm(&mut records, number);
+        }
         at = after(at, width, sheets.len());
     }
     (ledger, records)
 }
 
-pub fn admissions(
+pub fn holdings(
     capacity: u32,
     standing: &[u32],
     further: &[u32],
@@ -200,11 +205,41 @@ pub fn admissions(
     let (mut sum, mut at, mut j) = (0, 0, 0);
     for _ in 0..turns {
         let (mut ledger, mut records) = (ledger, records);
-        let answer = ledger.admit(&mut records, further[j], &sheets[at..at + width]);
+        let answer = ledger.hold(&mut records, further[j], &sheets[at..at + width]);
         sum = mix(sum, ledger.count as u64);
         sum = match answer {
             Err(why) => mix_refusal(sum, why),
-            Ok(admitted) => mix_record(mix(sum, admitted.delay), records[63]),
+            Ok(held) => mix_record(mix(sum, held.delay), records[63]),
+        };
+        at = after(at, width, sheets.len());
+        j = after(j, 1, further.len());
+    }
+    sum
+}
+
+pub fn confirmings(
+    capacity: u32,
+    standing: &[u32],
+    further: &[u32],
+    sheets: &[u8],
+    width: usize,
+    turns: u64,
+) -> u64 {
+    let (ledger, records) = filled(capacity, standing, sheets, width);
+    let (mut sum, mut at, mut j) = (0, 0, 0);
+    for _ in 0..turns {
+        let (mut ledger, mut records) = (ledger, records);
+        let answer = ledger.hold(&mut records, further[j], &sheets[at..at + width]);
+        sum = mix(sum, ledger.count as u64);
+        sum = match answer {
+            Err(why) => mix_refusal(sum, why),
+            Ok(held) => {
+                let sum = mix_record(mix(sum, held.delay), records[63]);
+                match ledger.confirm(&mut records, further[j]) {
+                    Err(why) => mix_refusal(sum, why),
+                    Ok(()) => mix_record(sum, records[63]),
+                }
+            }
         };
         at = after(at, width, sheets.len());
         j = after(j, 1, further.len());
@@ -258,5 +293,6 @@ pub fn spare_rates(
 
 fn mix_record(sum: u64, record: Record) -> u64 {
     let sum = mix(sum, u64::from(record.number));
-    mix(mix(sum, u64::from(record.rate)), u64::from(record.links))
+    let sum = mix(mix(sum, u64::from(record.rate)), u64::from(record.links));
+    mix(sum, u64::from(record.mark))
 }

@@ -19,6 +19,8 @@ pub struct Record {
     pub rate: u32,
     /// Bit i for link i.
     pub links: u32,
+    /// 0 while the path is held, 1 once it is confirmed.
+    pub mark: u32,
 }
 
 impl Record {
@@ -26,10 +28,14 @@ impl Record {
         number: 0,
         rate: 0,
         links: 0,
+        mark: 0,
     };
 
     fn in_range(&self) -> bool {
-        self.number <= LARGEST_NUMBER && (1..=65_535).contains(&self.rate) && self.links <= 0xFFFF
+        self.number <= LARGEST_NUMBER
+            && (1..=65_535).contains(&self.rate)
+            && self.links <= 0xFFFF
+            && self.mark <= 1
     }
 
     fn is_on(&self, link: usize) -> bool {
@@ -37,9 +43,9 @@ impl Record {
     }
 }
 
-/// What an admitted path reserves, and its delay.
+/// What a held path reserves, and its delay.
 #[derive(Clone, Copy, Debug, PartialEq, Eq)]
-pub struct Admitted {
+pub struct Held {
     pub rate: u32,
     pub delay: u64,
 }
@@ -88,13 +94,13 @@ impl Ledger {
         })
     }
 
-    /// Admits a sheet's path under a number.
-    pub fn admit(
+    /// Holds a sheet's path under a number.
+    pub fn hold(
         &mut self,
         records: &mut [Record],
         number: u32,
         sheet: &[u8],
-    ) -> Result<Admitted, Refusal> {
+    ) -> Result<Held, Refusal> {
         if number > LARGEST_NUMBER {
             return Err(Refusal::Unusable);
         }
@@ -110,6 +116,7 @@ impl Ledger {
             number,
             rate: reserved_by(&figures.path.declaration),
             links: links_of(&figures.path),
+            mark: 0,
         };
         for link in 0..LINKS {
             if record.is_on(link) && self.totals[link] + record.rate > self.capacities[link] {
@@ -123,10 +130,25 @@ impl Ledger {
         }
         records[self.count] = record;
         self.count += 1;
-        Ok(Admitted {
+        Ok(Held {
             rate: record.rate,
             delay: figures.delay,
         })
+    }
+
+    /// Confirms the held path of a number.
+    pub fn confirm(&self, records: &mut [Record], number: u32) -> Result<(), Refusal> {
+        if number > LARGEST_NUMBER {
+            return Err(Refusal::Unusable);
+        }
+        self.test(records)?;
+        let standing = &mut records[..self.count];
+        let at = find(standing, number).ok_or(Refusal::PathNumberWrong)?;
+        if standing[at].mark == 1 {
+            return Err(Refusal::ConfirmedAlready);
+        }
+        standing[at].mark = 1;
+        Ok(())
     }
 
     /// Releases the path of a number, and closes the gap.

@@ -30,6 +30,7 @@ pub enum Refusal {
     InputBreaksDeclaration,
     ChoiceAboveGreatest(usize),
     RowsOutOfOrder(usize),
+    ConfirmedAlready,
 }
 
 impl Refusal {
@@ -50,6 +51,7 @@ impl Refusal {
             Refusal::InputBreaksDeclaration => 13,
             Refusal::ChoiceAboveGreatest(_) => 14,
             Refusal::RowsOutOfOrder(_) => 15,
+            Refusal::ConfirmedAlready => 16,
         }
     }
 
