@@ -1,4 +1,5 @@
 -- Document 02, item 6: the most that several rows allow, as a table.
+use mathlib.Core.Path.{_≡_}
 use Prim.Native.Nat.{ℕ, _≤_, _<_}
 use mathlib.Core.Bool.{Bool}
 use mathlib.Core.List.{List, []}
@@ -41,6 +42,12 @@ pub record RowInside (row : Row) : Type 0 where
 -- so the first k rows
 abbrev pub RowsInside : (ℕ → Row) → ℕ → Type 0
 RowsInside given k = (i : ℕ) → i < k → RowInside (given i)
+
+-- the entries from one place to before another are made anew, each by its place, and the others are as they were
+pub record Remade (before after : List ℕ) (from end : ℕ) (made : ℕ → ℕ) : Type 0 where
+  pub anew : (j : ℕ) → from ≤ j → j < end → getD after j 0 ≡ made j
+  pub below : (j : ℕ) → j < from → getD after j 0 ≡ getD before j 0
+  pub rest : (j : ℕ) → end ≤ j → getD after j 0 ≡ getD before j 0
 
 -- a class whose numbers fit what is worked out of it: an interval and a quota that refusal 7 lets pass
 pub record PairWithin (m Q : ℕ) : Type 0 where

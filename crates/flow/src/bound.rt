@@ -4,12 +4,13 @@
 use crate::Declaration;
 use crate::DeclaredRow;
 ghost use mathlib.Core.Path.{_≡_};
-ghost use Prim.Native.Nat.{ℕ, suc, _-_, _≤_, _<_, min};
+ghost use Prim.Native.Nat.{ℕ, suc, _+_, _-_, _≤_, _<_, min};
 ghost use lib.ListN.{length, getD};
 ghost use Rattle.quantity.specs.Sums.{listOf};
+ghost use Rattle.quantity.specs.Limits.{largest32, largest64};
 ghost use Rattle.flow.specs.Rows.{rowsMost};
 ghost use Rattle.flow.specs.Declarations.{emptyRow, rowOf};
-ghost use Rattle.flow.specs.Bounds.{boundLength, boundable, boundFilled, pairAt, RowsInside};
+ghost use Rattle.flow.specs.Bounds.{boundLength, boundable, boundFilled, pairAt, RowsInside, Remade};
 
 // The entries of a table: the most in 0 to 1,024 slots.
 pub const LENGTH: usize = 1025;
@@ -63,36 +64,76 @@ fn fill_rows(table: &mut [u32], rows: [[u32; 2]; 4], left: usize)
     next_row(table, rows, last);
 }
 
-// What n slots leave of an interval.
-fn slots_left(n: usize, interval: u32) -> usize
-    ensures { λ r. ⌜ r ≡ n - interval ⌝ }
-{
-    let whole = interval as usize;
-    if n < whole {
-        return 0;
-    }
-    n - whole
-}
-
 fn smaller(a: u32, b: u32) -> u32
     ensures { λ r. ⌜ r ≡ min a b ⌝ }
 {
     if a <= b { a } else { b }
 }
 
-// One row: its quota for each interval begun.
+// Where a block that is as long as the interval ends, cut off at the table's end.
+fn block_end(from: usize, interval: usize) -> usize
+    requires { ⌜ from + interval ≤ largest64 ⌝ }
+    ensures { λ r. ⌜ r ≡ min (from + interval) boundLength ⌝ }
+{
+    let end = from + interval;
+    if end <= LENGTH { end } else { LENGTH }
+}
+
+// One number in all entries of a block.
+fn store_block(table: &mut [u32], from: usize, end: usize, most: u32)
+    requires { ⌜ (from ≤ end) × (end ≤ length (now table)) ⌝ }
+    ensures { λ r. ⌜ Remade (now (table .entry)) (now (table .exit)) from end (λ j. most) ⌝ }
+{
+    let mut n = from;
+    while n < end {
+        table[n] = most;
+        n += 1;
+    }
+}
+
+// One row more in an interval's slots or fewer: it is not used, or once.
+fn row_start(table: &mut [u32], end: usize, quota: u32)
+    requires { ⌜ (1 ≤ end) × (end ≤ length (now table)) ⌝ }
+    ensures { λ r. ⌜ Remade (now (table .entry)) (now (table .exit)) 1 end (λ j. min (getD (now (table .entry)) j 0) quota) ⌝ }
+{
+    let mut n = 1;
+    while n < end {
+        let most = table[n];
+        table[n] = smaller(most, quota);
+        n += 1;
+    }
+}
+
+// One row more in the slots of a block, which is no longer than the interval: the entries that it reads are before the block.
+fn row_block(table: &mut [u32], from: usize, end: usize, interval: usize, quota: u32)
+    requires { ⌜ (interval ≤ from) × (from ≤ end) × (end ≤ from + interval) × (end ≤ length (now table)) ⌝ }
+    requires { ⌜ ((j : ℕ) → from ≤ j → j < end → quota + getD (now table) (j - interval) 0 ≤ largest32) ⌝ }
+    ensures { λ r. ⌜ Remade (now (table .entry)) (now (table .exit)) from end (λ j. min (getD (now (table .entry)) j 0) (quota + getD (now (table .entry)) (j - interval) 0)) ⌝ }
+{
+    let mut n = from;
+    while n < end {
+        let most = table[n];
+        let used = quota + table[n - interval];
+        table[n] = smaller(most, used);
+        n += 1;
+    }
+}
+
+// One row: its quota for each interval begun, so one number for each block.
 fn first_row(table: &mut [u32], rows: [[u32; 2]; 4])
     requires { ⌜ (length (now table) ≡ boundLength) × RowsInside (pairAt rows) 1 ⌝ }
     ensures { λ r. ⌜ now (table .exit) ≡ listOf (rowsMost (pairAt rows) 1) boundLength ⌝ }
 {
-    let interval = rows[0][0];
+    let interval = rows[0][0] as usize;
     let quota = rows[0][1];
     table[0] = 0;
-    let mut n = 1;
-    while n < LENGTH {
-        let rest = slots_left(n, interval);
-        table[n] = quota + table[rest];
-        n += 1;
+    let mut most = quota;
+    let mut from = 1;
+    while from < LENGTH {
+        let end = block_end(from, interval);
+        store_block(table, from, end, most);
+        most += quota;
+        from = end;
     }
 }
 
@@ -101,13 +142,13 @@ fn next_row(table: &mut [u32], rows: [[u32; 2]; 4], last: usize)
     requires { ⌜ (1 ≤ last) × (last < 4) × RowsInside (pairAt rows) (suc last) × (now table ≡ listOf (rowsMost (pairAt rows) last) boundLength) ⌝ }
     ensures { λ r. ⌜ now (table .exit) ≡ listOf (rowsMost (pairAt rows) (suc last)) boundLength ⌝ }
 {
-    let interval = rows[last][0];
+    let interval = rows[last][0] as usize;
     let quota = rows[last][1];
-    let mut n = 1;
-    while n < LENGTH {
-        let rest = slots_left(n, interval);
-        let used = quota + table[rest];
-        table[n] = smaller(table[n], used);
-        n += 1;
+    let mut from = interval + 1;
+    row_start(table, from, quota);
+    while from < LENGTH {
+        let end = block_end(from, interval);
+        row_block(table, from, end, interval, quota);
+        from = end;
     }
 }

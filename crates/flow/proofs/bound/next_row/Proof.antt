@@ -1,27 +1,59 @@
--- Below n the entries follow the step, and from n on they are those of one row less.
-use mathlib.Core.Path.{_≡_, refl, sym, _∙_, ap, ap₂}
+-- Below the block's start the entries follow the step, and from it on they are those of one row less.
+use mathlib.Core.Path.{_≡_, sym, _∙_, ap}
 use mathlib.Core.List.{List}
 use Prim.Native.Nat.{ℕ, suc, _+_, _-_, _*_, _≤_, _<_, min}
 use native.Mathlib.Omega.{arith}
-use lib.ListN.{length, getD, set, length-set}
-use lib.Seq.{getD-set-same}
-use borrow.Author.Needs.{needs}
-use Rattle.flow.specs.Rows.{rowsMost}
-use Rattle.flow.specs.Bounds.{boundLength, pairAt}
+use lib.ListN.{length}
+use Rattle.flow.specs.Rows.{Row, rowsMost}
+use Rattle.flow.specs.Bounds.{boundLength, pairAt, RowInside}
 use Rattle.quantity.proofs.Sums.{length-listOf, getD-listOf, listOf-ext}
 use Rattle.flow.proofs.Rows.{rows-none}
-use Rattle.flow.proofs.BoundTable.{entry, first-table, next-table, Follows, follows-start, follows-next, used-small}
+use Rattle.flow.proofs.BoundTable.{entry, next-table, Follows, follows-start, follows-block, used-small}
 use Rattle.flow.proofs.bound.next_row.Statement.{statement}
 use Rattle.flow.proofs.bound.next_row.Tie as tie
 
 abbrev rule : List ℕ → ℕ → ℕ → ℕ → ℕ
 rule before quota j x = min (entry before j) (quota + x)
 
+rule-small : (before : List ℕ) (interval quota : ℕ) → 1 ≤ interval → quota ≤ 65_535 → (j x : ℕ) → 1 ≤ j → x ≤ (j - interval) * 65_535 → rule before quota j x ≤ j * 65_535
+rule-small before interval quota large few j x some small = omega (arith, used-small interval quota j x large some few small)
+
+-- the loop begins with a table whose first entries are made already: it goes on with the step over any table that they follow it over
 abbrev Inv-loop : tie.InvT-loop
-Inv-loop table₀ last interval quota n₀ table n = (1 ≤ interval) × (quota ≤ 65_535) × Follows interval (rule table₀ quota) table₀ table n
+Inv-loop table₀ last interval quota from₀ table from =
+    (1 ≤ interval) × (interval ≤ 1_024) × (quota ≤ 65_535) × (interval < from)
+    × ((before : List ℕ) → Follows interval (rule before quota) before table₀ from₀ → Follows interval (rule before quota) before table from)
 
 abbrev μ-loop : tie.MeasureT-loop
-μ-loop table₀ last interval quota n₀ table n = boundLength - n
+μ-loop table₀ last interval quota from₀ table from = boundLength - from
+
+-- What the call is given: the last row, and the table of one row less.
+
+module _ (start : tie.Start Inv-loop μ-loop) where
+  abbrev rows : ℕ → Row
+  rows = pairAt (start .args .t2)
+
+  abbrev row : Row
+  row = rows (start .args .last)
+
+  abbrev earlier : List ℕ
+  earlier = start .args .table .now
+
+  inside : RowInside row
+  inside = start .pre .2 (start .args .last) (omega arith)
+
+  sized : length earlier ≡ boundLength
+  sized = ap length (start .pre .3) ∙ length-listOf (rowsMost rows (start .args .last)) boundLength
+
+  filled : (n : ℕ) → n < boundLength → entry earlier n ≡ rowsMost rows (start .args .last) n
+  filled n less = ap (λ (l : List ℕ). entry l n) (start .pre .3) ∙ getD-listOf 0 (rowsMost rows (start .args .last)) boundLength n less
+
+  none : entry earlier 0 ≡ 0
+  none = filled 0 (omega arith) ∙ rows-none rows (start .args .last)
+
+  -- below n the entries follow the step of the last row
+  abbrev FollowsTo : List ℕ → ℕ → Type 0
+  FollowsTo table n = Follows (row .interval) (rule earlier (row .quota)) earlier table n
 
 mul-interval : tie.Need-mul-interval Inv-loop μ-loop
 mul-interval c = omega arith
@@ -32,6 +64,9 @@ index-1-interval c = omega arith
 index-2-interval : tie.Need-index-2-interval Inv-loop μ-loop
 index-2-interval c = omega arith
 
+cast-interval : tie.Need-cast-interval Inv-loop μ-loop
+cast-interval c = omega (arith, inside (c .before .before) .short)
+
 mul-quota : tie.Need-mul-quota Inv-loop μ-loop
 mul-quota c = omega arith
 
@@ -41,81 +76,75 @@ index-1-quota c = omega arith
 index-2-quota : tie.Need-index-2-quota Inv-loop μ-loop
 index-2-quota c = omega arith
 
+add-from : tie.Need-add-from Inv-loop μ-loop
+add-from c = omega (arith, inside (c .before .before .before) .short)
+
+row-start-requires : tie.Need-row-start-requires Inv-loop μ-loop
+row-start-requires c κs =
+    let start = c .before .before .before .before in
+    (omega arith, omega (arith, inside start .short, sized start))
+
+-- in an interval's slots the row is used once at most
+started : (c : tie.After-row-start Inv-loop μ-loop) → FollowsTo (c .before .before .before .before .before) (c .row-start .last .0) (row (c .before .before .before .before .before) .interval + 1)
+started c =
+    let start = c .before .before .before .before .before in
+    let m = row start .interval in
+    let few = rule-small (earlier start) m (row start .quota) (inside start .large) (inside start .few) in
+    follows-block _ _ _ (earlier start) _ 1 _ _ few (follows-start _ _ (earlier start) (sized start) (none start)) (omega arith) (omega arith) (omega (arith, inside start .short))
+    (c .row-start .kept .0) (c .row-start .ensures)
+    (λ j late early. let all : j - m ≡ 0 = omega arith in ap (min (entry (earlier start) j)) (omega (arith, ap (entry (earlier start)) all, none start)))
+
+reached : (at : tie.At-loop Inv-loop μ-loop) → FollowsTo (at .before .before .before .before .before .before .before .before) (at .loop .table) (at .loop .from)
+reached at = at .loop .inv .4 _ (started (at .before .before .before))
+
 loop-holds : tie.Need-loop-holds Inv-loop μ-loop
 loop-holds c =
-    let start = c .before .before .before in
-    let args = start .args in
-    let row = start .pre .2 (args .last) (omega arith) in (
-      row .large,
-      row .few,
-      follows-start _ _ (args .table .now) (ap length (start .pre .3) ∙ length-listOf (rowsMost (pairAt (args .t2)) (args .last)) boundLength)
-          (ap (λ (l : List ℕ). entry l 0) (start .pre .3) ∙ getD-listOf 0 (rowsMost (pairAt (args .t2)) (args .last)) boundLength 0 (omega arith) ∙ rows-none (pairAt (args .t2)) (args .last)),
-    )
+    let row = inside (c .before .before .before .before .before .before .before) in
+    (row .large, row .short, row .few, omega arith, λ before follows. follows)
 
-slots-left-requires : tie.Need-slots-left-requires Inv-loop μ-loop
-slots-left-requires c κs = search needs
+block-end-requires : tie.Need-block-end-requires Inv-loop μ-loop
+block-end-requires c κs = omega arith
 
-mul-used : tie.Need-mul-used Inv-loop μ-loop
-mul-used c = omega arith
-
-slice-read-used : tie.Need-slice-read-used Inv-loop μ-loop
-slice-read-used c = let at = c .before .before .before .loop in omega (arith, c .before .slots-left .ensures, at .inv .2 .size)
-
-add-used : tie.Need-add-used Inv-loop μ-loop
-add-used c =
-    let at = c .before .before .before .loop in
-    omega (arith, c .before .slots-left .ensures, at .inv .2 .small (c .before .slots-left .result) (omega (arith, c .before .slots-left .ensures, at .inv .2 .begun)))
-
-mul-smaller : tie.Need-mul-smaller Inv-loop μ-loop
-mul-smaller c = omega arith
-
-slice-read-smaller : tie.Need-slice-read-smaller Inv-loop μ-loop
-slice-read-smaller c = omega (arith, c .before .before .before .before .loop .inv .2 .size)
-
-smaller-requires : tie.Need-smaller-requires Inv-loop μ-loop
-smaller-requires c κs = search needs
-
-mul-table : tie.Need-mul-table Inv-loop μ-loop
-mul-table c = omega arith
-
-slice-write-table : tie.Need-slice-write-table Inv-loop μ-loop
-slice-write-table c = omega (arith, c .before .before .before .before .before .loop .inv .2 .size)
-
-add-n : tie.Need-add-n Inv-loop μ-loop
-add-n c = omega arith
+row-block-requires : tie.Need-row-block-requires Inv-loop μ-loop
+row-block-requires c κs =
+    let at = c .before .before .before in
+    let m = row (at .before .before .before .before .before .before .before .before) .interval in
+    let follows = reached at in
+    ((omega arith, omega arith, omega arith, omega (arith, follows .size)), λ j late early. omega (arith, follows .small (j - m) (omega arith)))
 
 loop-less : tie.Need-loop-less Inv-loop μ-loop
 loop-less c = omega arith
 
 loop-again : tie.Need-loop-again Inv-loop μ-loop
 loop-again c =
-    let at = c .before .before .before .before .before .loop in
-    let follows = at .inv .2 in
-    let rest = c .before .before .before .slots-left .ensures in
-    let args = c .before .before .before .before .before .before .before .before .before .args in
-    let quota = pairAt (args .t2) (args .last) .quota in
-    let made = c .smaller .ensures ∙ ap₂ min (follows .rest (at .n) (omega arith)) (ap (λ (j : ℕ). quota + entry (at .table) j) rest) in
-    let small = follows .small (at .n - pairAt (args .t2) (args .last) .interval) (omega (arith, follows .begun, at .inv .0)) in
-    let few = used-small (pairAt (args .t2) (args .last) .interval) quota (at .n) _ (at .inv .0) (follows .begun) (at .inv .1) small in (
-      at .inv .0,
-      at .inv .1,
-      follows-next _ _ _ (at .table) (at .n) _ (at .inv .0) follows (c .before .before .before .before .loop-test .taken) made (omega (arith, made)),
+    let at = c .before .before .before .before .before .before in
+    let start = at .before .before .before .before .before .before .before .before in
+    let interval = row start .interval in
+    let quota = row start .quota in
+    let inv = at .loop .inv in (
+      inv .0,
+      inv .1,
+      inv .2,
+      omega arith,
+      λ before begun.
+          let follows = inv .4 before begun in
+          follows-block _ _ before (at .loop .table) _ (at .loop .from) _ _ (rule-small before interval quota (inv .0) (inv .2)) follows (omega arith) (omega arith) (omega arith)
+          (c .before .before .row-block .kept .0) (c .before .before .row-block .ensures)
+          (λ j late early. ap (λ (x : ℕ). min x (quota + entry (at .loop .table) (j - interval))) (follows .rest j late)),
     )
 
 same-length : tie.Need-same-length Inv-loop μ-loop
-same-length c = let start = c .before .before .before .before .before in c .before .loop .inv .2 .size ∙ sym (ap length (start .pre .3) ∙ length-listOf (rowsMost (pairAt (start .args .t2)) (start .args .last)) boundLength)
+same-length c = reached (c .before) .size ∙ sym (sized (c .before .before .before .before .before .before .before .before .before))
 
 returns : tie.Need-returns Inv-loop μ-loop
 returns c =
-    let start = c .before .before .before .before .before in
-    let args = start .args in
-    let at = c .before .loop in
-    let follows = at .inv .2 in
-    let all : at .n ≡ boundLength = omega (arith, follows .short) in
-    listOf-ext 0 (rowsMost (pairAt (args .t2)) (suc (args .last))) boundLength (at .table) (follows .size)
-    (next-table (entry (at .table)) boundLength (pairAt (args .t2)) (args .last) (start .pre .0) (λ i less. start .pre .2 i less .large) (entry (args .table .now))
-    (λ n less. ap (λ (l : List ℕ). entry l n) (start .pre .3) ∙ getD-listOf 0 (rowsMost (pairAt (args .t2)) (args .last)) boundLength n less)
-    (follows .none)
+    let at = c .before in
+    let start = at .before .before .before .before .before .before .before .before in
+    let last = start .args .last in
+    let follows = reached at in
+    let all : at .loop .from ≡ boundLength = omega (arith, follows .short) in
+    listOf-ext 0 (rowsMost (rows start) (suc last)) boundLength (at .loop .table) (follows .size)
+    (next-table (entry (at .loop .table)) boundLength (rows start) last (start .pre .0) (λ i less. start .pre .2 i less .large) (entry (earlier start)) (filled start) (follows .none)
     (λ n positive less. follows .steps n positive (omega arith)))
 
 pub next-row-spec : {M : Type 1} → statement M
@@ -127,20 +156,15 @@ next-row-spec =
     mul-interval
     index-1-interval
     index-2-interval
+    cast-interval
     mul-quota
     index-1-quota
     index-2-quota
+    add-from
+    row-start-requires
     loop-holds
-    slots-left-requires
-    mul-used
-    slice-read-used
-    add-used
-    mul-smaller
-    slice-read-smaller
-    smaller-requires
-    mul-table
-    slice-write-table
-    add-n
+    block-end-requires
+    row-block-requires
     loop-less
     loop-again
     same-length
