@@ -3,21 +3,24 @@ use mathlib.Core.Path.{_≡_, refl, ap, ap₂, sym, _∙_}
 use mathlib.Core.Bool.{Bool, true, false}
 use mathlib.Core.List.{List}
 use Prim.Native.Nat.{ℕ, zero, suc, _+_, _-_, _≤_, _<_}
-use native.Mathlib.Nat.{zero-add, add-zero, add-suc}
+use native.Mathlib.Nat.{add-zero, add-suc}
 use native.Mathlib.Decide.{decLt}
 use native.Mathlib.Omega.{arith}
 use lib.ListN.{length, take, drop, length-drop}
 use lib.Seq.{length-take-le, getD-take, getD-drop}
 use lib.Dec.{leb, eqb}
-use borrow.Author.Tests.{lt-ltb, le-ltb, le-leb, lt-leb, eqb-true, ne-eqb}
+use borrow.Author.Tests.{lt-ltb, le-ltb, le-leb, lt-leb}
 use Rattle.quantity.specs.Choice.{pick, both}
 use Rattle.quantity.specs.Sums.{total, every}
 use Rattle.quantity.specs.Limits.{largestAmount}
-use Rattle.quantity.proofs.Sums.{total-le, total-suc, total-same, every-holds, every-same, both-true, both-assoc}
+use Rattle.quantity.proofs.Sums.{total-zero, total-same, every-same, both-assoc}
 use Rattle.quantity.proofs.Laws.{pick-true, pick-false}
 use Rattle.words.specs.Stored.{wordAt, storedFits, wordFits}
 use Rattle.words.specs.Scanning.{mostScanned, allFit, noneScanned, scannedOf}
+use Rattle.words.specs.Gathering.{joined, gatheredOf}
 use Rattle.words.specs.declared.Scanned.{Scanned}
+use Rattle.words.proofs.StoredLaws.{total-used}
+use Rattle.words.proofs.JoinLaws.{joined-within, joined-clear}
 
 every-parts : (test : ℕ → Bool) (n k : ℕ) → every test (n + k) ≡ both (every test n) (every (λ j. test (n + j)) k)
 unfolding every
@@ -29,34 +32,16 @@ every-parts test n zero = ap (every test) (add-zero n) ∙ both-true-end (every 
 every-parts test n (suc k) =
     ap (every test) (add-suc n k) ∙ ap (λ (t : Bool). both t (test (n + k))) (every-parts test n k) ∙ both-assoc (every test n) (every (λ j. test (n + j)) k) (test (n + k))
 
-total-parts : (f : ℕ → ℕ) (n k : ℕ) → total f (n + k) ≡ total f n + total (λ j. f (n + j)) k
-unfolding total
-total-parts f n zero = ap (total f) (add-zero n) ∙ sym (add-zero (total f n))
-total-parts f n (suc k) = ap (total f) (add-suc n k) ∙ (let shorter = total-parts f n k in omega arith)
-
-sum-clear : (f : ℕ → ℕ) (n : ℕ) → eqb (total f n) 0 ≡ every (λ j. eqb (f j) 0) n
-unfolding total every
-sum-clear f zero = refl
-sum-clear f (suc n) = sum-zero (total f n) (f n) ∙ ap (λ (t : Bool). both t (eqb (f n) 0)) (sum-clear f n)
-  where
-    sum-zero : (a b : ℕ) → eqb (a + b) 0 ≡ both (eqb a 0) (eqb b 0)
-    sum-zero zero b = ap (λ (n : ℕ). eqb n 0) (zero-add b)
-    sum-zero (suc a) b = ne-eqb (suc a + b) 0 (λ e. omega arith) ∙ ap (λ (t : Bool). both t (eqb b 0)) (sym (ne-eqb (suc a) 0 (λ e. omega arith)))
-
+-- none is used
 module _ (words : List ℕ) where
-  -- none is used
-  pub unused-fits : every (λ j. eqb (wordAt words j) 0) (length words) ≡ every (wordFits 0 words) (length words)
+  pub unused-fits : eqb (joined (wordAt words) (length words)) 0 ≡ every (wordFits 0 words) (length words)
   unfolding wordFits storedFits
-  unused-fits = every-same (λ j. eqb (wordAt words j) 0) (wordFits 0 words) (length words) (λ j less. ap (λ (t : Bool). pick t (leb (wordAt words j) largestAmount) (eqb (wordAt words j) 0)) (sym (le-ltb j 0 (omega arith))))
+  unused-fits =
+      joined-clear (wordAt words) (length words)
+      ∙ every-same (λ j. eqb (wordAt words j) 0) (wordFits 0 words) (length words) (λ j less. ap (λ (t : Bool). pick t (leb (wordAt words j) largestAmount) (eqb (wordAt words j) 0)) (sym (le-ltb j 0 (omega arith))))
 
-  pub unused-units : every (λ j. eqb (wordAt words j) 0) (length words) ≡ true → 0 ≡ total (wordAt words) (length words)
-  unused-units clear = sym (eqb-true (total (wordAt words) (length words)) 0 (sum-clear (wordAt words) (length words) ∙ clear))
-
--- words whose sum is within the limit are
-pub words-small : (words : List ℕ) → total (wordAt words) (length words) ≤ largestAmount → every (λ j. leb (wordAt words j) largestAmount) (length words) ≡ true
-words-small words within =
-    every-holds (λ j. leb (wordAt words j) largestAmount) (length words)
-    (λ j less. le-leb (wordAt words j) largestAmount (omega (arith, within, total-le (wordAt words) {n = suc j} {m = length words} less, total-suc (wordAt words) j)))
+  pub unused-units : every (wordFits 0 words) (length words) ≡ true → 0 ≡ total (wordAt words) (length words)
+  unused-units fits = omega (arith, total-used 0 words fits (omega arith), total-zero (wordAt words))
 
 -- the first `end` words are used, and those behind them are not
 module _ (words : List ℕ) (used end : ℕ) (below : end ≤ used) (within : end ≤ length words) (all : end < used → end ≡ length words) where
@@ -91,15 +76,16 @@ module _ (words : List ℕ) (used end : ℕ) (below : end ≤ used) (within : en
   ]
 
   abbrev small : Bool
-  small = every (λ j. leb (wordAt first j) largestAmount) (length first)
+  small = leb (gatheredOf first .join) largestAmount
 
   abbrev clear : Bool
-  clear = eqb (total (wordAt behind) (length behind)) 0
+  clear = eqb (joined (wordAt behind) (length behind)) 0
 
   first-fits : small ≡ every (wordFits used words) end
-  unfolding wordFits storedFits
+  unfolding wordFits storedFits gatheredOf
   first-fits =
-      ap (every (λ j. leb (wordAt first j) largestAmount)) first-length
+      joined-within 30 largestAmount refl (wordAt first) (length first)
+      ∙ ap (every (λ j. leb (wordAt first j) largestAmount)) first-length
       ∙ every-same (λ j. leb (wordAt first j) largestAmount) (wordFits used words) end
       (λ j less. ap (λ (w : ℕ). leb w largestAmount) (first-word j less)
       ∙ ap (λ (t : Bool). pick t (leb (wordAt words j) largestAmount) (eqb (wordAt words j) 0)) (sym (lt-ltb j used (omega arith))))
@@ -107,7 +93,7 @@ module _ (words : List ℕ) (used end : ℕ) (below : end ≤ used) (within : en
   behind-fits : clear ≡ every (λ j. wordFits used words (end + j)) rest
   unfolding wordFits storedFits
   behind-fits =
-      sum-clear (wordAt behind) (length behind)
+      joined-clear (wordAt behind) (length behind)
       ∙ ap (every (λ j. eqb (wordAt behind j) 0)) behind-length
       ∙ every-same (λ j. eqb (wordAt behind j) 0) (λ j. wordFits used words (end + j)) rest
       (λ j less. ap (λ (w : ℕ). eqb w 0) (behind-word j less)
@@ -116,12 +102,14 @@ module _ (words : List ℕ) (used end : ℕ) (below : end ≤ used) (within : en
   pub scanned-fits : both small clear ≡ every (wordFits used words) (length words)
   scanned-fits = ap₂ both first-fits behind-fits ∙ sym (every-parts (wordFits used words) end rest) ∙ ap (every (wordFits used words)) whole
 
-  pub scanned-units : both small clear ≡ true → total (wordAt first) (length first) ≡ total (wordAt words) (length words)
-  scanned-units fits =
-      let none = eqb-true (total (wordAt behind) (length behind)) 0 (both-true small clear fits .1) in
-      let behind-total = ap (total (wordAt behind)) behind-length ∙ total-same (wordAt behind) (λ j. wordAt words (end + j)) rest behind-word in
-      ap (total (wordAt first)) first-length ∙ total-same (wordAt first) (wordAt words) end first-word
-      ∙ (let parts = total-parts (wordAt words) end rest in let same = ap (total (wordAt words)) whole in omega arith)
+  pub scanned-units : every (wordFits used words) (length words) ≡ true → total (wordAt first) (length first) ≡ total (wordAt words) (length words)
+  scanned-units fits = ap (total (wordAt first)) first-length ∙ total-same (wordAt first) (wordAt words) end first-word ∙ used-units
+    where
+      used-units : total (wordAt words) end ≡ total (wordAt words) (length words)
+      used-units = elim (decLt end used) [
+        | yes fewer ↦ ap (total (wordAt words)) (all fewer)
+        | no enough ↦ let same : end ≡ used = omega arith in ap (total (wordAt words)) same ∙ sym (total-used used words fits (omega arith))
+      ]
 
 module _ (used : ℕ) (words : List ℕ) where
   -- more words than are scanned at once

@@ -2,17 +2,19 @@
 
 use quantity::Slots;
 use quantity::Units;
+use std::num::wrapping_add_u32;
 ghost use mathlib.Core.Path.{_≡_};
 ghost use mathlib.Core.Bool.{true, not};
 ghost use mathlib.Core.List.{[], _∷_};
-ghost use Prim.Native.Nat.{_*_, _≤_, _<_};
-ghost use lib.Dec.{leb, ltb, eqb};
+ghost use Prim.Native.Nat.{_≤_, _<_};
+ghost use lib.Dec.{ltb, eqb};
 ghost use lib.ListN.{length};
 ghost use Rattle.quantity.specs.Choice.{both, anyOf};
 ghost use Rattle.quantity.specs.Sums.{total, every};
 ghost use Rattle.quantity.specs.Limits.{largestAmount, lastSlot};
 ghost use Rattle.words.specs.Stored.{wordAt, storedFits, wordFits};
 ghost use Rattle.words.specs.Scanning.{noneScanned, scannedOf};
+ghost use Rattle.words.specs.Gathering.{joined, gatheredOf};
 
 // Whether there are at most 1,024 words and each fits, of which the first so many are used; and then their sum, else 0.
 pub struct Scanned {
@@ -20,8 +22,17 @@ pub struct Scanned {
     pub units: u64,
 }
 
+// What one pass over words gathers: the words joined by "or", and the low 32 bits of their sum.
+struct Gathered {
+    join: u32,
+    low: u32,
+}
+
 // The most words that are scanned at once, so that their sum fits.
 const MOST_SCANNED: usize = 1024;
+
+// The largest word of which so many sum to less than 2^32: 2^22 − 1.
+const MOST_EXACT: u32 = 4_194_303;
 
 // Every lent word tested once, and the words added.
 pub fn scan(words: &[u32], used: usize) -> Scanned
@@ -46,25 +57,25 @@ fn misfit() -> Scanned
     }
 }
 
-// Where all fit, the words that are not used are 0 and add nothing. Used or not, a word is added, so that it takes as long for few used words as for many; where none is used, it is quicker.
+// The used words are joined and added in one pass, those behind them only joined. Where all fit, those are 0 and add nothing; where none is used, no sum is needed.
 fn scan_few(words: &[u32], used: usize) -> Scanned
     requires { ⌜ length (now words) ≤ 1024 ⌝ }
     ensures { λ r. ⌜ (r .fits ≡ every (wordFits used (now (words .entry))) (length (now (words .entry)))) × (r .fits ≡ true → r .units ≡ total (wordAt (now (words .entry))) (length (now (words .entry)))) ⌝ }
 {
     if used == 0 {
         return Scanned {
-            fits: all_clear(words),
+            fits: join(words) == 0,
             units: 0,
         };
     }
     let end = at_most(used, words.len());
     let first = &words[0..end];
     let rest = &words[end..words.len()];
-    let units = sum(first);
-    let small = none_above(first, units);
+    let gathered = gather(first);
+    let small = gathered.join as u64 <= Units::LARGEST;
     Scanned {
-        fits: and(small, sum(rest) == 0),
-        units,
+        fits: and(small, join(rest) == 0),
+        units: exact_sum(first, gathered),
     }
 }
 
@@ -75,10 +86,50 @@ fn at_most(count: usize, most: usize) -> usize
     if count < most { count } else { most }
 }
 
-// The sum of the words.
+// The words joined by "or": 0 just where each word is 0, and at most 2^k − 1 just where each word is.
+fn join(words: &[u32]) -> u32
+    ensures { λ r. ⌜ r ≡ joined (wordAt (now (words .entry))) (length (now (words .entry))) ⌝ }
+{
+    let mut join: u32 = 0;
+    let mut j = 0;
+    while j < words.len() {
+        join = join | words[j];
+        j = j + 1;
+    }
+    join
+}
+
+// The same join, and the sum of the words modulo 2^32, in one pass.
+fn gather(words: &[u32]) -> Gathered
+    ensures { λ r. ⌜ r ≡ gatheredOf (now (words .entry)) ⌝ }
+{
+    let mut join: u32 = 0;
+    let mut low: u32 = 0;
+    let mut j = 0;
+    while j < words.len() {
+        let word = words[j];
+        join = join | word;
+        low = wrapping_add_u32(low, word);
+        j = j + 1;
+    }
+    Gathered { join, low }
+}
+
+// The sum of the words: what was gathered where no word is so large that it could have wrapped, else they are added again.
+fn exact_sum(words: &[u32], gathered: Gathered) -> u64
+    requires { ⌜ (length (now words) ≤ 1024) × (gathered ≡ gatheredOf (now words)) ⌝ }
+    ensures { λ r. ⌜ r ≡ total (wordAt (now (words .entry))) (length (now (words .entry))) ⌝ }
+{
+    if gathered.join <= MOST_EXACT {
+        return gathered.low as u64;
+    }
+    sum(words)
+}
+
+// The sum of the words, in 64 bits.
 fn sum(words: &[u32]) -> u64
     requires { ⌜ length (now words) ≤ 1024 ⌝ }
-    ensures { λ r. ⌜ (r ≡ total (wordAt (now (words .entry))) (length (now (words .entry)))) × (r ≤ 1024 * 4294967295) ⌝ }
+    ensures { λ r. ⌜ r ≡ total (wordAt (now (words .entry))) (length (now (words .entry))) ⌝ }
 {
     let mut units: u64 = 0;
     let mut j = 0;
@@ -87,43 +138,6 @@ fn sum(words: &[u32]) -> u64
         j = j + 1;
     }
     units
-}
-
-// Whether no word is above the limit: none is where their sum is not.
-fn none_above(words: &[u32], units: u64) -> bool
-    requires { ⌜ units ≡ total (wordAt (now words)) (length (now words)) ⌝ }
-    ensures { λ r. ⌜ r ≡ every (λ j. leb (wordAt (now (words .entry)) j) largestAmount) (length (now (words .entry))) ⌝ }
-{
-    if units <= Units::LARGEST {
-        return true;
-    }
-    all_small(words)
-}
-
-// Each word tested by itself.
-fn all_small(words: &[u32]) -> bool
-    ensures { λ r. ⌜ r ≡ every (λ j. leb (wordAt (now (words .entry)) j) largestAmount) (length (now (words .entry))) ⌝ }
-{
-    let mut small = true;
-    let mut j = 0;
-    while j < words.len() {
-        small = and(small, words[j] as u64 <= Units::LARGEST);
-        j = j + 1;
-    }
-    small
-}
-
-// Whether every word is 0.
-fn all_clear(words: &[u32]) -> bool
-    ensures { λ r. ⌜ r ≡ every (λ j. eqb (wordAt (now (words .entry)) j) 0) (length (now (words .entry))) ⌝ }
-{
-    let mut clear = true;
-    let mut j = 0;
-    while j < words.len() {
-        clear = and(clear, words[j] == 0);
-        j = j + 1;
-    }
-    clear
 }
 
 fn and(a: bool, b: bool) -> bool

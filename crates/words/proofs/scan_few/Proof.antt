@@ -1,22 +1,25 @@
 -- The words in two parts, those used and the rest.
 use mathlib.Core.Path.{_≡_, ap, ap₂, sym, _∙_}
 use Prim.Native.Nat.{ℕ}
-use lib.Dec.{eqb}
+use lib.Dec.{leb, eqb}
 use Rattle.quantity.specs.Choice.{both}
+use Rattle.quantity.specs.Limits.{largestAmount}
+use Rattle.words.specs.declared.Gathered.{Gathered}
 use Rattle.words.proofs.ScanLaws.{unused-fits, unused-units, scanned-fits, scanned-units}
 use borrow.Author.Needs.{needs}
 use Rattle.words.proofs.scan_few.Statement.{statement}
 use Rattle.words.proofs.scan_few.Tie as tie
 
-all-clear-requires : tie.Need-all-clear-requires
-all-clear-requires c κs = search needs
+join-requires : tie.Need-join-requires
+join-requires c κs = search needs
 
 returns : tie.Need-returns
 returns c =
     let start = c .before .before .before in
     let words = start .args .words .now in
     let none : start .args .used ≡ 0 = c .before .if1 .taken in
-    rw none (c .all-clear .ensures ∙ unused-fits words, λ fits. unused-units words (sym (c .all-clear .ensures) ∙ fits))
+    let tested = ap (λ (joined : ℕ). eqb joined 0) (c .join .ensures) ∙ unused-fits words in
+    rw none (tested, λ fits. unused-units words (sym tested ∙ fits))
 
 at-most-requires : tie.Need-at-most-requires
 at-most-requires c κs = search needs
@@ -42,34 +45,39 @@ part-rest-start c = search needs
 part-rest-end : tie.Need-part-rest-end
 part-rest-end c = search needs
 
-sum-requires : tie.Need-sum-requires
-sum-requires c κs = search needs
+gather-requires : tie.Need-gather-requires
+gather-requires c κs = search needs
 
-none-above-requires : tie.Need-none-above-requires
-none-above-requires c κs = search needs
+cast-small : tie.Need-cast-small
+cast-small c = search needs
 
-sum-requires-2 : tie.Need-sum-requires-2
-sum-requires-2 c κs = search needs
+join-requires-2 : tie.Need-join-requires-2
+join-requires-2 c κs = search needs
 
 and-requires : tie.Need-and-requires
 and-requires c κs = search needs
 
+exact-sum-requires : tie.Need-exact-sum-requires
+exact-sum-requires c κs = search needs
+
 returns-2 : tie.Need-returns-2
 returns-2 c =
-    let start = c .before .before .before .before .before .before .before .before .before in
+    let start = c .before .before .before .before .before .before .before .before .before .before in
     let words = start .args .words .now in
     let used = start .args .used in
-    let ends = c .before .before .before .before .before .before .at-most in
+    let ends = c .before .before .before .before .before .before .before .at-most in
     let end = ends .result in
     let (below, within, all) = ends .ensures in
-    let tested = c .and .ensures ∙ ap₂ both (c .before .before .none-above .ensures) (ap (λ (units : ℕ). eqb units 0) (c .before .sum2 .ensures .0)) in
-    (tested ∙ scanned-fits words used end below within all, λ fits. c .before .before .before .sum .ensures .0 ∙ scanned-units words used end below within all (sym tested ∙ fits))
+    let small = ap (λ (gathered : Gathered). leb (gathered .join) largestAmount) (c .before .before .before .before .gather .ensures) in
+    let clear = ap (λ (joined : ℕ). eqb joined 0) (c .before .before .join2 .ensures) in
+    let tested = c .before .and .ensures ∙ ap₂ both small clear ∙ scanned-fits words used end below within all in
+    (tested, λ fits. c .exact-sum .ensures ∙ scanned-units words used end below within all (sym tested ∙ fits))
 
 pub scan-few-spec : {M : Type 1} → statement M
 scan-few-spec =
     tie.close
     (tie.spec
-    all-clear-requires
+    join-requires
     returns
     at-most-requires
     sub-first
@@ -79,8 +87,9 @@ scan-few-spec =
     sub-rest
     part-rest-start
     part-rest-end
-    sum-requires
-    none-above-requires
-    sum-requires-2
+    gather-requires
+    cast-small
+    join-requires-2
     and-requires
+    exact-sum-requires
     returns-2)

@@ -47,7 +47,7 @@ returns : tie.Need-returns Inv-loop μ-loop
 returns c =
     let words = c .before .before .args .words .now in
     let all : c .before .loop .j ≡ length words = omega arith in
-    (c .before .loop .inv .1 ∙ ap (total (wordAt words)) all, omega (arith, c .before .before .pre))
+    c .before .loop .inv .1 ∙ ap (total (wordAt words)) all
 
 pub sum-spec : {M : Type 1} → statement M
 sum-spec =
