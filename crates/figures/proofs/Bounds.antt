@@ -1,6 +1,6 @@
 -- Section 4's numbers fit their words: what is carried stays within its bounds behind every operator that is not refused, and no delay is above its class's burst and its slots.
 use Prim.Native.Nat.{ℕ, _+_, _*_, _≤_, _<_, min, _-_}
-use mathlib.Core.Path.{_≡_, refl, sym, ap, subst, _∙_}
+use mathlib.Core.Path.{_≡_, sym, ap, subst, _∙_}
 use mathlib.Core.List.{List}
 use mathlib.Core.Bool.{Bool, true, false}
 use native.Mathlib.Nat.{le-trans, le-mul-of-pos-right, mul-le-mul, mul-le-mul-left, mul-le-mul-right, mul-comm, le-min, min-le-left}
@@ -31,7 +31,7 @@ use Rattle.figures.specs.Progress.{Progress, behind}
 use Rattle.figures.specs.Figures.{partDelay, delayOfPart, ownDelay, quotaBehind, largestChangedQuota}
 use Rattle.figures.specs.declared.carried.Carried.{Carried}
 use Rattle.flow.specs.declared.Declaration.{Declaration}
-use Rattle.figures.specs.Carried.{classIn, slowestIn, progressIn, RateWithin, Within, BurstKept, BurstFits, delayKept, Ready, mostBefore, mostWith}
+use Rattle.figures.specs.Carried.{classIn, slowestIn, progressIn, RateWithin, Within, BurstKept, slotsKept, Ready, mostBefore, mostWith}
 use Rattle.figures.proofs.Part.{delay-le-slower}
 
 pub in-range : (range : Range) (value : ℕ) → inRange range value ≡ true → (range .least ≤ value) × (value ≤ range .largest)
@@ -45,14 +45,11 @@ inside-of e inside = sym (ap numberInRange e) ∙ inside
 pub round-up-at-most : (x y : ℕ) → 1 ≤ y → roundUp x y ≤ x
 round-up-at-most x y positive = round-up-least x y x positive (le-mul-of-pos-right x positive)
 
-pub rate-within : {slowest : LeastRate} {rate : Rate} {burst : Units} → slowest ≡ Least rate burst → RateWithin (slowestIn slowest) → (1 ≤ rate .0) × (rate .0 ≤ 65_535)
+pub rate-within : {slowest : LeastRate} {rate : Rate} {burst : Units} {slots : Slots} → slowest ≡ Least rate burst slots → RateWithin (slowestIn slowest) → (1 ≤ rate .0) × (rate .0 ≤ 65_535)
 rate-within e within = subst (λ (slowest : LeastRate). RateWithin (slowestIn slowest)) e within
 
-pub burst-kept : {slowest : LeastRate} {rate : Rate} {burst : Units} (c : Class) → slowest ≡ Least rate burst → BurstKept c slowest → burst .0 ≡ burstAt c (rate .0)
+pub burst-kept : {slowest : LeastRate} {rate : Rate} {burst : Units} {slots : Slots} (c : Class) → slowest ≡ Least rate burst slots → BurstKept c slowest → (burst .0 ≡ burstAt c (rate .0)) × (slots .0 ≡ roundUp (burst .0) (rate .0))
 burst-kept c e kept = subst (BurstKept c) e kept
-
-pub fits-within : {slowest : LeastRate} {rate : Rate} {burst : Units} → slowest ≡ Least rate burst → BurstFits slowest → (1 ≤ rate .0) × (rate .0 ≤ 65_535) × (burst .0 ≤ 134_217_726)
-fits-within e fits = subst BurstFits e fits
 
 -- burst + e·P, as units added to units
 pub part-units : (burst over : Units) (rate : Rate) (e : Slots) → over ≡ unitsOver rate e → burst .0 ≤ 134_217_726 → e .0 ≤ mostWith → rate .0 ≤ 65_535 → unitsSum burst over .0 ≡ burst .0 + e .0 * rate .0
@@ -142,20 +139,13 @@ own-delay-bound p (Delayer d) paired within inside = omega (arith, part-delay-bo
 
 -- What the code keeps of a part is what the definitions say.
 
-kept-fits : (c : Class) (slowest : LeastRate) → ClassWithin c → RateWithin (slowestIn slowest) → BurstKept c slowest → BurstFits slowest
-kept-fits c NoFilter within rate kept = tt
-kept-fits c (Least rate burst) within (positive, small) kept = (positive, small, omega (arith, kept, burst-bound c (rate .0) within))
-
-kept-delay : (c : Class) (e : ℕ) (slowest : LeastRate) → BurstKept c slowest → delayKept slowest e ≡ partDelay c e (slowestIn slowest)
+kept-delay : (c : Class) (e : ℕ) (slowest : LeastRate) → BurstKept c slowest → slotsKept slowest + e ≡ partDelay c e (slowestIn slowest)
 unfolding partDelay
-kept-delay c e NoFilter kept = refl
-kept-delay c e (Least rate burst) kept = rw kept
+kept-delay c e NoFilter kept = omega arith
+kept-delay c e (Least rate burst slots) (same, counted) = rw (counted, same)
 
 module _ {longest : ℕ} {declared : Declaration} {bound : List ℕ} {carried : Carried} (ready : Ready longest declared bound carried) where
-  pub burst-fits : BurstFits (carried .slowest)
-  burst-fits = kept-fits (classIn declared (carried .class)) (carried .slowest) (ready .within .class) (ready .within .slowest) (ready .burst)
-
-  pub delay-kept : delayKept (carried .slowest) (carried .e .0) ≡ delayOfPart (progressIn declared carried)
+  pub delay-kept : slotsKept (carried .slowest) + carried .e .0 ≡ delayOfPart (progressIn declared carried)
   delay-kept = kept-delay (classIn declared (carried .class)) (carried .e .0) (carried .slowest) (ready .burst)
 
   pub ready-longer : {longer : ℕ} → longest ≤ longer → Ready longer declared bound carried
@@ -168,9 +158,16 @@ unfolding behind
 delayer-ready {declared} carried d ready inside =
     record { within = delayer-within (progressIn declared carried) d (ready .within) inside; lent = ready .lent; burst = ready .burst }
 
--- a filter whose rate carries the class takes nothing from the delay that is kept
-pub filter-adds : {declared : Declaration} {bound : List ℕ} (before after : Carried) (R : Rate) → Ready mostBefore declared bound before → Ready mostWith declared bound after
-    → progressIn declared after ≡ behind (progressIn declared before) (Filter R) → numberInRange (Filter R) ≡ true → carries (classIn declared (before .class)) (R .0) ≡ true
-    → delayKept (before .slowest) (before .e .0) ≤ delayKept (after .slowest) (after .e .0)
-filter-adds {declared} before after R ready later same inside enough =
-    omega (arith, delay-kept ready, delay-kept later, ap delayOfPart same, filter-delays mostBefore (progressIn declared before) R (ready .within) inside enough)
+-- behind a filter, what the slots that are kept come to more is what it adds to the delay of its part; it takes nothing where its rate carries the class
+module _ {declared : Declaration} {bound : List ℕ} (before after : Carried) (R : Rate) (ready : Ready mostBefore declared bound before) (later : Ready mostWith declared bound after)
+    (same : progressIn declared after ≡ behind (progressIn declared before) (Filter R)) where
+  same-slots : after .e .0 ≡ before .e .0
+  unfolding behind
+  same-slots = ap (λ (p : Progress). p .e) same
+
+  pub filter-own : slotsKept (after .slowest) - slotsKept (before .slowest) ≡ delayOfPart (behind (progressIn declared before) (Filter R)) - delayOfPart (progressIn declared before)
+  filter-own = omega (arith, same-slots, delay-kept ready, delay-kept later, ap delayOfPart same)
+
+  pub filter-adds : numberInRange (Filter R) ≡ true → carries (classIn declared (before .class)) (R .0) ≡ true → slotsKept (before .slowest) ≤ slotsKept (after .slowest)
+  filter-adds inside enough =
+      omega (arith, same-slots, delay-kept ready, delay-kept later, ap delayOfPart same, filter-delays mostBefore (progressIn declared before) R (ready .within) inside enough)

@@ -1,6 +1,6 @@
 -- A class by its kind, and the lent table: what the code reads there is what section 4 and document 02, item 6 say of the class.
 use Prim.Native.Nat.{ℕ, zero, suc, _+_, _-_, _*_, _≤_, _<_, max}
-use mathlib.Core.Path.{_≡_, refl, sym, ap, ap₂, _∙_}
+use mathlib.Core.Path.{_≡_, refl, sym, ap, ap₂, subst⁻¹, _∙_}
 use mathlib.Core.Bool.{true, false}
 use mathlib.Core.List.{List, _∷_}
 use mathlib.Core.Logic.{⊎-elim}
@@ -17,6 +17,7 @@ use Rattle.flow.specs.Bounds.{boundLength, boundOf, PairWithin, ClassWithin}
 use Rattle.flow.specs.declared.Kind.{Kind}
 use Rattle.flow.specs.declared.Declaration.{Declaration}
 use Rattle.flow.proofs.Laws.{rows-none, reach-le}
+use Rattle.flow.proofs.ClassBounds.{rows-most-bound}
 use Rattle.figures.specs.declared.class.FlowClass.{FlowClass}
 use Rattle.figures.specs.Carried.{classIn, Lent}
 
@@ -48,6 +49,10 @@ module _ (declared : Declaration) (bound : List ℕ) (lent : 0 ∷ bound ≡ bou
 
   pub lent-at : (n : ℕ) → n ≤ 1_024 → getD (0 ∷ bound) n 0 ≡ rowsMost (severalAt declared) (declared .count) n
   lent-at n short = ap (λ (l : List ℕ). getD l n 0) lent ∙ getD-listOf 0 (rowsMost (severalAt declared) (declared .count)) boundLength n (omega arith)
+
+  pub lent-small : ClassWithin (rows (severalAt declared) (declared .count)) → (i : ℕ) → i < 1_024 → getD bound i 0 ≤ 67_107_840
+  lent-small within i less =
+      subst⁻¹ (λ (most : ℕ). most ≤ 67_107_840) (lent-at (suc i) less) (rows-most-bound (severalAt declared) (declared .count) (suc i) (within .0) (within .2) less)
 
 -- the bound of a declaration, behind its first entry, which is 0
 pub rest-of-bound : (declared : Declaration) → 0 ∷ take 1_024 (drop 1 (boundOf declared)) ≡ boundOf declared

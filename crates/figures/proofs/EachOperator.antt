@@ -38,12 +38,11 @@ use Rattle.sheet.specs.declared.read.Verdict.{Verdict}
 use Rattle.figures.specs.declared.Figure.{Figure}
 use Rattle.figures.specs.declared.PathFigures.{PathFigures}
 use Rattle.figures.specs.declared.carried.Carried.{Carried}
-use Rattle.figures.specs.declared.each.Planned.{Planned}
 use Rattle.figures.specs.Progress.{Progress, start, behind, progressAt}
-use Rattle.figures.specs.Figures.{capacity, pairs, quotaBehind, figureTooLarge, largestChangedQuota}
+use Rattle.figures.specs.Figures.{pairs, quotaBehind, figureTooLarge, largestChangedQuota}
 use Rattle.figures.specs.Answers.{operatorAt, before, pairedAt, capacityAt, delayAt, operatorCases, operatorsCases, pathCases, figureAt, noFigure, figureIn, pathDelay, refusedFigures, acceptedFigures}
 use Rattle.figures.specs.declared.carried.LeastRate.the-variants.{NoFilter}
-use Rattle.figures.specs.Carried.{classIn, progressIn, Within, Lent, BurstKept, Ready, mostBefore, plannedOf, PathWithin, figuresOfValue}
+use Rattle.figures.specs.Carried.{classIn, progressIn, Within, Lent, BurstKept, Ready, mostBefore, Outcome, hasFigure, hasRefusal, plannedOf, PathWithin, figuresOfValue}
 use Rattle.figures.proofs.Bounds.{within-le, behind-within, own-delay-bound}
 
 -- the figure at each place, once the first k operators are done
@@ -130,31 +129,31 @@ walked-start declared bound path carried figure e lent none f =
       summed = sym (total-zero (delayAt path));
     }
 
-abbrev IsFits : Planned → Type 0
-IsFits (Planned.Fits figure) = Unit {0}
-IsFits (Planned.Refused why) = ⊥
+abbrev HasFigure : Outcome → Type 0
+HasFigure (hasFigure figure) = Unit {0}
+HasFigure (hasRefusal why) = ⊥
 
-abbrev answerOf : {A : Type 0} → (Refusal → A) → A → Planned → A
-answerOf refused rest (Planned.Fits figure) = rest
-answerOf refused rest (Planned.Refused why) = refused why
+abbrev answerOf : {A : Type 0} → (Refusal → A) → A → Outcome → A
+answerOf refused rest (hasFigure figure) = rest
+answerOf refused rest (hasRefusal why) = refused why
 
 module _ (path : Path) (k : ℕ) where
-  abbrev pub plannedAt : Planned
+  abbrev pub plannedAt : Outcome
   plannedAt = plannedOf (before path k) (operatorAt path k) (pairedAt path k) k
 
   -- operator k's figure fits
-  pub fits-passed : {figure : Figure} → Planned.Fits figure ≡ plannedAt → NoneStands (operatorCases path k)
+  pub fits-passed : {figure : Figure} → hasFigure figure ≡ plannedAt → NoneStands (operatorCases path k)
   unfolding plannedOf
-  fits-passed planned = none-where-result Planned.Refused (Planned.Fits _) IsFits (λ why h. h) (operatorCases path k) (subst IsFits planned tt)
+  fits-passed planned = none-where-result hasRefusal (hasFigure _) HasFigure (λ why h. h) (operatorCases path k) (subst HasFigure planned tt)
 
-  pub fits-figure : {figure : Figure} → Planned.Fits figure ≡ plannedAt → figure ≡ figureAt path k
+  pub fits-figure : {figure : Figure} → hasFigure figure ≡ plannedAt → figure ≡ figureAt path k
   unfolding plannedOf figureAt capacityAt delayAt
-  fits-figure planned = let e = planned ∙ firstOf-none Planned.Refused (Planned.Fits _) (operatorCases path k) (fits-passed planned) in (cc)
+  fits-figure planned = let e = planned ∙ firstOf-none hasRefusal (hasFigure _) (operatorCases path k) (fits-passed planned) in (cc)
 
   -- operator k is refused
-  refused-here : {A : Type 0} (refused : Refusal → A) (rest : A) {why : Refusal} → Planned.Refused why ≡ plannedAt → refused why ≡ firstOf (operatorCases path k) refused rest
+  refused-here : {A : Type 0} (refused : Refusal → A) (rest : A) {why : Refusal} → hasRefusal why ≡ plannedAt → refused why ≡ firstOf (operatorCases path k) refused rest
   unfolding plannedOf
-  refused-here refused rest planned = ap (answerOf refused rest) planned ∙ firstOf-map (answerOf refused rest) Planned.Refused (Planned.Fits _) (operatorCases path k)
+  refused-here refused rest planned = ap (answerOf refused rest) planned ∙ firstOf-map (answerOf refused rest) hasRefusal (hasFigure _) (operatorCases path k)
 
   operators-split : (j : ℕ) → (rest : List Case) × (operatorsCases path (suc k + j) ≡ operatorsCases path k ++ (operatorCases path k ++ rest))
   unfolding operatorsCases
@@ -162,7 +161,7 @@ module _ (path : Path) (k : ℕ) where
   operators-split (suc j) = let (rest, e) = operators-split j in (rest ++ operatorCases path (suc k + j), rw (add-suc, e) (simp append-assoc))
 
   -- so the path is: no operator before k stands in the way, and none behind it counts
-  pub refused-answer : {A : Type 0} (refused : Refusal → A) (result : A) (n : ℕ) (last : List Case) {why : Refusal} → k < n → NoneStands (operatorsCases path k) → Planned.Refused why ≡ plannedAt → refused why ≡ firstOf (operatorsCases path n ++ last) refused result
+  pub refused-answer : {A : Type 0} (refused : Refusal → A) (result : A) (n : ℕ) (last : List Case) {why : Refusal} → k < n → NoneStands (operatorsCases path k) → hasRefusal why ≡ plannedAt → refused why ≡ firstOf (operatorsCases path n ++ last) refused result
   refused-answer refused result n last h passed planned =
       let (j, e) = le-dest h in
       let (rest, split) = operators-split j in
@@ -188,16 +187,11 @@ ltb-next j k false e other = let more = ltb-false j k e in sym (le-ltb j (k + 1)
 
 module _ {declared : Declaration} {bound : List ℕ} {path : Path} {k : ℕ} {carried : Carried} {figures : List Figure} {delay : Slots} (walked : Walked declared bound path k carried figures delay) where
   -- what was planned of what is carried is planned of operator k
-  pub walked-planned : {op : Operator} {paired : Bool} {planned : Planned} → op ≡ operatorAt path k → paired ≡ pairedAt path k → planned ≡ plannedOf (progressIn declared carried) op paired k → planned ≡ plannedAt path k
+  pub walked-planned : {op : Operator} {paired : Bool} {planned : Outcome} → op ≡ operatorAt path k → paired ≡ pairedAt path k → planned ≡ plannedOf (progressIn declared carried) op paired k → planned ≡ plannedAt path k
   walked-planned {op} {paired} e f g =
       g
       ∙ ap (λ (p : Progress). plannedOf p op paired k) (walked .carries)
       ∙ ap₂ (λ (op : Operator) (paired : Bool). plannedOf (before path k) op paired k) e f
-
-  -- and its capacity is that of what is carried
-  pub walked-capacity : {op : Operator} {figure : Figure} → op ≡ operatorAt path k → Planned.Fits figure ≡ plannedAt path k → figure .capacity .0 ≡ capacity (progressIn declared carried) op
-  unfolding figureAt capacityAt
-  walked-capacity e planned = ap (λ (f : Figure). f .capacity .0) (fits-figure path k planned) ∙ ap₂ capacity (sym (walked .carries)) (sym e)
 
   figure-next : {figure : Figure} → figure ≡ figureAt path k → k < 16 → (j : ℕ) → j < 16 → (t : Bool) → eqb j k ≡ t → getD (set figures k figure) j noFigure ≡ figureUpTo path (k + 1) j
   unfolding figureUpTo
@@ -210,7 +204,7 @@ module _ {declared : Declaration} {bound : List ℕ} {path : Path} {k : ℕ} {ca
       ∙ ap (λ (t : Bool). pick t (figureAt path j) noFigure) (ltb-next j k (ltb j k) refl (eqb-false j k other))
 
   -- one operator on
-  pub walked-next : {figure : Figure} {next : Carried} {op : Operator} {later : Slots} → k < 16 → op ≡ operatorAt path k → Planned.Fits figure ≡ plannedAt path k
+  pub walked-next : {figure : Figure} {next : Carried} {op : Operator} {later : Slots} → k < 16 → op ≡ operatorAt path k → hasFigure figure ≡ plannedAt path k
       → progressIn declared next ≡ behind (progressIn declared carried) op → Lent (next .class .kind) declared bound → BurstKept (classIn declared (next .class)) (next .slowest)
       → later .0 ≡ delay .0 + figure .delay .0 → Walked declared bound path (k + 1) next (set figures k figure) later
   unfolding figureAt
@@ -287,7 +281,7 @@ module _ {value : PathValue} (within : PathWithin value) where
         by-test false e = refl
 
     -- the sum of the delays does not stop at its largest number
-    pub delay-counted : {figure : Figure} {later : Slots} → Planned.Fits figure ≡ plannedAt (inFull value) k → later ≡ slotsSum delay (figure .delay) → later .0 ≡ delay .0 + figure .delay .0
+    pub delay-counted : {figure : Figure} {later : Slots} → hasFigure figure ≡ plannedAt (inFull value) k → later ≡ slotsSum delay (figure .delay) → later .0 ≡ delay .0 + figure .delay .0
     unfolding figureAt
     delay-counted {figure} planned sum =
         let own = ap (λ (f : Figure). f .delay .0) (fits-figure (inFull value) k planned) in
@@ -300,7 +294,7 @@ module _ {value : PathValue} (within : PathWithin value) where
         ) in
         ap (λ (s : Slots). s .0) sum ∙ slots-sum delay (figure .delay) fits
 
-    pub refused-path : {why : Refusal} → Planned.Refused why ≡ plannedAt (inFull value) k → refusedFigures why ≡ figuresOfValue value
+    pub refused-path : {why : Refusal} → hasRefusal why ≡ plannedAt (inFull value) k → refusedFigures why ≡ figuresOfValue value
     unfolding figuresOfValue
     refused-path planned = refused-answer (inFull value) k refusedFigures _ (length (inFull value .operators)) _ before-end (walked .passed) planned
 

@@ -1,6 +1,6 @@
 -- Serves the private contracts of the figures, and need not be believed: no public call cites it.
 -- What the code carries along a path stands for a progress of section 4; and the bounds within which its numbers fit their words.
-use Prim.Native.Nat.{ℕ, _+_, _≤_, _<_}
+use Prim.Native.Nat.{ℕ, _≤_}
 use mathlib.Core.Path.{_≡_}
 use mathlib.Core.Bool.{Bool, true}
 use mathlib.Core.List.{List, [], _∷_}
@@ -8,8 +8,10 @@ use lib.ListN.{length}
 use Rattle.quantity.specs.Limits.{mostOperators}
 use Rattle.quantity.specs.Rounding.{roundUp}
 use Rattle.quantity.specs.Refusals.{Case, _⇒_, firstOf}
+use Rattle.quantity.specs.declared.Interval.{Interval}
+use Rattle.quantity.specs.declared.refusal.Refusal.{Refusal}
 use Rattle.quantity.specs.declared.refusal.Refusal.the-variants.{FramedAfterFilter, FigureTooLarge, RateTooLow}
-use Rattle.flow.specs.Classes.{Class, smooth, uniform, rows, burstAt}
+use Rattle.flow.specs.Classes.{Class, smooth, uniform, rows, changedQuota, burstAt}
 use Rattle.flow.specs.Declarations.{byKind, severalAt, cleared}
 use Rattle.flow.specs.Bounds.{boundOf, ClassWithin}
 use Rattle.flow.specs.declared.Kind.{Kind}
@@ -28,7 +30,7 @@ use Rattle.figures.specs.declared.carried.LeastRate.{LeastRate}
 use Rattle.figures.specs.declared.carried.LeastRate.the-variants.{NoFilter, Least}
 use Rattle.figures.specs.declared.carried.Carried.{Carried}
 use Rattle.figures.specs.declared.each.Planned.{Planned}
-use Rattle.figures.specs.Progress.{Progress}
+use Rattle.figures.specs.Progress.{Progress, behind}
 use Rattle.figures.specs.Figures.{capacity, ownDelay, framedAfterFilter, figureTooLarge, rateTooLow}
 
 -- the class: where it is of rows, those of the declaration
@@ -37,7 +39,7 @@ classIn declared c = byKind (c .kind) (smooth (c .interval .0) (c .quota .0)) (u
 
 abbrev pub slowestIn : LeastRate → Slowest
 slowestIn NoFilter = unfiltered
-slowestIn (Least rate burst) = filtered (rate .0)
+slowestIn (Least rate burst slots) = filtered (rate .0)
 
 abbrev pub progressIn : Declaration → Carried → Progress
 progressIn declared c = record { class = classIn declared (c .class); inFilterPart = c .filtering; e = c .e .0; slowest = slowestIn (c .slowest) }
@@ -58,19 +60,14 @@ Lent Kind.Smooth declared bound = Unit {0}
 Lent Kind.Uniform declared bound = Unit {0}
 Lent Kind.Rows declared bound = 0 ∷ bound ≡ boundOf declared
 
--- what is kept as the burst is that at the least rate
+-- what is kept as the burst is that at the least rate, with the slots in which the rate sends it
 abbrev pub BurstKept : Class → LeastRate → Type 0
 BurstKept c NoFilter = Unit {0}
-BurstKept c (Least rate burst) = burst .0 ≡ burstAt c (rate .0)
+BurstKept c (Least rate burst slots) = (burst .0 ≡ burstAt c (rate .0)) × (slots .0 ≡ roundUp (burst .0) (rate .0))
 
--- the delay of a filter part from the burst that is kept, and that it fits
-abbrev pub delayKept : LeastRate → ℕ → ℕ
-delayKept NoFilter e = e
-delayKept (Least rate burst) e = roundUp (burst .0) (rate .0) + e
-
-abbrev pub BurstFits : LeastRate → Type 0
-BurstFits NoFilter = Unit {0}
-BurstFits (Least rate burst) = (1 ≤ rate .0) × (rate .0 ≤ 65_535) × (burst .0 ≤ 134_217_726)
+abbrev pub slotsKept : LeastRate → ℕ
+slotsKept NoFilter = 0
+slotsKept (Least rate burst slots) = slots .0
 
 -- what the code carries along, with the declaration and the table that it is lent
 pub record Ready (longest : ℕ) (declared : Declaration) (bound : List ℕ) (c : Carried) : Type 0 where
@@ -93,9 +90,32 @@ casesOf p op k = (framedAfterFilter p op ⇒ FramedAfterFilter k) ∷ (figureToo
 abbrev pub figureOf : Progress → Operator → Bool → Figure
 figureOf p op paired = record { capacity = record { 0 = capacity p op }; delay = record { 0 = ownDelay p op paired } }
 
+-- what is said of an operator: a figure, or a refusal
+pub data Outcome : Type 0 where
+  hasFigure : Figure → Outcome
+  hasRefusal : Refusal → Outcome
+
+abbrev pub outcome : Planned → Outcome
+outcome (Planned.Fits figure after) = hasFigure figure
+outcome (Planned.Refused why) = hasRefusal why
+
 -- the figure, or the first of 6 to 8 that stands
-unfoldable pub plannedOf : Progress → Operator → Bool → ℕ → Planned
-plannedOf p op paired k = firstOf (casesOf p op k) Planned.Refused (Planned.Fits (figureOf p op paired))
+unfoldable pub plannedOf : Progress → Operator → Bool → ℕ → Outcome
+plannedOf p op paired k = firstOf (casesOf p op k) hasRefusal (hasFigure (figureOf p op paired))
+
+-- the class behind a change of interval
+abbrev pub changedClass : Declaration → FlowClass → Kind → Interval → Class
+changedClass declared c output n = classIn declared (record { kind = output; interval = n; quota = record { 0 = changedQuota (n .0) (classIn declared c) } })
+
+-- what is carried on where there is a figure stands for this progress, with the table that is lent and the burst
+abbrev pub CarriedOn : Declaration → List ℕ → Progress → Planned → Type 0
+CarriedOn declared bound p (Planned.Fits figure after) = (progressIn declared after ≡ p) × Lent (after .class .kind) declared bound × BurstKept (classIn declared (after .class)) (after .slowest)
+CarriedOn declared bound p (Planned.Refused why) = Unit {0}
+
+-- an operator behind a progress is answered right, and what is carried on is what stands behind it
+pub record PlannedAs (declared : Declaration) (bound : List ℕ) (p : Progress) (op : Operator) (paired : Bool) (k : ℕ) (planned : Planned) : Type 0 where
+  pub answered : outcome planned ≡ plannedOf p op paired k
+  pub carried : CarriedOn declared bound (behind p op) planned
 
 -- a path value of at most sixteen operators, its numbers in their ranges, with 0 in all that its declaration does not use
 pub record PathWithin (value : PathValue) : Type 0 where

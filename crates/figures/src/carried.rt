@@ -7,7 +7,6 @@ use crate::class::round_up;
 use crate::class::wide;
 use flow::Declaration;
 use flow::Kind;
-use operator::Operator;
 use quantity::Delay;
 use quantity::Interval;
 use quantity::Rate;
@@ -17,19 +16,20 @@ ghost use mathlib.Core.Path.{_≡_};
 ghost use mathlib.Core.Bool.{true, false};
 ghost use Prim.Native.Nat.{_+_, _≤_};
 ghost use Rattle.quantity.specs.Ranges.{inRange, delayRange};
-ghost use Rattle.operator.specs.FilterPart.{slower};
+ghost use Rattle.operator.specs.FilterPart.{filtered, slower};
 ghost use Rattle.flow.specs.Declarations.{classOf};
+ghost use Rattle.flow.specs.Bounds.{ClassWithin};
 ghost use Rattle.operator.specs.Operators.{numberInRange};
 ghost use Rattle.operator.specs.declared.Operator.the-variants.{Filter};
 ghost use Rattle.figures.specs.Progress.{start, behind};
-ghost use Rattle.figures.specs.Figures.{capacityOfPart, capacity};
-ghost use Rattle.figures.specs.Carried.{classIn, slowestIn, progressIn, Lent, BurstKept, BurstFits, delayKept, Ready, mostBefore, mostWith};
+ghost use Rattle.figures.specs.Figures.{capacityOfPart};
+ghost use Rattle.figures.specs.Carried.{classIn, slowestIn, progressIn, Lent, BurstKept, slotsKept, Ready, mostBefore, mostWith};
 ghost use Rattle.figures.specs.declared.carried.LeastRate.the-variants.{NoFilter};
 
-// P, the least filter rate so far, if a filter has come, and the burst at it.
+// P, the least filter rate so far, if a filter has come, with the burst at it and the slots in which it sends that burst.
 pub enum LeastRate {
     NoFilter,
-    Least(Rate, Units),
+    Least(Rate, Units, Slots),
 }
 
 // The class; whether a filter or delayer has come, from which on the class stays; e, the sum of d so far; P.
@@ -49,7 +49,7 @@ pub(crate) fn start(declared: Declaration) -> Carried
 }
 
 // Behind a framed operator, whose output has a class of its own.
-fn framed(kind: Kind, interval: Interval, quota: Units) -> Carried
+pub(crate) fn framed(kind: Kind, interval: Interval, quota: Units) -> Carried
     ensures { λ r. ⌜ r ≡ record { class = record { kind = kind; interval = interval; quota = quota }; filtering = false; e = record { 0 = 0 }; slowest = NoFilter } ⌝ }
 {
     let class = FlowClass {
@@ -65,22 +65,56 @@ fn framed(kind: Kind, interval: Interval, quota: Units) -> Carried
     }
 }
 
-// P with one more filter, and the burst at it.
+// A rate as the least, with the burst at it.
+fn least_rate(class: FlowClass, declared: Declaration, bound: &[u32], rate: Rate) -> LeastRate
+    requires { ⌜ ClassWithin (classIn declared class) × Lent (class .kind) declared (now bound) × (1 ≤ rate .0) × (rate .0 ≤ 65_535) ⌝ }
+    ensures { λ r. ⌜ (slowestIn r ≡ filtered (rate .0)) × BurstKept (classIn declared class) r ⌝ }
+{
+    let burst = burst_at(class, declared, bound, rate);
+    let slots = Slots(round_up(burst.0, wide(rate.0)) as u32);
+    LeastRate::Least(rate, burst, slots)
+}
+
+// P with one more filter. Where it stays, its burst is not worked out again.
 fn slower(carried: Carried, declared: Declaration, bound: &[u32], rate: Rate) -> LeastRate
-    requires { ⌜ Ready mostBefore declared (now bound) carried × (rate .0 ≤ 65_535) ⌝ }
+    requires { ⌜ Ready mostBefore declared (now bound) carried × (1 ≤ rate .0) × (rate .0 ≤ 65_535) ⌝ }
     ensures { λ r. ⌜ (slowestIn r ≡ slower (slowestIn (carried .slowest)) (rate .0)) × BurstKept (classIn declared (carried .class)) r ⌝ }
 {
     let class = carried.class;
     let slowest = carried.slowest;
-    match slowest {
-        LeastRate::NoFilter => LeastRate::Least(rate, burst_at(class, declared, bound, rate)),
-        LeastRate::Least(least, burst) => {
-            if least.0 <= rate.0 {
-                LeastRate::Least(least, burst)
-            } else {
-                LeastRate::Least(rate, burst_at(class, declared, bound, rate))
-            }
+    if let LeastRate::Least(least, burst, slots) = slowest {
+        if least.0 <= rate.0 {
+            return LeastRate::Least(least, burst, slots);
         }
+    }
+    least_rate(class, declared, bound, rate)
+}
+
+// Behind a filter or a delayer, which keep the class. The class and P are made anew from their numbers: a copy of the whole moves the bytes between the numbers too, which takes time.
+fn in_part(class: FlowClass, e: Slots, slowest: LeastRate) -> Carried
+    ensures { λ r. ⌜ r ≡ record { class = class; filtering = true; e = e; slowest = slowest } ⌝ }
+{
+    let kind = class.kind;
+    let interval = class.interval;
+    let quota = class.quota;
+    let class = FlowClass {
+        kind,
+        interval,
+        quota,
+    };
+    match slowest {
+        LeastRate::NoFilter => Carried {
+            class,
+            filtering: true,
+            e,
+            slowest: LeastRate::NoFilter,
+        },
+        LeastRate::Least(rate, burst, slots) => Carried {
+            class,
+            filtering: true,
+            e,
+            slowest: LeastRate::Least(rate, burst, slots),
+        },
     }
 }
 
@@ -95,12 +129,7 @@ pub(crate) fn behind_filter(
 {
     let class = carried.class;
     let e = carried.e;
-    Carried {
-        class,
-        filtering: true,
-        e,
-        slowest: slower(carried, declared, bound, rate),
-    }
+    in_part(class, e, slower(carried, declared, bound, rate))
 }
 
 pub(crate) fn behind_delayer(carried: Carried, delay: Delay) -> Carried
@@ -110,32 +139,7 @@ pub(crate) fn behind_delayer(carried: Carried, delay: Delay) -> Carried
     let class = carried.class;
     let slowest = carried.slowest;
     let e = carried.e.plus(Slots(delay.0));
-    Carried {
-        class,
-        filtering: true,
-        e,
-        slowest,
-    }
-}
-
-// Behind an operator of this capacity, which is the changed quota where the operator changes the interval.
-pub(crate) fn behind(
-    carried: Carried,
-    declared: Declaration,
-    bound: &[u32],
-    operator: Operator,
-    most: Units,
-) -> Carried
-    requires { ⌜ Ready mostBefore declared (now bound) carried × (numberInRange operator ≡ true) × (most .0 ≡ capacity (progressIn declared carried) operator) ⌝ }
-    ensures { λ r. ⌜ (progressIn declared r ≡ behind (progressIn declared carried) operator) × Lent (r .class .kind) declared (now (bound .entry)) × BurstKept (classIn declared (r .class)) (r .slowest) ⌝ }
-{
-    match operator {
-        Operator::Limiter(rate) => framed(Kind::Uniform, Interval(1), Units(wide(rate.0))),
-        Operator::Compactor(n) => framed(Kind::Uniform, n, most),
-        Operator::Expander(n) => framed(Kind::Smooth, n, most),
-        Operator::Filter(rate) => behind_filter(carried, declared, bound, rate),
-        Operator::Delayer(delay) => behind_delayer(carried, delay),
-    }
+    in_part(class, e, slowest)
 }
 
 // The capacity of the filter part so far.
@@ -147,20 +151,16 @@ pub(crate) fn part_capacity(carried: Carried, declared: Declaration, bound: &[u3
     let slowest = carried.slowest;
     match slowest {
         LeastRate::NoFilter => most_in(class, declared, bound, carried.e),
-        LeastRate::Least(rate, burst) => burst.plus(rate.over(carried.e)),
+        LeastRate::Least(rate, burst, _) => burst.plus(rate.over(carried.e)),
     }
 }
 
-// The delay of the filter part so far.
-pub(crate) fn part_delay(carried: Carried) -> Slots
-    requires { ⌜ (carried .e .0 ≤ mostWith) × BurstFits (carried .slowest) ⌝ }
-    ensures { λ r. ⌜ r .0 ≡ delayKept (carried .slowest) (carried .e .0) ⌝ }
+// The slots in which P sends the burst, 0 where no filter has come.
+pub(crate) fn sending(slowest: LeastRate) -> Slots
+    ensures { λ r. ⌜ r .0 ≡ slotsKept slowest ⌝ }
 {
-    let slowest = carried.slowest;
     match slowest {
-        LeastRate::NoFilter => carried.e,
-        LeastRate::Least(rate, burst) => {
-            Slots(round_up(burst.0, wide(rate.0)) as u32).plus(carried.e)
-        }
+        LeastRate::NoFilter => Slots(0),
+        LeastRate::Least(_, _, slots) => slots,
     }
 }

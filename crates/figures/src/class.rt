@@ -10,7 +10,7 @@ use quantity::Slots;
 use quantity::Units;
 use quantity::divisor::gcd;
 ghost use mathlib.Core.Path.{_≡_};
-ghost use Prim.Native.Nat.{_+_, _-_, _*_, _≤_, max};
+ghost use Prim.Native.Nat.{ℕ, _+_, _-_, _*_, _≤_, _<_, max};
 ghost use mathlib.Core.List.{_∷_};
 ghost use lib.ListN.{length, getD};
 ghost use Rattle.quantity.specs.Rounding.{roundUp};
@@ -80,34 +80,30 @@ pub(crate) fn carried_by(class: FlowClass, declared: Declaration, rate: Rate) ->
     }
 }
 
-// What a has beyond b.
-fn beyond(a: u32, b: u32) -> u32
-    ensures { λ r. ⌜ r ≡ a - b ⌝ }
-{
-    if a < b { 0 } else { a - b }
-}
-
 fn larger(a: u32, b: u32) -> u32
     ensures { λ r. ⌜ r ≡ max a b ⌝ }
 {
     if a < b { b } else { a }
 }
 
-// The greatest that the bound has beyond a rate in 1 to so many slots.
+// The most that a rate sends in 1,024 slots.
+const MOST_SENT: u32 = 67_107_840;
+
+// The greatest that the bound has beyond a rate in 1 to so many slots. Instead of taking off what the rate sent, what it leaves of the most is added: no number falls below 0, and no entry is compared but once.
 fn greatest_beyond(bound: &[u32], slots: u32, rate: u32) -> u32
-    requires { ⌜ (slots ≤ length (now bound)) × (slots ≤ 1_024) × (rate ≤ 65_535) ⌝ }
+    requires { ⌜ (slots ≤ length (now bound)) × (slots ≤ 1_024) × (rate ≤ 65_535) × ((i : ℕ) → i < slots → getD (now bound) i 0 ≤ 67_107_840) ⌝ }
     ensures { λ r. ⌜ r ≡ greatestOf (λ n. getD (0 ∷ now (bound .entry)) n 0 - n * rate) slots ⌝ }
 {
     let last = slots as usize;
-    let mut greatest = 0;
-    let mut sent = 0;
+    let mut greatest = MOST_SENT;
+    let mut left = MOST_SENT;
     let mut n = 0;
     while n < last {
-        sent += rate;
-        greatest = larger(greatest, beyond(bound[n], sent));
+        left -= rate;
+        greatest = larger(greatest, bound[n] + left);
         n += 1;
     }
-    greatest
+    greatest - MOST_SENT
 }
 
 // The burst at a rate.

@@ -1,17 +1,20 @@
-// The figure of one operator, or why it is refused (document 01, sections 4 and 7).
+// The figure of one operator and what is carried behind it, or why it is refused (document 01, sections 4 and 7).
 
 use crate::Figure;
 use crate::carried::Carried;
+use crate::carried::LeastRate;
 use crate::carried::behind_delayer;
 use crate::carried::behind_filter;
+use crate::carried::framed;
 use crate::carried::part_capacity;
-use crate::carried::part_delay;
+use crate::carried::sending;
 use crate::class::burst_at;
 use crate::class::carried_by;
 use crate::class::changed_quota;
 use crate::class::round_up;
 use crate::class::wide;
 use flow::Declaration;
+use flow::Kind;
 use operator::Operator;
 use quantity::Delay;
 use quantity::Interval;
@@ -25,15 +28,16 @@ ghost use Prim.Native.Nat.{_-_, _≤_};
 ghost use Rattle.quantity.specs.Choice.{pick};
 ghost use Rattle.operator.specs.Operators.{numberInRange};
 ghost use Rattle.operator.specs.declared.Operator.the-variants.{Limiter, Expander, Filter, Delayer};
+ghost use Rattle.figures.specs.Progress.{start};
 ghost use Rattle.figures.specs.Figures.{pairs};
-ghost use Rattle.figures.specs.Carried.{progressIn, BurstFits, delayKept, Ready, mostBefore, mostWith, plannedOf};
+ghost use Rattle.figures.specs.Carried.{progressIn, Lent, slotsKept, Ready, mostBefore, changedClass, outcome, plannedOf, CarriedOn, PlannedAs};
 
 // Section 7, 7: the largest changed quota.
 const LARGEST_CHANGED_QUOTA: u64 = 67_108_863;
 
-// What one operator comes to.
+// What one operator comes to: its figure and what is carried behind it, or why it is refused.
 pub enum Planned {
-    Fits(Figure),
+    Fits(Figure, Carried),
     Refused(Refusal),
 }
 
@@ -77,7 +81,7 @@ fn plan_limiter(
     k: usize,
 ) -> Planned
     requires { ⌜ Ready mostBefore declared (now bound) carried × (numberInRange (Limiter rate) ≡ true) ⌝ }
-    ensures { λ r. ⌜ r ≡ plannedOf (progressIn declared carried) (Limiter rate) false k ⌝ }
+    ensures { λ r. ⌜ PlannedAs declared (now (bound .entry)) (progressIn declared carried) (Limiter rate) false k r ⌝ }
 {
     if carried.filtering {
         return Planned::Refused(Refusal::FramedAfterFilter(k));
@@ -91,10 +95,14 @@ fn plan_limiter(
         return Planned::Refused(Refusal::RateTooLow(k));
     }
     let own = Slots(round_up(most.0, wide(rate.0)) as u32);
-    Planned::Fits(Figure {
+    let figure = Figure {
         capacity: most,
         delay: own,
-    })
+    };
+    Planned::Fits(
+        figure,
+        framed(Kind::Uniform, Interval(1), Units(wide(rate.0))),
+    )
 }
 
 // An expander's own delay, which is left out before a compactor of its interval.
@@ -104,17 +112,18 @@ fn expander_delay(n: Interval, paired: bool) -> Slots
     if paired { Slots(0) } else { Slots(n.0) }
 }
 
-// An expander, or a compactor, whose figure is that of an expander that has no pair. A quota that is not too large is no capacity too large.
+// An expander, or a compactor, whose figure is that of an expander that has no pair; its output is of this kind, and of the changed quota. A quota that is not too large is no capacity too large.
 fn plan_frame(
     carried: Carried,
     declared: Declaration,
     bound: &[u32],
+    output: Kind,
     n: Interval,
     paired: bool,
     k: usize,
 ) -> Planned
-    requires { ⌜ Ready mostBefore declared (now bound) carried × (numberInRange (Expander n) ≡ true) ⌝ }
-    ensures { λ r. ⌜ r ≡ plannedOf (progressIn declared carried) (Expander n) paired k ⌝ }
+    requires { ⌜ Ready mostBefore declared (now bound) carried × (numberInRange (Expander n) ≡ true) × Lent output declared (now bound) ⌝ }
+    ensures { λ r. ⌜ (outcome r ≡ plannedOf (progressIn declared carried) (Expander n) paired k) × CarriedOn declared (now (bound .entry)) (start (changedClass declared (carried .class) output n)) r ⌝ }
 {
     if carried.filtering {
         return Planned::Refused(Refusal::FramedAfterFilter(k));
@@ -125,20 +134,20 @@ fn plan_frame(
         return Planned::Refused(Refusal::FigureTooLarge(k));
     }
     let own = expander_delay(n, paired);
-    Planned::Fits(Figure {
+    let figure = Figure {
         capacity: most,
         delay: own,
-    })
+    };
+    Planned::Fits(figure, framed(output, n, most))
 }
 
-// What an operator adds to the delay of its part.
-fn added(before: Carried, after: Carried) -> Slots
-    requires { ⌜ (before .e .0 ≤ mostWith) × BurstFits (before .slowest) × (after .e .0 ≤ mostWith) × BurstFits (after .slowest) ⌝ }
-    requires { ⌜ delayKept (before .slowest) (before .e .0) ≤ delayKept (after .slowest) (after .e .0) ⌝ }
-    ensures { λ r. ⌜ r .0 ≡ delayKept (after .slowest) (after .e .0) - delayKept (before .slowest) (before .e .0) ⌝ }
+// What a filter adds to the delay of its part: the slots in which the burst is sent, less those that are counted already.
+fn added(before: LeastRate, after: LeastRate) -> Slots
+    requires { ⌜ slotsKept before ≤ slotsKept after ⌝ }
+    ensures { λ r. ⌜ r .0 ≡ slotsKept after - slotsKept before ⌝ }
 {
-    let whole = part_delay(after);
-    let so_far = part_delay(before);
+    let whole = sending(after);
+    let so_far = sending(before);
     let more = whole.0 - so_far.0;
     Slots(more)
 }
@@ -151,7 +160,7 @@ fn plan_filter(
     k: usize,
 ) -> Planned
     requires { ⌜ Ready mostBefore declared (now bound) carried × (numberInRange (Filter rate) ≡ true) ⌝ }
-    ensures { λ r. ⌜ r ≡ plannedOf (progressIn declared carried) (Filter rate) false k ⌝ }
+    ensures { λ r. ⌜ PlannedAs declared (now (bound .entry)) (progressIn declared carried) (Filter rate) false k r ⌝ }
 {
     let after = behind_filter(carried, declared, bound, rate);
     let most = part_capacity(after, declared, bound);
@@ -162,11 +171,14 @@ fn plan_filter(
     if !carried_by(class, declared, rate) {
         return Planned::Refused(Refusal::RateTooLow(k));
     }
-    let own = added(carried, after);
-    Planned::Fits(Figure {
+    let before = carried.slowest;
+    let slowest = after.slowest;
+    let own = added(before, slowest);
+    let figure = Figure {
         capacity: most,
         delay: own,
-    })
+    };
+    Planned::Fits(figure, after)
 }
 
 fn plan_delayer(
@@ -177,19 +189,21 @@ fn plan_delayer(
     k: usize,
 ) -> Planned
     requires { ⌜ Ready mostBefore declared (now bound) carried × (numberInRange (Delayer delay) ≡ true) ⌝ }
-    ensures { λ r. ⌜ r ≡ plannedOf (progressIn declared carried) (Delayer delay) false k ⌝ }
+    ensures { λ r. ⌜ PlannedAs declared (now (bound .entry)) (progressIn declared carried) (Delayer delay) false k r ⌝ }
 {
-    let most = part_capacity(behind_delayer(carried, delay), declared, bound);
+    let after = behind_delayer(carried, delay);
+    let most = part_capacity(after, declared, bound);
     if Units::LARGEST < most.0 {
         return Planned::Refused(Refusal::FigureTooLarge(k));
     }
-    Planned::Fits(Figure {
+    let figure = Figure {
         capacity: most,
         delay: Slots(delay.0),
-    })
+    };
+    Planned::Fits(figure, after)
 }
 
-// The figure of operator k; `paired` is whether the next operator is a compactor of its interval.
+// The figure of operator k and what is carried behind it; `paired` is whether the next operator is a compactor of its interval.
 pub(crate) fn plan(
     carried: Carried,
     declared: Declaration,
@@ -199,12 +213,16 @@ pub(crate) fn plan(
     k: usize,
 ) -> Planned
     requires { ⌜ Ready mostBefore declared (now bound) carried × (numberInRange operator ≡ true) ⌝ }
-    ensures { λ r. ⌜ r ≡ plannedOf (progressIn declared carried) operator paired k ⌝ }
+    ensures { λ r. ⌜ PlannedAs declared (now (bound .entry)) (progressIn declared carried) operator paired k r ⌝ }
 {
     match operator {
         Operator::Limiter(rate) => plan_limiter(carried, declared, bound, rate, k),
-        Operator::Compactor(n) => plan_frame(carried, declared, bound, n, false, k),
-        Operator::Expander(n) => plan_frame(carried, declared, bound, n, paired, k),
+        Operator::Compactor(n) => {
+            plan_frame(carried, declared, bound, Kind::Uniform, n, false, k)
+        }
+        Operator::Expander(n) => {
+            plan_frame(carried, declared, bound, Kind::Smooth, n, paired, k)
+        }
         Operator::Filter(rate) => plan_filter(carried, declared, bound, rate, k),
         Operator::Delayer(delay) => plan_delayer(carried, declared, bound, delay, k),
     }

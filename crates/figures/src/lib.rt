@@ -2,7 +2,6 @@
 
 use crate::camera::MOST;
 use crate::camera::is_camera;
-use crate::carried::behind;
 use crate::carried::start;
 use crate::each::Planned;
 use crate::each::paired;
@@ -150,10 +149,10 @@ fn figures_read(answer: ReadSheet, bound: &[u32]) -> PathFigures
                 planned = refused(why);
                 return planned;
             }
-            Planned::Fits(figure) => {
+            Planned::Fits(figure, behind) => {
                 planned.figures[k] = figure;
                 delay = delay.plus(figure.delay);
-                carried = behind(carried, declaration, bound, operator, figure.capacity);
+                carried = behind;
             }
         }
         k += 1;

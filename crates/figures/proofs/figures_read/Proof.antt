@@ -12,8 +12,8 @@ use Rattle.sheet.specs.Forms.{inFull}
 use Rattle.sheet.specs.declared.read.Verdict.{Verdict}
 use Rattle.figures.specs.Progress.{start}
 use Rattle.figures.specs.Answers.{refusedFigures}
-use Rattle.figures.specs.Carried.{Lent, Readable, PathWithin, figuresOfValue, figuresOfRead}
-use Rattle.figures.proofs.EachOperator.{Walked, plannedAt, walked-start, walked-planned, walked-capacity, walked-next, path-operator, operator-ready, paired-here, delay-counted, refused-path, late-path, accepted-path}
+use Rattle.figures.specs.Carried.{Lent, outcome, CarriedOn, Readable, PathWithin, figuresOfValue, figuresOfRead}
+use Rattle.figures.proofs.EachOperator.{Walked, plannedAt, walked-start, walked-planned, walked-next, path-operator, operator-ready, paired-here, delay-counted, refused-path, late-path, accepted-path}
 use Rattle.figures.proofs.figures_read.Statement.{statement}
 use Rattle.figures.proofs.figures_read.Tie as tie
 
@@ -38,11 +38,11 @@ figures-read c =
     sym (ap (λ (verdict : Verdict). figuresOfRead verdict (s .args .answer .path)) (c .before .before .enum-told2 .given .1))
 
 -- what was planned of operator k
-planned-at : (c : tie.After-plan Inv-loop μ-loop) → c .plan .result ≡ plannedAt (inFull (c .before .before .before .before .before .before .before .before .before .before .before .before .before .before .args .answer .path)) (c .before .before .before .before .before .before .loop .k)
+planned-at : (c : tie.After-plan Inv-loop μ-loop) → outcome (c .plan .result) ≡ plannedAt (inFull (c .before .before .before .before .before .before .before .before .before .before .before .before .before .before .args .answer .path)) (c .before .before .before .before .before .before .loop .k)
 planned-at c =
     let (inside, within, verdict, read, walked) = c .before .before .before .before .before .before .loop .inv in
     let here = c .before .before .before .before .before .loop-test .taken in
-    walked-planned walked (sym (path-operator _ _ here)) (paired-here within walked here (c .before .before .before .next-operator .ensures .1) (c .before .paired .ensures)) (c .plan .ensures)
+    walked-planned walked (sym (path-operator _ _ here)) (paired-here within walked here (c .before .before .before .next-operator .ensures .1) (c .before .paired .ensures)) (c .plan .ensures .answered)
 
 -- behind the last operator
 walked-through : (c : tie.After-loop Inv-loop μ-loop) →
@@ -122,7 +122,7 @@ refused-requires c κs = search needs
 returns-2 : tie.Need-returns-2 Inv-loop μ-loop
 returns-2 c =
     let (inside, within, verdict, read, walked) = c .before .before .before .before .before .before .before .before .before .before .loop .inv in
-    c .refused .ensures ∙ refused-path within walked (c .before .before .before .before .before .before .before .before .before .loop-test .taken) (sym (c .before .before .why .given .1) ∙ planned-at (c .before .before .before .before)) ∙ figures-read (c .before .before .before .before .before .before .before .before .before .before .before)
+    c .refused .ensures ∙ refused-path within walked (c .before .before .before .before .before .before .before .before .before .loop-test .taken) (sym (ap outcome (c .before .before .why .given .1)) ∙ planned-at (c .before .before .before .before)) ∙ figures-read (c .before .before .before .before .before .before .before .before .before .before .before)
 
 enum-known-figure : tie.Need-enum-known-figure Inv-loop μ-loop
 enum-known-figure c = search needs
@@ -136,31 +136,26 @@ element-set-from-figure c = omega (arith, c .before .before .before .before .bef
 plus-requires : tie.Need-plus-requires Inv-loop μ-loop
 plus-requires c κs = search needs
 
-behind-requires : tie.Need-behind-requires Inv-loop μ-loop
-behind-requires c κs =
-    let (inside, within, verdict, read, walked) = c .before .before .before .before .before .before .before .before .before .before .loop .inv in
-    let here = c .before .before .before .before .before .before .before .before .before .loop-test .taken in
-    let (ready, number) = operator-ready within walked here in
-    (ready, number, walked-capacity walked (sym (path-operator _ _ here)) (sym (c .before .before .figure .given .1) ∙ planned-at (c .before .before .before .before)))
-
 add-k : tie.Need-add-k Inv-loop μ-loop
-add-k c = omega (arith, c .before .before .before .before .before .before .before .before .before .before .loop-test .taken, c .before .before .before .before .before .before .before .before .before .before .before .loop .inv .1 .few)
+add-k c = omega (arith, c .before .before .before .before .before .before .before .before .before .loop-test .taken, c .before .before .before .before .before .before .before .before .before .before .loop .inv .1 .few)
 
 loop-less : tie.Need-loop-less Inv-loop μ-loop
 loop-less c = omega arith
 
 loop-again : tie.Need-loop-again Inv-loop μ-loop
 loop-again c =
-    let (inside, within, verdict, read, walked) = c .before .before .before .before .before .before .before .before .before .before .before .loop .inv in
-    let here = c .before .before .before .before .before .before .before .before .before .before .loop-test .taken in
+    let s = c .before .before .before .before .before .before .before .before .before .before .before .before .before .before .before .before .before .before in
+    let (inside, within, verdict, read, walked) = c .before .before .before .before .before .before .before .before .before .before .loop .inv in
+    let here = c .before .before .before .before .before .before .before .before .before .loop-test .taken in
     let few = within .few in
-    let planned = sym (c .before .before .before .figure .given .1) ∙ planned-at (c .before .before .before .before .before) in
-    let (carries, lent, burst) = c .behind .ensures in (
+    let answer = c .before .before .figure .given .1 in
+    let planned = sym (ap outcome answer) ∙ planned-at (c .before .before .before .before) in
+    let (carries, lent, burst) = subst (CarriedOn (s .args .answer .path .declaration) (s .args .bound .now) _) answer (c .before .before .before .before .plan .ensures .carried) in (
       omega (arith, here),
       within,
       verdict,
       read,
-      walked-next walked (omega (arith, here, few)) (sym (path-operator _ _ here)) planned carries lent burst (delay-counted within walked here planned (c .before .plus .ensures)),
+      walked-next walked (omega (arith, here, few)) (sym (path-operator _ _ here)) planned carries lent burst (delay-counted within walked here planned (c .plus .ensures)),
     )
 
 refused-requires-2 : tie.Need-refused-requires-2 Inv-loop μ-loop
@@ -199,7 +194,6 @@ figures-read-spec =
     mul-figure
     element-set-from-figure
     plus-requires
-    behind-requires
     add-k
     loop-less
     loop-again

@@ -1,4 +1,5 @@
 -- The class stays, and the rate is counted in with the burst at it.
+use borrow.Author.Needs.{needs}
 use mathlib.Core.Path.{_≡_, subst, sym}
 use mathlib.Core.Bool.{true}
 use Rattle.quantity.specs.Ranges.{rateRange}
@@ -13,7 +14,13 @@ use Rattle.figures.proofs.carried.behind_filter.Tie as tie
 
 slower-requires : tie.Need-slower-requires
 unfolding numberInRange
-slower-requires c κs = let s = c .before .before .before in (s .pre .0, in-range rateRange (s .args .rate .0) (s .pre .1) .1)
+slower-requires c κs =
+    let s = c .before .before .before in
+    let (least, largest) = in-range rateRange (s .args .rate .0) (s .pre .1) in
+    (s .pre .0, least, largest)
+
+in-part-requires : tie.Need-in-part-requires
+in-part-requires c κs = search needs
 
 -- what is carried behind it
 abbrev after : tie.After-slower → Carried
@@ -25,10 +32,11 @@ same-progress c = rw (c .slower .ensures .0)
 
 returns : tie.Need-returns
 returns c =
-    let s = c .before .before .before .before in
+    let made = c .before in
+    let s = made .before .before .before .before in
     let before = progressIn (s .args .declared) (s .args .carried) in
-    let within = subst (Within mostWith) (sym (same-progress c)) (filter-within before (s .args .rate) (s .pre .0 .within) (s .pre .1)) in
-    (same-progress c, record { within = within; lent = s .pre .0 .lent; burst = c .slower .ensures .1 })
+    let within = subst (Within mostWith) (sym (same-progress made)) (filter-within before (s .args .rate) (s .pre .0 .within) (s .pre .1)) in
+    rw (c .in-part .ensures) (same-progress made, record { within = within; lent = s .pre .0 .lent; burst = made .slower .ensures .1 })
 
 pub behind-filter-spec : {M : Type 1} → statement M
-behind-filter-spec = tie.close (tie.spec slower-requires returns)
+behind-filter-spec = tie.close (tie.spec slower-requires in-part-requires returns)

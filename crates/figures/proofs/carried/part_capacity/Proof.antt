@@ -1,8 +1,11 @@
 -- Burst is at most 134,217,726 and e·P at most 1,024 times 65,535; with and without a filter the definition has its case.
+use Prim.Native.Nat.{ℕ, _≤_}
+use mathlib.Core.Path.{subst⁻¹}
 use borrow.Author.Needs.{needs}
 use Rattle.figures.specs.Figures.{partCapacity}
 use Rattle.figures.specs.Carried.{classIn}
-use Rattle.figures.proofs.Bounds.{burst-fits, burst-kept, fits-within, part-units}
+use Rattle.flow.proofs.ClassBounds.{burst-bound}
+use Rattle.figures.proofs.Bounds.{rate-within, burst-kept, part-units}
 use Rattle.figures.proofs.carried.part_capacity.Statement.{statement}
 use Rattle.figures.proofs.carried.part_capacity.Tie as tie
 
@@ -31,9 +34,12 @@ returns-2 c =
     let found = c .before .before .before in
     let s = found .before .before .before .before in
     let slowest = found .slowest .given .1 in
-    let (positive, slow, small) = fits-within slowest (burst-fits (s .pre)) in
+    let class = classIn (s .args .declared) (s .args .carried .class) in
+    let (positive, slow) = rate-within slowest (s .pre .within .slowest) in
+    let same = burst-kept class slowest (s .pre .burst) .0 in
+    let small = subst⁻¹ (λ (burst : ℕ). burst ≤ 134_217_726) same (burst-bound class _ (s .pre .within .class)) in
     let sum = part-units _ (c .before .over .result) _ (s .args .carried .e) (c .before .over .ensures) small (s .pre .within .e) slow in
-    rw (slowest, c .plus .ensures, sum, burst-kept (classIn (s .args .declared) (s .args .carried .class)) slowest (s .pre .burst))
+    rw (slowest, c .plus .ensures, sum, same)
 
 pub part-capacity-spec : {M : Type 1} → statement M
 part-capacity-spec =

@@ -10,7 +10,7 @@ use Rattle.flow.specs.Classes.{rows, burstAt}
 use Rattle.flow.specs.Declarations.{severalAt}
 use Rattle.flow.specs.Bounds.{boundOf, ClassWithin}
 use Rattle.flow.proofs.Laws.{reach-le}
-use Rattle.figures.proofs.ClassLaws.{smooth-within, rows-within, lent-rows, lent-length, burst-of-table}
+use Rattle.figures.proofs.ClassLaws.{smooth-within, rows-within, lent-rows, lent-length, lent-small, burst-of-table}
 use Rattle.figures.proofs.class.burst_at.Statement.{statement}
 use Rattle.figures.proofs.class.burst_at.Tie as tie
 
@@ -44,7 +44,8 @@ greatest-beyond-requires c κs =
     let inside = rows-inside (c .before .before) in
     let reached = reach-le (severalAt (s .args .declared)) (s .args .declared .count) (s .args .rate .0) 1_024 (λ i less. inside .2 i less .short) in
     let short : c .reach .result ≤ 1_024 = omega (arith, c .reach .ensures, reached) in
-    (omega (arith, short, lent-length (s .args .declared) (s .args .bound .now) (rows-lent (c .before .before))), short, s .pre .2)
+    let lent = rows-lent (c .before .before) in
+    (omega (arith, short, lent-length (s .args .declared) (s .args .bound .now) lent), short, s .pre .2, λ i less. lent-small (s .args .declared) (s .args .bound .now) lent inside i (omega (arith, short)))
 
 wide-requires : tie.Need-wide-requires
 wide-requires c κs = search needs

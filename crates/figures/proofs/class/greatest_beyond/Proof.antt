@@ -1,7 +1,7 @@
--- The greatest of the entries passed, each less what the rate sent by then; 1,024 slots at 65,535 fit their width.
+-- The greatest of the entries passed, each less what the rate sent by then, over the most that a rate sends; 1,024 slots at 65,535 fit their width.
 use mathlib.Core.Path.{_≡_, refl, sym, ap, ap₂, _∙_}
 use mathlib.Core.List.{List, _∷_}
-use Prim.Native.Nat.{ℕ, _+_, _-_, _*_, _≤_, max}
+use Prim.Native.Nat.{ℕ, _+_, _-_, _*_, _≤_, _<_, max}
 use native.Mathlib.Nat.{mul-le-mul}
 use native.Mathlib.Numerals.{add-one}
 use native.Mathlib.Omega.{arith}
@@ -15,31 +15,40 @@ use Rattle.figures.proofs.class.greatest_beyond.Tie as tie
 abbrev above : List ℕ → ℕ → ℕ → ℕ
 above bound rate n = getD (0 ∷ bound) n 0 - n * rate
 
+-- the larger of two numbers, each so far over the most that a rate sends, or under it by what it sent
+over : (greatest most left sent : ℕ) → left + sent ≡ 67_107_840 → max (67_107_840 + greatest) (most + left) ≡ 67_107_840 + max greatest (most - sent)
+over greatest most left sent all = omega (arith, all)
+
 abbrev Inv-loop : tie.InvT-loop
-Inv-loop bound slots rate last greatest₀ sent₀ n₀ greatest sent n = (n ≤ slots) × (sent ≡ n * rate) × (greatest ≡ greatestOf (above bound rate) n)
+Inv-loop bound slots rate last greatest₀ left₀ n₀ greatest left n =
+    (n ≤ slots) × (left + n * rate ≡ 67_107_840) × (greatest ≡ 67_107_840 + greatestOf (above bound rate) n)
 
 abbrev μ-loop : tie.MeasureT-loop
-μ-loop bound slots rate last greatest₀ sent₀ n₀ greatest sent n = slots - n
+μ-loop bound slots rate last greatest₀ left₀ n₀ greatest left n = slots - n
 
 loop-holds : tie.Need-loop-holds Inv-loop μ-loop
 unfolding greatestOf
 loop-holds c = (omega arith, omega arith, refl)
 
-add-sent : tie.Need-add-sent Inv-loop μ-loop
-add-sent c =
+-- so long as there is a slot more, the rate has not sent all
+sub-left : tie.Need-sub-left Inv-loop μ-loop
+sub-left c =
     let at = c .before in
     let start = at .before .before in
-    let short : at .loop .n ≤ 1_024 = omega arith in
-    omega (arith, mul-le-mul short (start .pre .2))
+    let next : at .loop .n + 1 ≤ 1_024 = omega arith in
+    omega (arith, at .loop .inv .1, mul-le-mul next (start .pre .2))
 
-mul-beyond : tie.Need-mul-beyond Inv-loop μ-loop
-mul-beyond c = omega arith
+mul-larger : tie.Need-mul-larger Inv-loop μ-loop
+mul-larger c = omega arith
 
-shared-slice-read-beyond : tie.Need-shared-slice-read-beyond Inv-loop μ-loop
-shared-slice-read-beyond c = omega arith
+shared-slice-read-larger : tie.Need-shared-slice-read-larger Inv-loop μ-loop
+shared-slice-read-larger c = omega arith
 
-beyond-requires : tie.Need-beyond-requires Inv-loop μ-loop
-beyond-requires c κs = search needs
+add-larger : tie.Need-add-larger Inv-loop μ-loop
+add-larger c =
+    let at = c .before .before in
+    let less : at .loop .n < at .before .before .args .slots = omega arith in
+    record { fits = omega (arith, at .loop .inv .1, at .before .before .pre .3 (at .loop .n) less) }
 
 larger-requires : tie.Need-larger-requires Inv-loop μ-loop
 larger-requires c κs = search needs
@@ -52,19 +61,30 @@ loop-less c = omega arith
 
 loop-again : tie.Need-loop-again Inv-loop μ-loop
 loop-again c =
-    let at = c .before .before .before .before in
+    let at = c .before .before .before in
     let args = at .before .before .args in
     let f = above (args .bound .now) (args .rate) in
-    let sent : at .loop .sent + args .rate ≡ (at .loop .n + 1) * args .rate = omega (arith, at .loop .inv .1) in
-    let here : c .before .beyond .result ≡ f (at .loop .n + 1) = c .before .beyond .ensures ∙ ap (λ (n : ℕ). getD (args .bound .now) (at .loop .n) 0 - n) sent ∙ rw add-one in
-    (omega arith, sent, c .larger .ensures ∙ ap₂ max (at .loop .inv .2) here ∙ sym (greatest-next f (at .loop .n)))
+    let next : at .loop .n + 1 ≤ 1_024 = omega arith in
+    let left : at .loop .left - args .rate + (at .loop .n + 1) * args .rate ≡ 67_107_840 = omega (arith, at .loop .inv .1, mul-le-mul next (at .before .before .pre .2)) in
+    let here : getD (args .bound .now) (at .loop .n) 0 ≡ getD (0 ∷ args .bound .now) (at .loop .n + 1) 0 = rw add-one in (
+      omega arith,
+      left,
+      c .larger .ensures
+          ∙ ap₂ max (at .loop .inv .2) (ap (λ (most : ℕ). most + (at .loop .left - args .rate)) here)
+          ∙ over (greatestOf f (at .loop .n)) (getD (0 ∷ args .bound .now) (at .loop .n + 1) 0) (at .loop .left - args .rate) ((at .loop .n + 1) * args .rate) left
+          ∙ ap (λ (more : ℕ). 67_107_840 + more) (sym (greatest-next f (at .loop .n))),
+    )
+
+sub-result : tie.Need-sub-result Inv-loop μ-loop
+sub-result c = omega (arith, c .before .loop .inv .2)
 
 returns : tie.Need-returns Inv-loop μ-loop
 returns c =
     let at = c .before in
     let args = at .before .before .args in
     let all : at .loop .n ≡ args .slots = omega arith in
-    at .loop .inv .2 ∙ ap (greatestOf (above (args .bound .now) (args .rate))) all
+    let greatest : at .loop .greatest - 67_107_840 ≡ greatestOf (above (args .bound .now) (args .rate)) (at .loop .n) = omega (arith, at .loop .inv .2) in
+    greatest ∙ ap (greatestOf (above (args .bound .now) (args .rate))) all
 
 pub greatest-beyond-spec : {M : Type 1} → statement M
 greatest-beyond-spec =
@@ -73,12 +93,13 @@ greatest-beyond-spec =
     Inv-loop
     μ-loop
     loop-holds
-    add-sent
-    mul-beyond
-    shared-slice-read-beyond
-    beyond-requires
+    sub-left
+    mul-larger
+    shared-slice-read-larger
+    add-larger
     larger-requires
     add-n
     loop-less
     loop-again
+    sub-result
     returns)

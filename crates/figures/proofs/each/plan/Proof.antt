@@ -1,6 +1,7 @@
--- Each operator has its case of the definition; a compactor's is that of an expander that has no pair, and only an expander's delay asks for one.
+-- Each operator has its case of the definitions; a compactor's is that of an expander that has no pair, and only an expander's delay asks for one.
 use borrow.Author.Needs.{needs}
 use Rattle.operator.specs.Operators.{numberInRange}
+use Rattle.figures.specs.Progress.{behind}
 use Rattle.figures.specs.Figures.{capacity, ownDelay, isFramed, framedAfterFilter, quotaBehind, figureTooLarge, rateTooLow}
 use Rattle.figures.specs.Carried.{plannedOf}
 use Rattle.figures.proofs.Bounds.{inside-of}
@@ -18,13 +19,13 @@ enum-known-operator-2 c = search needs
 
 plan-frame-requires : tie.Need-plan-frame-requires
 unfolding numberInRange
-plan-frame-requires c κs = let s = c .before .before .before .before in (s .pre .0, inside-of (c .before .operator2 .given .1) (s .pre .1))
+plan-frame-requires c κs = let s = c .before .before .before .before in (s .pre .0, inside-of (c .before .operator2 .given .1) (s .pre .1), tt)
 
 enum-known-operator-3 : tie.Need-enum-known-operator-3
 enum-known-operator-3 c = search needs
 
 plan-frame-requires-2 : tie.Need-plan-frame-requires-2
-plan-frame-requires-2 c κs = let s = c .before .before .before .before in (s .pre .0, inside-of (c .before .operator3 .given .1) (s .pre .1))
+plan-frame-requires-2 c κs = let s = c .before .before .before .before in (s .pre .0, inside-of (c .before .operator3 .given .1) (s .pre .1), tt)
 
 enum-known-operator-4 : tie.Need-enum-known-operator-4
 enum-known-operator-4 c = search needs
@@ -40,22 +41,23 @@ plan-delayer-requires c κs = let s = c .before .before .before .before in (s .p
 
 returns : tie.Need-returns
 unfolding plannedOf ownDelay
-returns c = rw (c .before .before .operator .given .1) (c .plan-limiter .ensures)
+returns c = rw (c .before .before .operator .given .1) (record { answered = c .plan-limiter .ensures .answered; carried = c .plan-limiter .ensures .carried })
 
 returns-2 : tie.Need-returns-2
-unfolding plannedOf framedAfterFilter isFramed figureTooLarge quotaBehind capacity rateTooLow ownDelay
-returns-2 c = rw (c .before .before .operator2 .given .1) (c .plan-frame .ensures)
+unfolding plannedOf framedAfterFilter isFramed figureTooLarge quotaBehind capacity rateTooLow ownDelay behind
+returns-2 c = rw (c .before .before .operator2 .given .1) (record { answered = c .plan-frame .ensures .0; carried = c .plan-frame .ensures .1 })
 
 returns-3 : tie.Need-returns-3
-returns-3 c = rw (c .before .before .operator3 .given .1) (c .plan-frame2 .ensures)
+unfolding behind
+returns-3 c = rw (c .before .before .operator3 .given .1) (record { answered = c .plan-frame2 .ensures .0; carried = c .plan-frame2 .ensures .1 })
 
 returns-4 : tie.Need-returns-4
 unfolding plannedOf ownDelay
-returns-4 c = rw (c .before .before .operator4 .given .1) (c .plan-filter .ensures)
+returns-4 c = rw (c .before .before .operator4 .given .1) (record { answered = c .plan-filter .ensures .answered; carried = c .plan-filter .ensures .carried })
 
 returns-5 : tie.Need-returns-5
 unfolding plannedOf ownDelay
-returns-5 c = rw (c .before .before .operator5 .given .1) (c .plan-delayer .ensures)
+returns-5 c = rw (c .before .before .operator5 .given .1) (record { answered = c .plan-delayer .ensures .answered; carried = c .plan-delayer .ensures .carried })
 
 pub plan-spec : {M : Type 1} → statement M
 plan-spec =

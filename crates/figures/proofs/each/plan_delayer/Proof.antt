@@ -36,11 +36,17 @@ part-capacity-requires c κs =
 
 returns : tie.Need-returns
 unfolding plannedOf isFramed figureTooLarge quotaBehind
-returns c = rw (placed _ (Delayer _) refl, ← delayer-capacity (c .before .before), lt-ltb _ _ (c .if1 .taken))
+returns c = record { answered = rw (placed _ (Delayer _) refl, ← delayer-capacity (c .before .before), lt-ltb _ _ (c .if1 .taken)); carried = tt }
 
 returns-2 : tie.Need-returns-2
-unfolding plannedOf isFramed figureTooLarge quotaBehind rateTooLow
-returns-2 c = rw (placed _ (Delayer _) refl, ← delayer-capacity (c .before .before), le-ltb _ _ (c .if1 .left), own-slots)
+unfolding plannedOf isFramed figureTooLarge quotaBehind rateTooLow behind
+returns-2 c =
+    let made = c .before .before in
+    let ready = made .before .before .before .pre .0 in
+    record {
+      answered = rw (placed _ (Delayer _) refl, ← delayer-capacity made, le-ltb _ _ (c .if1 .left), own-slots);
+      carried = rw (made .before .behind-delayer .ensures) (refl, ready .lent, ready .burst);
+    }
 
 pub plan-delayer-spec : {M : Type 1} → statement M
 plan-delayer-spec =

@@ -1,15 +1,12 @@
 -- A filter may follow anything; the first of the two tests left that holds gives the refusal, and else the figure is the definition's.
 use borrow.Author.Needs.{needs}
 use borrow.Author.Tests.{not-false, lt-ltb, le-ltb}
-use native.Mathlib.Omega.{arith}
-use Prim.Native.Nat.{ℕ, _-_}
-use native.Mathlib.Nat.{le-trans}
-use mathlib.Core.Path.{_≡_, refl, ap, ap₂, sym, _∙_}
+use mathlib.Core.Path.{_≡_, refl, ap, sym, _∙_}
 use mathlib.Core.Bool.{false, not}
 use Rattle.operator.specs.declared.Operator.the-variants.{Filter}
-use Rattle.figures.specs.Figures.{capacityOfPart, delayOfPart, capacity, ownDelay, isFramed, quotaBehind, figureTooLarge, rateTooLow}
+use Rattle.figures.specs.Figures.{capacityOfPart, capacity, ownDelay, isFramed, quotaBehind, figureTooLarge, rateTooLow}
 use Rattle.figures.specs.Carried.{progressIn, plannedOf}
-use Rattle.figures.proofs.Bounds.{burst-fits, delay-kept, filter-adds}
+use Rattle.figures.proofs.Bounds.{filter-own, filter-adds}
 use Rattle.figures.proofs.Tests.{placed}
 use Rattle.figures.proofs.each.plan_filter.Statement.{statement}
 use Rattle.figures.proofs.each.plan_filter.Tie as tie
@@ -26,7 +23,7 @@ filter-delay c =
     let behind = c .before .before .before .before .before .before .before in
     let s = behind .before .before in
     let (same, ready) = behind .behind-filter .ensures in
-    c .added .ensures ∙ ap₂ (λ (after before : ℕ). after - before) (delay-kept ready ∙ ap delayOfPart same) (delay-kept (s .pre .0))
+    c .added .ensures ∙ filter-own (s .args .carried) (behind .behind-filter .result) (s .args .rate) (s .pre .0) ready same
 
 behind-filter-requires : tie.Need-behind-filter-requires
 behind-filter-requires c κs = search needs
@@ -36,7 +33,7 @@ part-capacity-requires c κs = c .behind-filter .ensures .1
 
 returns : tie.Need-returns
 unfolding plannedOf isFramed figureTooLarge quotaBehind
-returns c = rw (placed _ (Filter _) refl, ← filter-capacity (c .before .before), lt-ltb _ _ (c .if1 .taken))
+returns c = record { answered = rw (placed _ (Filter _) refl, ← filter-capacity (c .before .before), lt-ltb _ _ (c .if1 .taken)); carried = tt }
 
 carried-by-requires : tie.Need-carried-by-requires
 carried-by-requires c κs = search needs
@@ -45,35 +42,40 @@ returns-2 : tie.Need-returns-2
 unfolding plannedOf isFramed figureTooLarge quotaBehind rateTooLow
 returns-2 c =
     let tested = c .before .before .before in
-    rw (
-      placed _ (Filter _) refl,
-      ← filter-capacity (tested .before .before),
-      le-ltb _ _ (tested .if1 .left),
-      ap not (sym (c .before .carried-by .ensures)) ∙ c .if2 .taken,
-    )
+    record {
+      answered = rw (
+        placed _ (Filter _) refl,
+        ← filter-capacity (tested .before .before),
+        le-ltb _ _ (tested .if1 .left),
+        ap not (sym (c .before .carried-by .ensures)) ∙ c .if2 .taken,
+      );
+      carried = tt;
+    }
 
 added-requires : tie.Need-added-requires
 added-requires c κs =
     let behind = c .before .before .before .before .before .before in
     let s = behind .before .before in
     let (same, ready) = behind .behind-filter .ensures in
-    let enough = sym (c .before .carried-by .ensures) ∙ not-false _ (c .if2 .left) in (
-      (le-trans (s .pre .0 .within .e) (omega arith), burst-fits (s .pre .0), ready .within .e, burst-fits ready),
-      filter-adds (s .args .carried) (behind .behind-filter .result) (s .args .rate) (s .pre .0) ready same (s .pre .1) enough,
-    )
+    let enough = sym (c .before .carried-by .ensures) ∙ not-false _ (c .if2 .left) in
+    filter-adds (s .args .carried) (behind .behind-filter .result) (s .args .rate) (s .pre .0) ready same (s .pre .1) enough
 
 returns-3 : tie.Need-returns-3
 unfolding plannedOf isFramed figureTooLarge quotaBehind rateTooLow
 returns-3 c =
     let left = c .before in
     let tested = left .before .before .before in
-    rw (
-      placed _ (Filter _) refl,
-      ← filter-capacity (tested .before .before),
-      le-ltb _ _ (tested .if1 .left),
-      ap not (sym (left .before .carried-by .ensures)) ∙ left .if2 .left,
-      ← filter-delay c,
-    )
+    let (same, ready) = tested .before .before .before .behind-filter .ensures in
+    record {
+      answered = rw (
+        placed _ (Filter _) refl,
+        ← filter-capacity (tested .before .before),
+        le-ltb _ _ (tested .if1 .left),
+        ap not (sym (left .before .carried-by .ensures)) ∙ left .if2 .left,
+        ← filter-delay c,
+      );
+      carried = (same, ready .lent, ready .burst);
+    }
 
 pub plan-filter-spec : {M : Type 1} → statement M
 plan-filter-spec =

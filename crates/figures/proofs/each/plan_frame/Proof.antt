@@ -1,4 +1,5 @@
--- The first test that holds gives the refusal, and else the figure is the definition's: a quota that 7 lets pass is below the largest amount, and 8 asks nothing.
+-- The first test that holds gives the refusal, and else the figure is the definition's: a quota that 7 lets pass is below the largest amount, and 8 asks nothing. Its output has the changed quota.
+use mathlib.Core.Path.{refl}
 use borrow.Author.Needs.{needs}
 use borrow.Author.Tests.{lt-ltb, le-ltb}
 use native.Mathlib.Omega.{arith}
@@ -14,7 +15,7 @@ use Rattle.figures.proofs.each.plan_frame.Tie as tie
 
 returns : tie.Need-returns
 unfolding plannedOf framedAfterFilter isFramed
-returns c = rw (c .if1 .taken)
+returns c = (rw (c .if1 .taken), tt)
 
 changed-quota-requires : tie.Need-changed-quota-requires
 unfolding numberInRange
@@ -27,7 +28,7 @@ returns-2 : tie.Need-returns-2
 unfolding plannedOf framedAfterFilter isFramed figureTooLarge quotaBehind capacity
 returns-2 c =
     let changed = c .before .before in
-    rw (changed .before .before .if1 .left, ← changed .changed-quota .ensures, lt-ltb _ _ (c .if2 .taken))
+    (rw (changed .before .before .if1 .left, ← changed .changed-quota .ensures, lt-ltb _ _ (c .if2 .taken)), tt)
 
 expander-delay-requires : tie.Need-expander-delay-requires
 expander-delay-requires c κs = search needs
@@ -35,16 +36,23 @@ expander-delay-requires c κs = search needs
 returns-3 : tie.Need-returns-3
 unfolding plannedOf framedAfterFilter isFramed figureTooLarge quotaBehind capacity rateTooLow ownDelay
 returns-3 c =
-    let changed = c .before .before .before in
-    let small : changed .changed-quota .result .0 ≤ largestAmount = omega (arith, c .before .if2 .left) in
-    rw (
-      changed .before .before .if1 .left,
-      ← changed .changed-quota .ensures,
-      le-ltb _ _ (c .before .if2 .left),
-      le-ltb _ _ small,
-      ← c .expander-delay .ensures,
+    let tested = c .before .before in
+    let changed = tested .before .before in
+    let s = changed .before .before .before .before in
+    let small : changed .changed-quota .result .0 ≤ largestAmount = omega (arith, tested .if2 .left) in (
+      rw (
+        changed .before .before .if1 .left,
+        ← changed .changed-quota .ensures,
+        le-ltb _ _ (tested .if2 .left),
+        le-ltb _ _ small,
+        ← c .before .expander-delay .ensures,
+      ),
+      rw (c .framed .ensures, changed .changed-quota .ensures) (refl, s .pre .2, tt),
     )
+
+framed-requires : tie.Need-framed-requires
+framed-requires c κs = search needs
 
 pub plan-frame-spec : {M : Type 1} → statement M
 plan-frame-spec =
-    tie.close (tie.spec returns changed-quota-requires returns-2 expander-delay-requires returns-3)
+    tie.close (tie.spec returns changed-quota-requires returns-2 expander-delay-requires framed-requires returns-3)

@@ -1,12 +1,13 @@
--- The first of the three tests that holds gives the refusal, and else the figure is the definition's.
+-- The first of the three tests that holds gives the refusal, and else the figure is the definition's, and its output is uniform (1, R).
 use borrow.Author.Needs.{needs}
 use borrow.Author.Tests.{lt-ltb, le-ltb}
 use native.Mathlib.Omega.{arith}
-use mathlib.Core.Path.{sym, ap, _∙_}
+use mathlib.Core.Path.{refl, sym, ap, _∙_}
 use mathlib.Core.Bool.{not}
 use Prim.Native.Nat.{_≤_}
 use Rattle.quantity.specs.Ranges.{rateRange}
 use Rattle.operator.specs.Operators.{numberInRange}
+use Rattle.figures.specs.Progress.{behind}
 use Rattle.figures.specs.Figures.{capacity, ownDelay, isFramed, framedAfterFilter, quotaBehind, figureTooLarge, rateTooLow}
 use Rattle.figures.specs.Carried.{classIn, plannedOf}
 use Rattle.flow.proofs.ClassBounds.{burst-bound}
@@ -26,7 +27,7 @@ limiter-small c =
 
 returns : tie.Need-returns
 unfolding plannedOf framedAfterFilter isFramed
-returns c = rw (c .if1 .taken)
+returns c = record { answered = rw (c .if1 .taken); carried = tt }
 
 burst-at-requires : tie.Need-burst-at-requires
 burst-at-requires c κs = let s = c .before .before .before in (s .pre .0 .within .class, s .pre .0 .lent, rate-inside s .1)
@@ -35,7 +36,7 @@ returns-2 : tie.Need-returns-2
 unfolding plannedOf framedAfterFilter isFramed figureTooLarge quotaBehind capacity
 returns-2 c =
     let made = c .before .before in
-    rw (made .before .before .if1 .left, ← made .burst-at .ensures, lt-ltb _ _ (c .if2 .taken))
+    record { answered = rw (made .before .before .if1 .left, ← made .burst-at .ensures, lt-ltb _ _ (c .if2 .taken)); carried = tt }
 
 carried-by-requires : tie.Need-carried-by-requires
 carried-by-requires c κs = search needs
@@ -45,27 +46,34 @@ unfolding plannedOf framedAfterFilter isFramed figureTooLarge quotaBehind capaci
 returns-3 c =
     let tested = c .before .before in
     let made = tested .before .before in
-    rw (
-      made .before .before .if1 .left,
-      ← made .burst-at .ensures,
-      le-ltb _ _ (tested .if2 .left),
-      ap not (sym (c .before .carried-by .ensures)) ∙ c .if3 .taken,
-    )
+    record {
+      answered = rw (
+        made .before .before .if1 .left,
+        ← made .burst-at .ensures,
+        le-ltb _ _ (tested .if2 .left),
+        ap not (sym (c .before .carried-by .ensures)) ∙ c .if3 .taken,
+      );
+      carried = tt;
+    }
 
 returns-4 : tie.Need-returns-4
-unfolding plannedOf framedAfterFilter isFramed figureTooLarge quotaBehind capacity rateTooLow ownDelay
+unfolding plannedOf framedAfterFilter isFramed figureTooLarge quotaBehind capacity rateTooLow ownDelay behind
 returns-4 c =
-    let left = c .before .before in
+    let rounded = c .before .before in
+    let left = rounded .before .before in
     let tested = left .before .before in
     let made = tested .before .before in
-    rw (
-      made .before .before .if1 .left,
-      ← made .burst-at .ensures,
-      le-ltb _ _ (tested .if2 .left),
-      ap not (sym (left .before .carried-by .ensures)) ∙ left .if3 .left,
-      c .round-up .ensures,
-      c .before .wide .ensures,
-    )
+    record {
+      answered = rw (
+        made .before .before .if1 .left,
+        ← made .burst-at .ensures,
+        le-ltb _ _ (tested .if2 .left),
+        ap not (sym (left .before .carried-by .ensures)) ∙ left .if3 .left,
+        rounded .round-up .ensures,
+        rounded .before .wide .ensures,
+      );
+      carried = rw (c .framed .ensures, c .before .wide2 .ensures) (refl, tt, tt);
+    }
 
 wide-requires : tie.Need-wide-requires
 wide-requires c κs = search needs
@@ -76,11 +84,17 @@ round-up-requires c κs =
     let (positive, slow) = rate-inside (made .before .before .before .before) in
     omega (arith, limiter-small made)
 
-cast-t16 : tie.Need-cast-t16
-cast-t16 c =
+cast-t17 : tie.Need-cast-t17
+cast-t17 c =
     let made = c .before .before .before .before .before .before in
     let (positive, slow) = rate-inside (made .before .before .before .before) in
     omega (arith, round-up-at-most (made .burst-at .result .0) (c .before .wide .result) (omega arith), limiter-small made)
+
+wide-requires-2 : tie.Need-wide-requires-2
+wide-requires-2 c κs = search needs
+
+framed-requires : tie.Need-framed-requires
+framed-requires c κs = search needs
 
 pub plan-limiter-spec : {M : Type 1} → statement M
 plan-limiter-spec =
@@ -93,5 +107,7 @@ plan-limiter-spec =
     returns-3
     wide-requires
     round-up-requires
-    cast-t16
+    cast-t17
+    wide-requires-2
+    framed-requires
     returns-4)
