@@ -19,7 +19,7 @@ use Rattle.quantity.proofs.Rounding.{round-up-enough, round-up-least}
 use Rattle.quantity.proofs.Sums.{both-true}
 use Rattle.flow.specs.Rows.{Row, reach, rowsMost}
 use Rattle.flow.specs.Bounds.{RowInside, ClassWithin}
-use Rattle.flow.specs.Classes.{Class, smooth, uniform, rows, Positive, mostIn, changedQuota, carries, burstAt}
+use Rattle.flow.specs.Classes.{Class, smooth, uniform, rows, Positive, mostDelayed, changedQuota, carries, burstAt}
 use Rattle.flow.proofs.ClassBounds.{rows-most-bound, burst-bound, within-positive}
 use Rattle.operator.specs.FilterPart.{Slowest, unfiltered, filtered, slower}
 use Rattle.operator.specs.Operators.{numberInRange}

@@ -40,7 +40,7 @@ use Rattle.figures.specs.declared.PathFigures.{PathFigures}
 use Rattle.figures.specs.declared.carried.Carried.{Carried}
 use Rattle.figures.specs.Progress.{Progress, start, behind, progressAt}
 use Rattle.figures.specs.Figures.{pairs, quotaBehind, figureTooLarge, largestChangedQuota}
-use Rattle.figures.specs.Answers.{operatorAt, before, pairedAt, capacityAt, delayAt, operatorCases, operatorsCases, pathCases, figureAt, noFigure, figureIn, pathDelay, refusedFigures, acceptedFigures}
+use Rattle.figures.specs.Answers.{operatorAt, before, pairedAt, heldAt, delayAt, operatorCases, operatorsCases, pathCases, figureAt, noFigure, figureIn, pathDelay, refusedFigures, acceptedFigures}
 use Rattle.figures.specs.declared.carried.LeastRate.the-variants.{NoFilter}
 use Rattle.figures.specs.Carried.{classIn, progressIn, Within, Lent, BurstKept, Ready, mostBefore, Outcome, hasFigure, hasRefusal, plannedOf, PathWithin, figuresOfValue}
 use Rattle.figures.proofs.Bounds.{within-le, behind-within, own-delay-bound}
@@ -147,7 +147,7 @@ module _ (path : Path) (k : ℕ) where
   fits-passed planned = none-where-result hasRefusal (hasFigure _) HasFigure (λ why h. h) (operatorCases path k) (subst HasFigure planned tt)
 
   pub fits-figure : {figure : Figure} → hasFigure figure ≡ plannedAt → figure ≡ figureAt path k
-  unfolding plannedOf figureAt capacityAt delayAt
+  unfolding plannedOf figureAt heldAt delayAt
   fits-figure planned = let e = planned ∙ firstOf-none hasRefusal (hasFigure _) (operatorCases path k) (fits-passed planned) in (cc)
 
   -- operator k is refused

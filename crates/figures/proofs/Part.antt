@@ -15,7 +15,7 @@ use Rattle.operator.specs.Operators.{filter}
 use Rattle.operator.specs.declared.Operator.{Operator}
 use Rattle.flow.proofs.Laws.{window, envelope, burst-falls}
 use Rattle.operator.proofs.Laws.{filtered-in-time, unfiltered-in-time, filtered-held, unfiltered-held, filter-beside}
-use Rattle.figures.specs.Figures.{partCapacity, partDelay}
+use Rattle.figures.specs.Figures.{partHeld, partDelay}
 
 -- the slowest filter carries the class, as refusal 8 asks of each
 abbrev pub Carries : Slowest → Class → Type 0
@@ -58,15 +58,15 @@ module _ (c : Class) (g : Flow) (large : Positive c) (keeps : Keeps c g) where
 
   module _ (f choices : Flow) (entered : Behind g f) where
     pub part-held : (op : Operator) (P : Slowest) (e : ℕ) → Carries P c → Fitting op f choices → Served P e g (outputOn op f choices)
-        → (n : ℕ) → heldOn op f choices n .b ≤ partCapacity c e P
-    unfolding partCapacity
+        → (n : ℕ) → heldOn op f choices n .b ≤ partHeld c e P
+    unfolding partHeld
     part-held op unfiltered e carries fits served = unfiltered-held op e _ g f choices fits entered (λ a. window c g large keeps a e) served
     part-held op (filtered P) e carries fits served =
         filtered-held op P e (burstAt c P) g f choices fits entered (envelope c g P large (carries .1) keeps) served
 
     pub part-beside : (R : ℕ) (P : Slowest) (e : ℕ) → Carries (slower P R) c → Served P e g f
-        → (n : ℕ) → heldOn (filter R) f choices n .h ≤ partCapacity c e (slower P R)
-    unfolding partCapacity slower
+        → (n : ℕ) → heldOn (filter R) f choices n .h ≤ partHeld c e (slower P R)
+    unfolding partHeld slower
     part-beside R unfiltered e carries served = filter-beside R R e (burstAt c R) unfiltered g f choices refl entered (envelope c g R large (carries .1) keeps) served
     part-beside R (filtered P) e carries served =
         filter-beside R (min P R) e (burstAt c (min P R)) (filtered P) g f choices refl entered (envelope c g (min P R) large (carries .1) keeps) served

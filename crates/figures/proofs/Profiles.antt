@@ -28,7 +28,7 @@ use Rattle.sheet.specs.House.{delayerSlots, houseInRange, hopLength, hopOperato
 use Rattle.sheet.specs.Paths.{Path, noLinkedOperator}
 use Rattle.sheet.proofs.HouseLaws.{HouseWithin, house-within, which-profile, length-houseOperators, house-some}
 use Rattle.figures.specs.Progress.{Progress, start, behind, progressAt}
-use Rattle.figures.specs.Figures.{partCapacity, partDelay, capacity, ownDelay, pairs, isFramed, framedAfterFilter, largestChangedQuota, quotaBehind, figureTooLarge, rateTooLow}
+use Rattle.figures.specs.Figures.{partHeld, partDelay, heldFigure, ownDelay, pairs, isFramed, framedAfterFilter, largestChangedQuota, quotaBehind, figureTooLarge, rateTooLow}
 use Rattle.figures.specs.Answers.{operatorAt, before, pairedAt, delayAt, pathDelay, operatorCases, operatorsCases}
 use Rattle.figures.proofs.Reached.{none-at}
 use Rattle.figures.proofs.Tests.{neither}
@@ -47,13 +47,13 @@ record Makes (p : Progress) (op : Operator) (paired : Bool) (q : Progress) (dela
   own : ownDelay p op paired ≡ delay
   placed : framedAfterFilter p op ≡ false
   quota : quotaBehind p op ≤ largestChangedQuota
-  most : capacity p op ≤ largestAmount
+  most : heldFigure p op ≤ largestAmount
   rated : rateTooLow p op ≡ low
 
 stands : {p q : Progress} {op : Operator} {paired low : Bool} {delay : ℕ} → Makes p op paired q delay low → Stands p op low
 unfolding figureTooLarge
 stands {p} {op = op} made =
-    let sized = either-none (ltb largestChangedQuota (quotaBehind p op)) (ltb largestAmount (capacity p op)) (le-ltb _ _ (made .quota)) (le-ltb _ _ (made .most)) in
+    let sized = either-none (ltb largestChangedQuota (quotaBehind p op)) (ltb largestAmount (heldFigure p op)) (le-ltb _ _ (made .quota)) (le-ltb _ _ (made .most)) in
     record { placed = made .placed; sized = sized; rated = made .rated }
 
 -- ⌈k·y/y⌉ is k
@@ -76,16 +76,16 @@ unfolding changedQuota
 uniform-one m R = rw (round-up-multiple m m 1 (le-refl 1) (omega arith))
 
 makes-limiter : (m Q R : ℕ) (paired : Bool) → Q ≤ largestChangedQuota → Makes (start (smooth m Q)) (limiter R) paired (start (uniform 1 R)) (roundUp (2 * Q) R) (not (leb Q (m * R)))
-unfolding behind ownDelay framedAfterFilter rateTooLow quotaBehind capacity carries burstAt
+unfolding behind ownDelay framedAfterFilter rateTooLow quotaBehind heldFigure carries burstAt
 makes-limiter m Q R paired small = record { next = refl; own = refl; placed = refl; quota = omega arith; most = omega arith; rated = refl }
 
 module _ (c : Class) (m q : ℕ) (paired : Bool) (change : changedQuota m c ≡ q) (small : q ≤ largestChangedQuota) where
   makes-compactor : Makes (start c) (compactor m) paired (start (uniform m q)) m false
-  unfolding behind ownDelay framedAfterFilter rateTooLow quotaBehind capacity
+  unfolding behind ownDelay framedAfterFilter rateTooLow quotaBehind heldFigure
   makes-compactor = record { next = rw change; own = refl; placed = refl; quota = omega arith; most = omega arith; rated = refl }
 
   makes-expander : Makes (start c) (expander m) paired (start (smooth m q)) (pick paired 0 m) false
-  unfolding behind ownDelay framedAfterFilter rateTooLow quotaBehind capacity
+  unfolding behind ownDelay framedAfterFilter rateTooLow quotaBehind heldFigure
   makes-expander = record { next = rw change; own = refl; placed = refl; quota = omega arith; most = omega arith; rated = refl }
 
 -- in the filter part, behind a filter R
@@ -98,17 +98,17 @@ module _ (m Q R e : ℕ) (small : Q ≤ 65535) (slow : R ≤ 65535) (paired : Bo
   burst-fits d short = omega (arith, mul-le-mul {n₁ = d} {m₁ = R} {n₂ = 320} {m₂ = 65535} short slow)
 
   first-filter : e ≡ 0 → Makes (start (smooth m Q)) (filter R) paired (inPart m Q R e) (roundUp (2 * Q) R) (not (leb Q (m * R)))
-  unfolding behind slower ownDelay partDelay framedAfterFilter isFramed rateTooLow quotaBehind capacity partCapacity carries burstAt
+  unfolding behind slower ownDelay partDelay framedAfterFilter isFramed rateTooLow quotaBehind heldFigure partHeld carries burstAt
   first-filter none = record { next = rw none; own = omega arith; placed = refl; quota = omega arith; most = burst-fits 0 (omega arith); rated = refl }
 
   later-filter : e ≤ 320 → Makes (inPart m Q R e) (filter R) paired (inPart m Q R e) 0 (not (leb Q (m * R)))
-  unfolding behind slower ownDelay partDelay framedAfterFilter isFramed rateTooLow quotaBehind capacity partCapacity carries
+  unfolding behind slower ownDelay partDelay framedAfterFilter isFramed rateTooLow quotaBehind heldFigure partHeld carries
   later-filter short =
       let same = min-eq-left (le-refl R) in
       record { next = rw same; own = rw same (omega arith); placed = refl; quota = omega arith; most = rw same (burst-fits e short); rated = refl }
 
   makes-delayer : (d : ℕ) → e + d ≤ 320 → Makes (inPart m Q R e) (delayer d) paired (inPart m Q R (e + d)) d false
-  unfolding behind ownDelay partDelay framedAfterFilter isFramed rateTooLow quotaBehind capacity partCapacity
+  unfolding behind ownDelay partDelay framedAfterFilter isFramed rateTooLow quotaBehind heldFigure partHeld
   makes-delayer d short = record { next = refl; own = omega arith; placed = refl; quota = omega arith; most = burst-fits (e + d) short; rated = refl }
 
 -- Along a path.

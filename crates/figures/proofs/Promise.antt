@@ -22,8 +22,8 @@ use Rattle.sheet.specs.Forms.{noPath}
 use Rattle.sheet.specs.Sheets.{sheetCases, valueIn, pathIn, pathInRange}
 use Rattle.sheet.proofs.Accepted.{sheet-path, never-accepted}
 use Rattle.figures.specs.declared.PathFigures.{PathFigures}
-use Rattle.figures.specs.Answers.{operatorAt, before, capacityAt, pathDelay, operatorsCases, pathCases, figureIn, figuresOf}
-use Rattle.figures.specs.Figures.{capacity, quotaBehind, largestChangedQuota, figureTooLarge}
+use Rattle.figures.specs.Answers.{operatorAt, before, heldAt, pathDelay, operatorsCases, pathCases, figureIn, figuresOf}
+use Rattle.figures.specs.Figures.{heldFigure, quotaBehind, largestChangedQuota, figureTooLarge}
 use Rattle.figures.specs.Along.{AllFit, Promised}
 use Rattle.figures.proofs.Reached.{none-at, reached-end, reached, passed-at, stepped}
 use Rattle.figures.proofs.Reached as Reached
@@ -31,7 +31,7 @@ use Rattle.figures.proofs.Reached as Reached
 -- a path of numbers in their ranges that refusals 6 to 9 let pass
 pub promised : (path : Path) → pathInRange path ≡ true → NoneStands (pathCases path)
     → (r : Flow) (choices : ℕ → Flow) → Keeps (classOf (path .declaration)) r → AllFit path r choices → Promised path r choices
-unfolding capacityAt
+unfolding heldAt
 promised path inside none r choices kept fits =
     record {
       class-kept = λ k h. reached path inside none r choices kept fits k h .known .kept;
@@ -80,13 +80,13 @@ module _ (path : Path) (inside : pathInRange path ≡ true) (none : NoneStands (
   pub operator-inside : numberInRange (operatorAt path k) ≡ true
   operator-inside = passed-at path inside none k less .inside
 
-  pub operator-capacity-le : capacityAt path k ≤ largestAmount
-  unfolding capacityAt figureTooLarge
-  operator-capacity-le =
+  pub operator-held-le : heldAt path k ≤ largestAmount
+  unfolding heldAt figureTooLarge
+  operator-held-le =
       let (operators, wanted) = none-of-each (operatorsCases path (length (path .operators))) _ none in
       let stands = none-at path (length (path .operators)) operators k less in
-      ltb-false largestAmount (capacity (before path k) (operatorAt path k))
-      (either-false (ltb largestChangedQuota (quotaBehind (before path k) (operatorAt path k))) (ltb largestAmount (capacity (before path k) (operatorAt path k))) (stands .1 .0) .1)
+      ltb-false largestAmount (heldFigure (before path k) (operatorAt path k))
+      (either-false (ltb largestChangedQuota (quotaBehind (before path k) (operatorAt path k))) (ltb largestAmount (heldFigure (before path k) (operatorAt path k))) (stands .1 .0) .1)
 
 -- no refusal stands against an accepted sheet's fields, nor against its path
 pub accepted-none : (sheet : List ℕ) → figuresOf sheet .verdict ≡ Verdict.Accepted → NoneStands (sheetCases sheet) × NoneStands (pathCases (pathIn sheet))

@@ -16,7 +16,7 @@ use Rattle.operator.specs.Operators.{leastOutput, greatestOutput, heldAfter, nu
 use Rattle.flow.specs.Flows.{flowOf}
 use Rattle.operator.specs.OnFlows.{outputOn, heldOn, none}
 use Rattle.flow.specs.Rows.{smaller, withUnits, leastOf, noRows, behindRows, mostOfRows, unitsIn, rowsMost, rowCarried, rowsCarried, reach, greatestOf, rowsBurst}
-use Rattle.flow.specs.Classes.{mostIn, blocksMet, changedQuota, carries, burstAt}
+use Rattle.flow.specs.Classes.{mostDelayed, blocksMet, changedQuota, carries, burstAt}
 use Rattle.flow.specs.Declarations.{emptyRow, ofOneRow, ofSeveral, classOf}
 use Rattle.flow.specs.declared.DeclaredRow.{DeclaredRow}
 use Rattle.operator.specs.FilterPart.{slower}
@@ -27,8 +27,8 @@ use Rattle.operator.specs.declared.Operator.{Operator}
 use Rattle.operator.specs.declared.single.Stepped.{Stepped}
 use Rattle.sheet.specs.Paths.{Path}
 use Rattle.figures.specs.Progress.{behind, progressAt}
-use Rattle.figures.specs.Figures.{partCapacity, partDelay, capacity, ownDelay, pairs, isFramed, framedAfterFilter, quotaBehind, figureTooLarge, rateTooLow}
-use Rattle.figures.specs.Answers.{operatorAt, before, pairedAt, capacityAt, delayAt, pathDelay, operatorsCases, pathCases}
+use Rattle.figures.specs.Figures.{partHeld, partDelay, heldFigure, ownDelay, pairs, isFramed, framedAfterFilter, quotaBehind, figureTooLarge, rateTooLow}
+use Rattle.figures.specs.Answers.{operatorAt, before, pairedAt, heldAt, delayAt, pathDelay, operatorsCases, pathCases}
 
 -- a path of a kind's (m, Q), its delay wanted and its operators, all on link 0
 abbrev pub pathOf : Kind → ℕ → ℕ → ℕ → List Operator → Path
@@ -70,7 +70,7 @@ pub data Outcome : Type 0 where
 abbrev pub outcome : Path → Outcome
 outcome path =
     firstOf (pathCases path) (λ why. refused (refusalNumber why) (refusalPlace why))
-    (figures (listOf (capacityAt path) (length (path .operators))) (listOf (delayAt path) (length (path .operators))) (total (capacityAt path) (length (path .operators))) (pathDelay path))
+    (figures (listOf (heldAt path) (length (path .operators))) (listOf (delayAt path) (length (path .operators))) (total (heldAt path) (length (path .operators))) (pathDelay path))
 
 -- a new filter 2's first step, of input 5
 abbrev pub stepOutcome : Stepped → Outcome
@@ -145,5 +145,5 @@ expected =
     ∷ []
 
 pub reference-paths : computed ≡ expected
-unfolding computed expected frames camera twoRows smaller withUnits leastOf noRows behindRows mostOfRows unitsIn rowsMost rowCarried rowsCarried reach greatestOf rowsBurst classOf carries burstAt changedQuota roundUp total every listOf inRange keeps compactorLeast compactorAfter besideAfter filterLeast filterGreatest filterAfter ofAge olderThan staysOf delayerLeast delayerAfter leastOutput greatestOutput heldAfter numberInRange outputOn heldOn mostIn euclid gcd blocksMet slower Single.stepOf Single.sent Single.holdsNext Single.choiceAbove Single.leavesTooMuch Single.stateNext Single.holds Single.usesHeld Single.usesBeside Single.wordsUsed storedFits wordFits Single.storedUnusable Single.unusable behind progressAt partCapacity partDelay capacity ownDelay pairs isFramed framedAfterFilter quotaBehind figureTooLarge rateTooLow operatorAt before pairedAt capacityAt delayAt pathDelay operatorsCases
+unfolding computed expected frames camera twoRows smaller withUnits leastOf noRows behindRows mostOfRows unitsIn rowsMost rowCarried rowsCarried reach greatestOf rowsBurst classOf carries burstAt changedQuota roundUp total every listOf inRange keeps compactorLeast compactorAfter besideAfter filterLeast filterGreatest filterAfter ofAge olderThan staysOf delayerLeast delayerAfter leastOutput greatestOutput heldAfter numberInRange outputOn heldOn mostDelayed euclid gcd blocksMet slower Single.stepOf Single.sent Single.holdsNext Single.choiceAbove Single.leavesTooMuch Single.stateNext Single.holds Single.usesHeld Single.usesBeside Single.wordsUsed storedFits wordFits Single.storedUnusable Single.unusable behind progressAt partHeld partDelay heldFigure ownDelay pairs isFramed framedAfterFilter quotaBehind figureTooLarge rateTooLow operatorAt before pairedAt heldAt delayAt pathDelay operatorsCases
 reference-paths = refl

@@ -9,13 +9,13 @@ use Rattle.quantity.specs.Limits.{largestAmount}
 use Rattle.quantity.specs.Ranges.{intervalRange}
 use Rattle.quantity.specs.declared.Interval.{Interval}
 use Rattle.flow.specs.Rows.{Row}
-use Rattle.flow.specs.Classes.{rows, mostIn, changedQuota}
+use Rattle.flow.specs.Classes.{rows, mostDelayed, changedQuota}
 use Rattle.operator.specs.FilterPart.{Slowest, unfiltered, filtered}
 use Rattle.operator.specs.Operators.{numberInRange}
 use Rattle.operator.specs.declared.Operator.{Operator}
 use Rattle.operator.specs.declared.Operator.the-variants.{Limiter, Compactor, Expander, Filter, Delayer}
 use Rattle.figures.specs.Progress.{Progress, behind}
-use Rattle.figures.specs.Figures.{partCapacity, capacityOfPart, capacity, quotaBehind, figureTooLarge, largestChangedQuota}
+use Rattle.figures.specs.Figures.{partHeld, heldOfPart, heldFigure, quotaBehind, figureTooLarge, largestChangedQuota}
 use Rattle.flow.specs.Bounds.{ClassWithin}
 use Rattle.figures.specs.Carried.{RateWithin, Within, mostBefore, mostWith}
 use Rattle.flow.proofs.ClassBounds.{rows-most-bound, burst-bound}
@@ -28,13 +28,13 @@ module _ (given : ℕ → Row) (k : ℕ) (inside : ClassWithin (rows given k)) w
   changed-small n short = omega (arith, rows-most-bound given k n (inside .0) (inside .2) short)
 
   -- the capacity of a filter part
-  part-small : (e : ℕ) (P : Slowest) → e ≤ mostWith → RateWithin P → partCapacity (rows given k) e P ≤ largestAmount
-  unfolding partCapacity mostIn
+  part-small : (e : ℕ) (P : Slowest) → e ≤ mostWith → RateWithin P → partHeld (rows given k) e P ≤ largestAmount
+  unfolding partHeld mostDelayed
   part-small e unfiltered short rate = omega (arith, rows-most-bound given k e (inside .0) (inside .2) short)
   part-small e (filtered P) short (positive, slow) = omega (arith, burst-bound (rows given k) P inside, mul-le-mul short slow)
 
 module _ (given : ℕ → Row) (k : ℕ) (p : Progress) (several : p .class ≡ rows given k) where
-  part-of-rows : Within mostWith p → capacityOfPart p ≤ largestAmount
+  part-of-rows : Within mostWith p → heldOfPart p ≤ largestAmount
   part-of-rows within = rw several (part-small given k (subst ClassWithin several (within .class)) (p .e) (p .slowest) (within .e) (within .slowest))
 
   changed-of-rows : (n : Interval) → Within mostBefore p → numberInRange (Compactor n) ≡ true → changedQuota (n .0) (p .class) ≤ largestChangedQuota
@@ -50,14 +50,14 @@ module _ (given : ℕ → Row) (k : ℕ) (p : Progress) (several : p .class ≡ 
   quota-small (Filter R) inside = omega arith
   quota-small (Delayer d) inside = omega arith
 
-  capacity-small : (op : Operator) → numberInRange op ≡ true → capacity p op ≤ largestAmount
-  unfolding capacity behind numberInRange
-  capacity-small (Limiter R) inside = omega (arith, burst-bound (p .class) (R .0) (within .class))
-  capacity-small (Compactor n) inside = omega (arith, changed-of-rows given k p several n within inside)
-  capacity-small (Expander n) inside = omega (arith, changed-of-rows given k p several n within inside)
-  capacity-small (Filter R) inside = part-of-rows given k (behind p (Filter R)) several (filter-within p R within inside)
-  capacity-small (Delayer d) inside = part-of-rows given k (behind p (Delayer d)) several (delayer-within p d within inside)
+  held-small : (op : Operator) → numberInRange op ≡ true → heldFigure p op ≤ largestAmount
+  unfolding heldFigure behind numberInRange
+  held-small (Limiter R) inside = omega (arith, burst-bound (p .class) (R .0) (within .class))
+  held-small (Compactor n) inside = omega (arith, changed-of-rows given k p several n within inside)
+  held-small (Expander n) inside = omega (arith, changed-of-rows given k p several n within inside)
+  held-small (Filter R) inside = part-of-rows given k (behind p (Filter R)) several (filter-within p R within inside)
+  held-small (Delayer d) inside = part-of-rows given k (behind p (Delayer d)) several (delayer-within p d within inside)
 
   pub rows-never-too-large : (op : Operator) → numberInRange op ≡ true → figureTooLarge p op ≡ false
   unfolding figureTooLarge
-  rows-never-too-large op inside = rw (le-ltb _ _ (quota-small op inside), le-ltb _ _ (capacity-small op inside))
+  rows-never-too-large op inside = rw (le-ltb _ _ (quota-small op inside), le-ltb _ _ (held-small op inside))

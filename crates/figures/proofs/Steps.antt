@@ -22,7 +22,7 @@ use Rattle.operator.specs.declared.Operator.the-variants.{Limiter, Compactor, E
 use Rattle.flow.proofs.Laws as Flows
 use Rattle.operator.proofs.Laws as Laws
 use Rattle.figures.specs.Progress.{Progress, start, behind}
-use Rattle.figures.specs.Figures.{partDelay, delayOfPart, capacity, ownDelay, pairs, isFramed, framedAfterFilter, rateTooLow}
+use Rattle.figures.specs.Figures.{partDelay, delayOfPart, heldFigure, ownDelay, pairs, isFramed, framedAfterFilter, rateTooLow}
 use Rattle.figures.proofs.Part.{Carries, slower-carries, delay-le-slower, delay-le-longer, part-held, part-beside}
 
 -- what is known before an operator, of the flow g that the class is of and the flow f into the operator
@@ -50,8 +50,8 @@ pub record Passed (p : Progress) (op : Operator) : Type 0 where
 -- what an operator does with choices c
 pub record Step (p : Progress) (op : Operator) (g f c : Flow) : Type 0 where
   pub known : Known (behind p op) (pick (isFramed op) (outputOn op f c) g) (outputOn op f c)
-  pub held : (n : ℕ) → heldOn op f c n .b ≤ capacity p op
-  pub beside : (n : ℕ) → heldOn op f c n .h ≤ capacity p op
+  pub held : (n : ℕ) → heldOn op f c n .b ≤ heldFigure p op
+  pub beside : (n : ℕ) → heldOn op f c n .h ≤ heldFigure p op
   pub timed : (r : Flow) (D : ℕ) (next : Operator) (pair : Bool) → (pair ≡ true → pairs op next ≡ true) → Timed r p op g f D
       → Timed r (behind p op) next (pick (isFramed op) (outputOn op f c) g) (outputOn op f c) (D + ownDelay p op pair)
 
@@ -96,7 +96,7 @@ module _ (p : Progress) (g f c : Flow) (known : Known p g f) where
         rw (← all, ← known .plain before .1) late
 
   step-limiter : (R : Rate) → Passed p (Limiter R) → Fitting (Limiter R) f c → Step p (Limiter R) g f c
-  unfolding behind capacity ownDelay pairs isFramed framedAfterFilter rateTooLow numberInRange
+  unfolding behind heldFigure ownDelay pairs isFramed framedAfterFilter rateTooLow numberInRange
   step-limiter R passed fits =
       let output = outputOn (Limiter R) f c in
       let before = not-in-part (p .inFilterPart) (passed .placed) in
@@ -119,7 +119,7 @@ module _ (p : Progress) (g f c : Flow) (known : Known p g f) where
       timed-start r q next _ _ (Flows.in-time-add D (n .0) r f (outputOn (Expander n) f c) late (Laws.expander-in-time (n .0) f c large fits))
 
   step-expander : (n : Interval) → Passed p (Expander n) → Fitting (Expander n) f c → Step p (Expander n) g f c
-  unfolding behind capacity ownDelay pairs isFramed framedAfterFilter numberInRange
+  unfolding behind heldFigure ownDelay pairs isFramed framedAfterFilter numberInRange
   step-expander n passed fits =
       let output = outputOn (Expander n) f c in
       let Q = changedQuota (n .0) (p .class) in
@@ -146,7 +146,7 @@ module _ (p : Progress) (g f c : Flow) (known : Known p g f) where
       (rw (← into) (Laws.pair-in-time (n .0) s e c large (rw interval at first) (rw into fits)))
 
   step-compactor : (n : Interval) → Passed p (Compactor n) → Fitting (Compactor n) f c → Step p (Compactor n) g f c
-  unfolding behind capacity ownDelay isFramed framedAfterFilter numberInRange
+  unfolding behind heldFigure ownDelay isFramed framedAfterFilter numberInRange
   step-compactor n passed fits =
       let output = outputOn (Compactor n) f c in
       let Q = changedQuota (n .0) (p .class) in
@@ -175,7 +175,7 @@ module _ (p : Progress) (g f c : Flow) (known : Known p g f) where
       }
 
   step-filter : (R : Rate) → Passed p (Filter R) → Fitting (Filter R) f c → Step p (Filter R) g f c
-  unfolding behind capacity ownDelay pairs isFramed rateTooLow numberInRange
+  unfolding behind heldFigure ownDelay pairs isFramed rateTooLow numberInRange
   step-filter R passed fits =
       let output = outputOn (Filter R) f c in
       let enough = slower-carries (p .slowest) (R .0) (p .class) (known .carries) (above-least rateRange (R .0) (passed .inside)) (not-false (carries (p .class) (R .0)) (passed .rated)) in
@@ -190,7 +190,7 @@ module _ (p : Progress) (g f c : Flow) (known : Known p g f) where
       }
 
   step-delayer : (d : Delay) → Passed p (Delayer d) → Fitting (Delayer d) f c → Step p (Delayer d) g f c
-  unfolding behind capacity ownDelay pairs isFramed
+  unfolding behind heldFigure ownDelay pairs isFramed
   step-delayer d passed fits =
       let output = outputOn (Delayer d) f c in
       let served = Laws.served-delayer (p .slowest) (p .e) (d .0) g f c (known .served) fits in

@@ -8,7 +8,7 @@ use Rattle.flow.specs.Classes.{Keeps}
 use Rattle.operator.specs.declared.Operator.{Operator}
 use Rattle.sheet.specs.Paths.{Path}
 use Rattle.figures.specs.Figures.{isFramed}
-use Rattle.figures.specs.Answers.{operatorAt, before, capacityAt, pathDelay}
+use Rattle.figures.specs.Answers.{operatorAt, before, heldAt, pathDelay}
 
 -- the flow into operator k, of an input flow and a flow of choices for each operator: the output of each is the input of the next in the same slot
 unfoldable pub flowInto : (ℕ → Operator) → Flow → (ℕ → Flow) → ℕ → Flow
@@ -30,7 +30,7 @@ module _ (path : Path) (r : Flow) (choices : ℕ → Flow) where
     -- the class before operator k is kept by the flow that it is of: the flow there, and inside a filter part the flow into the part
     pub class-kept : (k : ℕ) → k ≤ length (path .operators) → Keeps (before path k .class) (flowOfClass (operatorAt path) r choices k)
     -- no operator holds more than its capacity at any slot's end, nor a filter's h
-    pub held-within : (k : ℕ) → k < length (path .operators) → (n : ℕ) → heldOn (operatorAt path k) (flowInto (operatorAt path) r choices k) (choices k) n .b ≤ capacityAt path k
-    pub beside-within : (k : ℕ) → k < length (path .operators) → (n : ℕ) → heldOn (operatorAt path k) (flowInto (operatorAt path) r choices k) (choices k) n .h ≤ capacityAt path k
+    pub held-within : (k : ℕ) → k < length (path .operators) → (n : ℕ) → heldOn (operatorAt path k) (flowInto (operatorAt path) r choices k) (choices k) n .b ≤ heldAt path k
+    pub beside-within : (k : ℕ) → k < length (path .operators) → (n : ℕ) → heldOn (operatorAt path k) (flowInto (operatorAt path) r choices k) (choices k) n .h ≤ heldAt path k
     -- what entered by the end of slot i has left the last operator by the end of slot i + delay
     pub in-time : InTime (pathDelay path) r (flowInto (operatorAt path) r choices (length (path .operators)))

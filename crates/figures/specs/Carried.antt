@@ -31,7 +31,7 @@ use Rattle.figures.specs.declared.carried.LeastRate.the-variants.{NoFilt
 use Rattle.figures.specs.declared.carried.Carried.{Carried}
 use Rattle.figures.specs.declared.each.Planned.{Planned}
 use Rattle.figures.specs.Progress.{Progress, behind}
-use Rattle.figures.specs.Figures.{capacity, ownDelay, framedAfterFilter, figureTooLarge, rateTooLow}
+use Rattle.figures.specs.Figures.{heldFigure, ownDelay, framedAfterFilter, figureTooLarge, rateTooLow}
 
 -- the class: where it is of rows, those of the declaration
 abbrev pub classIn : Declaration → FlowClass → Class
@@ -88,7 +88,7 @@ casesOf p op k = (framedAfterFilter p op ⇒ FramedAfterFilter k) ∷ (figureToo
 
 -- its figure
 abbrev pub figureOf : Progress → Operator → Bool → Figure
-figureOf p op paired = record { capacity = record { 0 = capacity p op }; delay = record { 0 = ownDelay p op paired } }
+figureOf p op paired = record { capacity = record { 0 = heldFigure p op }; delay = record { 0 = ownDelay p op paired } }
 
 -- what is said of an operator: a figure, or a refusal
 pub data Outcome : Type 0 where

@@ -5,16 +5,16 @@ use lib.Dec.{ltb, eqb}
 use Rattle.quantity.specs.Choice.{pick, either}
 use Rattle.quantity.specs.Rounding.{roundUp}
 use Rattle.quantity.specs.Limits.{largestAmount}
-use Rattle.flow.specs.Classes.{Class, mostIn, changedQuota, carries, burstAt}
+use Rattle.flow.specs.Classes.{Class, mostDelayed, changedQuota, carries, burstAt}
 use Rattle.operator.specs.FilterPart.{Slowest, unfiltered, filtered}
 use Rattle.operator.specs.declared.Operator.{Operator}
 use Rattle.operator.specs.declared.Operator.the-variants.{Limiter, Compactor, Expander, Filter, Delayer}
 use Rattle.figures.specs.Progress.{Progress, behind}
 
--- in the filter part, capacity is burst + e·P, the burst taken at P; with no filter so far it is the most of the class in e slots
-unfoldable pub partCapacity : Class → ℕ → Slowest → ℕ
-partCapacity c e unfiltered = mostIn c e
-partCapacity c e (filtered P) = burstAt c P + e * P
+-- in the filter part, the held figure is burst + e·P, the burst taken at P; with no filter so far it is the most of the class in e slots
+unfoldable pub partHeld : Class → ℕ → Slowest → ℕ
+partHeld c e unfiltered = mostDelayed c e
+partHeld c e (filtered P) = burstAt c P + e * P
 
 -- the delay of the part is ⌈burst/P⌉ (0 without a filter) + e
 unfoldable pub partDelay : Class → ℕ → Slowest → ℕ
@@ -22,19 +22,19 @@ partDelay c e unfiltered = e
 partDelay c e (filtered P) = roundUp (burstAt c P) P + e
 
 -- of the part up to and with the operators that a progress counts
-abbrev pub capacityOfPart : Progress → ℕ
-capacityOfPart p = partCapacity (p .class) (p .e) (p .slowest)
+abbrev pub heldOfPart : Progress → ℕ
+heldOfPart p = partHeld (p .class) (p .e) (p .slowest)
 
 abbrev pub delayOfPart : Progress → ℕ
 delayOfPart p = partDelay (p .class) (p .e) (p .slowest)
 
--- an operator's capacity
-unfoldable pub capacity : Progress → Operator → ℕ
-capacity p (Limiter R) = burstAt (p .class) (R .0)
-capacity p (Compactor n) = changedQuota (n .0) (p .class)
-capacity p (Expander n) = changedQuota (n .0) (p .class)
-capacity p (Filter R) = capacityOfPart (behind p (Filter R))
-capacity p (Delayer d) = capacityOfPart (behind p (Delayer d))
+-- an operator's held figure
+unfoldable pub heldFigure : Progress → Operator → ℕ
+heldFigure p (Limiter R) = burstAt (p .class) (R .0)
+heldFigure p (Compactor n) = changedQuota (n .0) (p .class)
+heldFigure p (Expander n) = changedQuota (n .0) (p .class)
+heldFigure p (Filter R) = heldOfPart (behind p (Filter R))
+heldFigure p (Delayer d) = heldOfPart (behind p (Delayer d))
 
 -- an operator's own delay; `paired` is whether the next operator is a compactor of its interval
 unfoldable pub ownDelay : Progress → Operator → Bool → ℕ
@@ -83,9 +83,9 @@ quotaBehind p (Expander n) = changedQuota (n .0) (p .class)
 quotaBehind p (Filter R) = 0
 quotaBehind p (Delayer d) = 0
 
--- 7: a changed quota is above 67,108,863, or a capacity above 1,073,741,823
+-- 7: a changed quota is above 67,108,863, or a held figure above 1,073,741,823
 unfoldable pub figureTooLarge : Progress → Operator → Bool
-figureTooLarge p op = either (ltb largestChangedQuota (quotaBehind p op)) (ltb largestAmount (capacity p op))
+figureTooLarge p op = either (ltb largestChangedQuota (quotaBehind p op)) (ltb largestAmount (heldFigure p op))
 
 -- 8: a limiter or filter has Q above m·R, in every row
 unfoldable pub rateTooLow : Progress → Operator → Bool

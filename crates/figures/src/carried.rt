@@ -22,7 +22,7 @@ ghost use Rattle.flow.specs.Bounds.{ClassWithin};
 ghost use Rattle.operator.specs.Operators.{numberInRange};
 ghost use Rattle.operator.specs.declared.Operator.the-variants.{Filter};
 ghost use Rattle.figures.specs.Progress.{start, behind};
-ghost use Rattle.figures.specs.Figures.{capacityOfPart};
+ghost use Rattle.figures.specs.Figures.{heldOfPart};
 ghost use Rattle.figures.specs.Carried.{classIn, slowestIn, progressIn, Lent, BurstKept, slotsKept, Ready, mostBefore, mostWith};
 ghost use Rattle.figures.specs.declared.carried.LeastRate.the-variants.{NoFilter};
 
@@ -143,9 +143,9 @@ pub(crate) fn behind_delayer(carried: Carried, delay: Delay) -> Carried
 }
 
 // The capacity of the filter part so far.
-pub(crate) fn part_capacity(carried: Carried, declared: Declaration, bound: &[u32]) -> Units
+pub(crate) fn part_held(carried: Carried, declared: Declaration, bound: &[u32]) -> Units
     requires { ⌜ Ready mostWith declared (now bound) carried ⌝ }
-    ensures { λ r. ⌜ r .0 ≡ capacityOfPart (progressIn declared carried) ⌝ }
+    ensures { λ r. ⌜ r .0 ≡ heldOfPart (progressIn declared carried) ⌝ }
 {
     let class = carried.class;
     let slowest = carried.slowest;

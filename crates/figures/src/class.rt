@@ -15,7 +15,7 @@ ghost use mathlib.Core.List.{_∷_};
 ghost use lib.ListN.{length, getD};
 ghost use Rattle.quantity.specs.Rounding.{roundUp};
 ghost use Rattle.flow.specs.Rows.{rowCarried, reach, greatestOf};
-ghost use Rattle.flow.specs.Classes.{mostIn, blocksMet, changedQuota, carries, burstAt};
+ghost use Rattle.flow.specs.Classes.{mostDelayed, blocksMet, changedQuota, carries, burstAt};
 ghost use Rattle.flow.specs.Declarations.{emptyRow, rowOf};
 ghost use Rattle.flow.specs.Bounds.{ClassWithin};
 ghost use Rattle.figures.specs.Carried.{classIn, Lent};
@@ -134,7 +134,7 @@ fn entry(bound: &[u32], n: u32) -> u32
 // The most that the class carries in n neighbouring slots.
 pub(crate) fn most_in(class: FlowClass, declared: Declaration, bound: &[u32], n: Slots) -> Units
     requires { ⌜ ClassWithin (classIn declared class) × Lent (class .kind) declared (now bound) × (n .0 ≤ 1_024) ⌝ }
-    ensures { λ r. ⌜ r .0 ≡ mostIn (classIn declared class) (n .0) ⌝ }
+    ensures { λ r. ⌜ r .0 ≡ mostDelayed (classIn declared class) (n .0) ⌝ }
 {
     let kind = class.kind;
     match kind {

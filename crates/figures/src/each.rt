@@ -6,7 +6,7 @@ use crate::carried::LeastRate;
 use crate::carried::behind_delayer;
 use crate::carried::behind_filter;
 use crate::carried::framed;
-use crate::carried::part_capacity;
+use crate::carried::part_held;
 use crate::carried::sending;
 use crate::class::burst_at;
 use crate::class::carried_by;
@@ -163,7 +163,7 @@ fn plan_filter(
     ensures { λ r. ⌜ PlannedAs declared (now (bound .entry)) (progressIn declared carried) (Filter rate) false k r ⌝ }
 {
     let after = behind_filter(carried, declared, bound, rate);
-    let most = part_capacity(after, declared, bound);
+    let most = part_held(after, declared, bound);
     if Units::LARGEST < most.0 {
         return Planned::Refused(Refusal::FigureTooLarge(k));
     }
@@ -192,7 +192,7 @@ fn plan_delayer(
     ensures { λ r. ⌜ PlannedAs declared (now (bound .entry)) (progressIn declared carried) (Delayer delay) false k r ⌝ }
 {
     let after = behind_delayer(carried, delay);
-    let most = part_capacity(after, declared, bound);
+    let most = part_held(after, declared, bound);
     if Units::LARGEST < most.0 {
         return Planned::Refused(Refusal::FigureTooLarge(k));
     }

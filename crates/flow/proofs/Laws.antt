@@ -10,7 +10,7 @@ use Rattle.quantity.specs.Sums.{total}
 use Rattle.quantity.specs.Rounding.{roundUp}
 use Rattle.quantity.specs.Divisors.{Divides}
 use Rattle.flow.specs.Flows.{Flow, flowOf, Smooth, Uniform, InTime, Envelope}
-use Rattle.flow.specs.Classes.{Class, Positive, Keeps, mostIn, blocksMet, changedQuota, changedTo, carries, burstAt}
+use Rattle.flow.specs.Classes.{Class, Positive, Keeps, mostDelayed, blocksMet, changedQuota, changedTo, carries, burstAt}
 use Rattle.flow.specs.Keeping.{keepsClass}
 use Rattle.flow.specs.Rows.{Row, KeepsRows, units, mostOfRows, rowsMost, rowCarried, rowsCarried, reach, greatestOf, rowsBurst}
 use Rattle.flow.proofs.Windows as Windows
@@ -32,7 +32,7 @@ pub uniform-is-smooth : (m Q : ℕ) (r : Flow) → Uniform m Q r → Smooth m Q 
 uniform-is-smooth = Windows.uniform-is-smooth
 
 -- no window of n slots has more than the most that the class carries in n slots
-pub window : (c : Class) (r : Flow) → Positive c → Keeps c r → (a n : ℕ) → total r (a + n) ≤ total r a + mostIn c n
+pub window : (c : Class) (r : Flow) → Positive c → Keeps c r → (a n : ℕ) → total r (a + n) ≤ total r a + mostDelayed c n
 window = Windows.window
 
 -- the flow keeps the changed class

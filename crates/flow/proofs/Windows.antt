@@ -12,7 +12,7 @@ use Rattle.quantity.proofs.Sums.{total-le}
 use Rattle.quantity.proofs.Rounding.{round-up-enough, round-up-least}
 use Rattle.quantity.proofs.Divisors.{divides-multiple, divides-mod, multiples-apart, gcd-divides-left, gcd-divides-right}
 use Rattle.flow.specs.Flows.{Flow, Smooth, Uniform, Envelope}
-use Rattle.flow.specs.Classes.{Class, smooth, uniform, rows, Positive, Keeps, mostIn, blocksMet, changedQuota, changedTo, carries, burstAt}
+use Rattle.flow.specs.Classes.{Class, smooth, uniform, rows, Positive, Keeps, mostDelayed, blocksMet, changedQuota, changedTo, carries, burstAt}
 use Rattle.flow.proofs.RowsWindows.{rows-window}
 use Rattle.flow.proofs.RowsBurst.{rows-envelope-of, rows-burst-falls}
 
@@ -70,8 +70,8 @@ rounded-le m Q R n large slow =
 
 -- Each law by the class.
 
-pub window : (c : Class) (r : Flow) → Positive c → Keeps c r → (a n : ℕ) → total r (a + n) ≤ total r a + mostIn c n
-unfolding mostIn
+pub window : (c : Class) (r : Flow) → Positive c → Keeps c r → (a n : ℕ) → total r (a + n) ≤ total r a + mostDelayed c n
+unfolding mostDelayed
 window (smooth m Q) r large keeps = smooth-window-le m Q r large keeps
 window (uniform m Q) r large keeps = uniform-window-le m Q r large keeps
 window (rows given k) r large keeps = rows-window given k (large .0) (large .1) r keeps

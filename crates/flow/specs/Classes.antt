@@ -27,10 +27,10 @@ Keeps (uniform m Q) r = Uniform m Q r
 Keeps (rows given k) r = KeepsRows given k r
 
 -- the most that the class carries in n neighbouring slots: (⌈n/m⌉+1)·Q for smooth, ⌈n/m⌉·Q for uniform, the bound for rows
-unfoldable pub mostIn : Class → ℕ → ℕ
-mostIn (smooth m Q) n = (roundUp n m + 1) * Q
-mostIn (uniform m Q) n = roundUp n m * Q
-mostIn (rows given k) n = rowsMost given k n
+unfoldable pub mostDelayed : Class → ℕ → ℕ
+mostDelayed (smooth m Q) n = (roundUp n m + 1) * Q
+mostDelayed (uniform m Q) n = roundUp n m * Q
+mostDelayed (rows given k) n = rowsMost given k n
 
 -- how many blocks of m slots a block of n slots meets at the most: it begins at a multiple of the greatest common divisor within its block of m, so at m less that at the most
 unfoldable pub blocksMet : ℕ → ℕ → ℕ

@@ -7,7 +7,7 @@ use lib.ListN.{replicate, set}
 use Rattle.quantity.specs.Sums.{total, every, listOf}
 use Rattle.quantity.specs.Rounding.{roundUp}
 use Rattle.quantity.specs.Divisors.{euclid, gcd}
-use Rattle.flow.specs.Classes.{mostIn, blocksMet, changedQuota, carries, burstAt}
+use Rattle.flow.specs.Classes.{mostDelayed, blocksMet, changedQuota, carries, burstAt}
 use Rattle.flow.specs.Declarations.{rowCount, rowAt, lastRow, rowInRange, declarationInRange, rowsInOrder, cleared, classOf}
 use Rattle.operator.specs.Operators.{numberInRange}
 use Rattle.operator.specs.FilterPart.{slower}
@@ -17,8 +17,8 @@ use Rattle.sheet.specs.Fields.{bodyAt, fieldMissing, headerCutOff, fieldUnexpec
 use Rattle.sheet.specs.Forms.{inFull, standsFor, valueOfPath}
 use Rattle.sheet.specs.Sheets.{inRowsForm, rowsGiven, firstFormat, declaredIn, declarationCases, wantedAt, furtherCases, inHouseForm, sheetCases, operatorsFrom, fieldsPath, valueIn, pathIn}
 use Rattle.figures.specs.Progress.{behind, progressAt}
-use Rattle.figures.specs.Figures.{partCapacity, partDelay, capacity, ownDelay, pairs, isFramed, framedAfterFilter, quotaBehind, figureTooLarge, rateTooLow}
-use Rattle.figures.specs.Answers.{operatorAt, before, pairedAt, capacityAt, delayAt, pathDelay, operatorsCases}
+use Rattle.figures.specs.Figures.{partHeld, partDelay, heldFigure, ownDelay, pairs, isFramed, framedAfterFilter, quotaBehind, figureTooLarge, rateTooLow}
+use Rattle.figures.specs.Answers.{operatorAt, before, pairedAt, heldAt, delayAt, pathDelay, operatorsCases}
 use Rattle.quantity.specs.Ranges.{inRange}
 use Rattle.quantity.specs.Refusals.{refusalNumber, refusalPlace}
 use Rattle.sheet.specs.declared.read.Verdict.{Verdict}
@@ -199,9 +199,9 @@ sheet = 1 ∷ 0 ∷ 7 ∷ 0 ∷ 0 ∷ 10 ∷ 0 ∷ 0 ∷ 0 ∷ 31 ∷ 2 ∷ 0 �
 
 pub reference-holding : holdingOf (links-of 1000 0 (totals-of 0 0 0)) (replicate 64 noRecord) 17 sheet
     ≡ record { verdict = Verdict.Accepted; ledger = links-of 1000 1 (totals-of 0 0 4); rate = record { 0 = 4 }; delay = record { 0 = 10 } }
-unfolding roundUp euclid gcd total every listOf inRange valueOfBytes part rowCount rowAt lastRow rowInRange declarationInRange rowsInOrder cleared inRowsForm rowsGiven firstFormat declaredIn declarationCases wantedAt numberInRange declarationIn declarationFits wantedIn wantedFits operatorOf operatorIn operatorInRange operatorFits bodyAt fieldMissing headerCutOff fieldUnexpected bodyCutOff bodyOutOfRange furtherCases inHouseForm sheetCases operatorsFrom fieldsPath valueIn valueOfPath standsFor inFull pathIn carries burstAt mostIn blocksMet classOf slower behind progressAt partCapacity partDelay capacity ownDelay pairs isFramed framedAfterFilter changedQuota quotaBehind figureTooLarge rateTooLow operatorAt before pairedAt capacityAt delayAt pathDelay operatorsCases rateOf namesLink rateOn bitsOf linksOf recordOf ledgerFull linkShort acceptedHolding refusedHolding holdingOf recordsHeld stands ledgerUnusable capacitiesFit recordFits recordInRange recordClear linkFits totalKept reserved share hasLink allDiffer among
+unfolding roundUp euclid gcd total every listOf inRange valueOfBytes part rowCount rowAt lastRow rowInRange declarationInRange rowsInOrder cleared inRowsForm rowsGiven firstFormat declaredIn declarationCases wantedAt numberInRange declarationIn declarationFits wantedIn wantedFits operatorOf operatorIn operatorInRange operatorFits bodyAt fieldMissing headerCutOff fieldUnexpected bodyCutOff bodyOutOfRange furtherCases inHouseForm sheetCases operatorsFrom fieldsPath valueIn valueOfPath standsFor inFull pathIn carries burstAt mostDelayed blocksMet classOf slower behind progressAt partHeld partDelay heldFigure ownDelay pairs isFramed framedAfterFilter changedQuota quotaBehind figureTooLarge rateTooLow operatorAt before pairedAt heldAt delayAt pathDelay operatorsCases rateOf namesLink rateOn bitsOf linksOf recordOf ledgerFull linkShort acceptedHolding refusedHolding holdingOf recordsHeld stands ledgerUnusable capacitiesFit recordFits recordInRange recordClear linkFits totalKept reserved share hasLink allDiffer among
 reference-holding = refl
 
 pub reference-held : recordsHeld (links-of 1000 0 (totals-of 0 0 0)) (replicate 64 noRecord) 17 sheet ≡ (entry 17 4 4 ∷ replicate 63 noRecord)
-unfolding roundUp euclid gcd total every listOf inRange valueOfBytes part rowCount rowAt lastRow rowInRange declarationInRange rowsInOrder cleared inRowsForm rowsGiven firstFormat declaredIn declarationCases wantedAt numberInRange declarationIn declarationFits wantedIn wantedFits operatorOf operatorIn operatorInRange operatorFits bodyAt fieldMissing headerCutOff fieldUnexpected bodyCutOff bodyOutOfRange furtherCases inHouseForm sheetCases operatorsFrom fieldsPath valueIn valueOfPath standsFor inFull pathIn carries burstAt mostIn blocksMet classOf slower behind progressAt partCapacity partDelay capacity ownDelay pairs isFramed framedAfterFilter changedQuota quotaBehind figureTooLarge rateTooLow operatorAt before pairedAt capacityAt delayAt pathDelay operatorsCases rateOf namesLink rateOn bitsOf linksOf recordOf ledgerFull linkShort acceptedHolding refusedHolding holdingOf recordsHeld stands ledgerUnusable capacitiesFit recordFits recordInRange recordClear linkFits totalKept reserved share hasLink allDiffer among
+unfolding roundUp euclid gcd total every listOf inRange valueOfBytes part rowCount rowAt lastRow rowInRange declarationInRange rowsInOrder cleared inRowsForm rowsGiven firstFormat declaredIn declarationCases wantedAt numberInRange declarationIn declarationFits wantedIn wantedFits operatorOf operatorIn operatorInRange operatorFits bodyAt fieldMissing headerCutOff fieldUnexpected bodyCutOff bodyOutOfRange furtherCases inHouseForm sheetCases operatorsFrom fieldsPath valueIn valueOfPath standsFor inFull pathIn carries burstAt mostDelayed blocksMet classOf slower behind progressAt partHeld partDelay heldFigure ownDelay pairs isFramed framedAfterFilter changedQuota quotaBehind figureTooLarge rateTooLow operatorAt before pairedAt heldAt delayAt pathDelay operatorsCases rateOf namesLink rateOn bitsOf linksOf recordOf ledgerFull linkShort acceptedHolding refusedHolding holdingOf recordsHeld stands ledgerUnusable capacitiesFit recordFits recordInRange recordClear linkFits totalKept reserved share hasLink allDiffer among
 reference-held = refl

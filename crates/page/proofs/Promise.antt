@@ -18,7 +18,7 @@ use Rattle.sheet.specs.Paths.{Path, linkAt}
 use Rattle.sheet.specs.Sheets.{sheetCases, valueIn, pathIn}
 use Rattle.figures.specs.declared.Figure.{Figure}
 use Rattle.figures.specs.declared.PathFigures.{PathFigures}
-use Rattle.figures.specs.Answers.{operatorAt, capacityAt, pathDelay, pathCases, figureAt, refusedFigures, acceptedFigures, figuresOf}
+use Rattle.figures.specs.Answers.{operatorAt, heldAt, pathDelay, pathCases, figureAt, refusedFigures, acceptedFigures, figuresOf}
 use Rattle.page.specs.declared.Paged.{Paged}
 use Rattle.page.specs.Columns.{Cell, charactersOf}
 use Rattle.page.specs.Pages.{widths, lineFeed, lineOf, pathName, operatorCells, pathCells, cellsAt, sumCells, rowsOf, pageOf}
@@ -94,7 +94,7 @@ module _ (sheet : List ℕ) (accepted : figuresOf sheet .verdict ≡ Verdict.Acc
   rows-sound =
       sound-append (listOf (cellsAt path) operators) (sumCells path ∷ [])
       (sound-list (cellsAt path) operators cells-sound)
-      (path-sound (total (capacityAt path) operators) (pathDelay path) (omega (arith, capacities-le sheet accepted operators (omega arith))) (path-delay-le sheet accepted), tt)
+      (path-sound (total (heldAt path) operators) (pathDelay path) (omega (arith, capacities-le sheet accepted operators (omega arith))) (path-delay-le sheet accepted), tt)
 
   -- every figure fits its column, the sums too
   pub figures-fit : (j : ℕ) → j < length (rowsOf path) → Fits widths (getD (rowsOf path) j [])
@@ -121,9 +121,9 @@ module _ (sheet : List ℕ) (accepted : figuresOf sheet .verdict ≡ Verdict.Acc
   unfolding entryAt entryOf columnAt cellsAt figureAt
   entries-read k less = entry-read k (operatorAt path k) (linkAt path k) (figureAt path k) (columns-cut k (omega arith) (row-at path k less))
 
-  path-read : (numberIn (columnAt page operators 3) ≡ total (capacityAt path) operators) × (numberIn (columnAt page operators 4) ≡ pathDelay path)
+  path-read : (numberIn (columnAt page operators 3) ≡ total (heldAt path) operators) × (numberIn (columnAt page operators 4) ≡ pathDelay path)
   unfolding columnAt sumCells
-  path-read = sums-read (total (capacityAt path) operators) (pathDelay path) (columns-cut operators (omega arith) (last-row path))
+  path-read = sums-read (total (heldAt path) operators) (pathDelay path) (columns-cut operators (omega arith) (last-row path))
 
   lines-counted : length page / lineLength ≡ operators + 1
   lines-counted = rw (line-length, page-length) (omega arith)

@@ -5,7 +5,7 @@ use Prim.Native.Nat.{ℕ}
 use Rattle.quantity.specs.Rounding.{roundUp}
 use Rattle.quantity.specs.Divisors.{euclid, gcd}
 use Rattle.quantity.specs.Sums.{total, listOf}
-use Rattle.flow.specs.Classes.{mostIn, blocksMet, changedQuota, carries, burstAt}
+use Rattle.flow.specs.Classes.{mostDelayed, blocksMet, changedQuota, carries, burstAt}
 use Rattle.flow.specs.Declarations.{ofOneRow, classOf}
 use Rattle.operator.specs.FilterPart.{slower}
 use Rattle.operator.specs.Operators.{limiter, compactor, expander, filter, delayer}
@@ -17,8 +17,8 @@ use Rattle.sheet.specs.Paths.{Path}
 use Rattle.sheet.specs.Bodies.{operatorByte}
 use Rattle.figures.specs.declared.Figure.{Figure}
 use Rattle.figures.specs.Progress.{behind, progressAt}
-use Rattle.figures.specs.Figures.{partCapacity, partDelay, capacity, ownDelay, pairs, isFramed}
-use Rattle.figures.specs.Answers.{operatorAt, before, pairedAt, capacityAt, delayAt, pathDelay, figureAt}
+use Rattle.figures.specs.Figures.{partHeld, partDelay, heldFigure, ownDelay, pairs, isFramed}
+use Rattle.figures.specs.Answers.{operatorAt, before, pairedAt, heldAt, delayAt, pathDelay, figureAt}
 use Rattle.page.specs.Columns.{text, number, digitsOf, decimal, column, columns}
 use Rattle.page.specs.Pages.{widths, lineOf, kindNames, pathName, operatorCells, pathCells, cellsAt, sumCells, rowsOf, linesOf, pageOf}
 use Rattle.page.specs.Reading.{widthOf, lineLength, lineAt, cut, columnAt, behindSpaces, numberIn, beforeSpaces, same, whichOf, kindIn, entryAt, readLines, readPage}
@@ -51,7 +51,7 @@ page-computed : readPage (pageOf frames) ≡ record {
   capacity = 120;
   delay = 30;
 }
-unfolding roundUp euclid gcd total listOf carries burstAt mostIn blocksMet changedQuota classOf slower withDigit withDigits valueOf operatorByte behind progressAt partCapacity partDelay capacity ownDelay pairs isFramed operatorAt before pairedAt capacityAt delayAt pathDelay figureAt digitsOf decimal column columns widths lineOf kindNames pathName operatorCells pathCells cellsAt sumCells rowsOf linesOf pageOf widthOf lineLength lineAt cut columnAt behindSpaces numberIn beforeSpaces same whichOf kindIn entryAt readLines readPage
+unfolding roundUp euclid gcd total listOf carries burstAt mostDelayed blocksMet changedQuota classOf slower withDigit withDigits valueOf operatorByte behind progressAt partHeld partDelay heldFigure ownDelay pairs isFramed operatorAt before pairedAt heldAt delayAt pathDelay figureAt digitsOf decimal column columns widths lineOf kindNames pathName operatorCells pathCells cellsAt sumCells rowsOf linesOf pageOf widthOf lineLength lineAt cut columnAt behindSpaces numberIn beforeSpaces same whichOf kindIn entryAt readLines readPage
 page-computed = refl
 
 -- the line of an operator of each kind, character by character

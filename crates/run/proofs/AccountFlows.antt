@@ -24,7 +24,7 @@ use Rattle.flow.proofs.Laws.{keeps-decided}
 use Rattle.operator.proofs.Laws.{least-le-greatest, whole-on, none-fits}
 use Rattle.sheet.specs.Paths.{Path}
 use Rattle.sheet.specs.Sheets.{pathInRange}
-use Rattle.figures.specs.Answers.{operatorAt, capacityAt, pathDelay, pathCases}
+use Rattle.figures.specs.Answers.{operatorAt, heldAt, pathDelay, pathCases}
 use Rattle.figures.specs.Along.{flowInto, AllFit, Promised}
 use Rattle.figures.proofs.Promise.{promised, declared-positive}
 use Rattle.run.specs.Calls.{Call, choiceFor}
@@ -42,8 +42,8 @@ pub record AccountKept (path : Path) (account : Account) : Type 0 where
   -- what entered by the end of slot i has left by the end of slot i + delay, wherever that slot was taken
   pub in-time : (i : ℕ) → i + pathDelay path < account .slot → total (flowOf (account .entered)) (suc i) ≤ total (flowOf (account .left)) (suc (i + pathDelay path))
   -- no operator holds more than its capacity, nor a filter's h
-  pub held-within : (k : ℕ) → k < length (path .operators) → account .held k .b ≤ capacityAt path k
-  pub beside-within : (k : ℕ) → k < length (path .operators) → account .held k .h ≤ capacityAt path k
+  pub held-within : (k : ℕ) → k < length (path .operators) → account .held k .b ≤ heldAt path k
+  pub beside-within : (k : ℕ) → k < length (path .operators) → account .held k .h ≤ heldAt path k
   -- a delayer's b is the sum of its past
   pub whole : (k : ℕ) → k < length (path .operators) → Whole (operatorAt path k) (account .held k)
 

@@ -31,7 +31,7 @@ use Rattle.meter.proofs.Metering.{sound-usable, sound-keeps}
 use Rattle.operator.proofs.SingleLaws.{stored-usable}
 use Rattle.operator.proofs.Stands.{stands-new, stands-usable}
 use Rattle.sheet.specs.Paths.{Path}
-use Rattle.figures.specs.Answers.{operatorAt, capacityAt}
+use Rattle.figures.specs.Answers.{operatorAt, heldAt}
 use Rattle.run.specs.declared.Run.{Run}
 use Rattle.run.specs.declared.slot.Outcome.{Outcome}
 use Rattle.run.specs.declared.slot.Slotted.{Slotted}
@@ -61,7 +61,7 @@ pub record Passes (path : Path) : Type 0 where
   pub ordered : rowsInOrder (path .declaration) ≡ true
   pub unused : unusedClear (path .declaration) ≡ true
   pub number : (k : ℕ) → k < length (path .operators) → numberInRange (operatorAt path k) ≡ true
-  pub capacity : (k : ℕ) → k < length (path .operators) → capacityAt path k ≤ largestAmount
+  pub capacity : (k : ℕ) → k < length (path .operators) → heldAt path k ≤ largestAmount
 
 module _ (path : Path) (passes : Passes path) (run : Run) (words : List ℕ) (account : Account) (joined : Joined path run words account) (kept : AccountKept path account) where
   -- a stage of the path is usable: what it stands for is within its capacity

@@ -21,8 +21,8 @@ use Rattle.sheet.specs.declared.read.Verdict.{Verdict}
 use Rattle.sheet.proofs.Accepted.{sheet-path, order-of-sheet, unused-of-sheet, never-accepted}
 use Rattle.figures.specs.declared.Figure.{Figure}
 use Rattle.figures.specs.declared.PathFigures.{PathFigures}
-use Rattle.figures.specs.Answers.{capacityAt, pathCases, figureAt, figureIn, noFigure, refusedFigures, acceptedFigures, figuresOf}
-use Rattle.figures.proofs.Promise.{accepted-figures, declared-positive, operator-inside, operator-capacity-le}
+use Rattle.figures.specs.Answers.{heldAt, pathCases, figureAt, figureIn, noFigure, refusedFigures, acceptedFigures, figuresOf}
+use Rattle.figures.proofs.Promise.{accepted-figures, declared-positive, operator-inside, operator-held-le}
 use Rattle.run.specs.declared.opening.Opened.{Opened}
 use Rattle.run.specs.declared.slot.Outcome.{Outcome}
 use Rattle.run.specs.Calls.{Call, choicesMiscounted, amountTooLarge}
@@ -114,11 +114,11 @@ module _ (sheet words : List ℕ) (accepted : openedOf sheet words .verdict ≡ 
         ordered = order-of-sheet sheet sheet-stands;
         unused = unused-of-sheet sheet sheet-stands;
         number = operator-inside value path-inside path-stands;
-        capacity = operator-capacity-le value path-inside path-stands;
+        capacity = operator-held-le value path-inside path-stands;
       }
 
   -- the capacity that `figures` answers is section 4's
-  capacity-answered : (k : ℕ) → k < length (value .operators) → getD (figuresOf sheet .figures) k noFigure .capacity .0 ≡ capacityAt value k
+  capacity-answered : (k : ℕ) → k < length (value .operators) → getD (figuresOf sheet .figures) k noFigure .capacity .0 ≡ heldAt value k
   unfolding figureIn figureAt
   capacity-answered k less =
       let few = passes .few in

@@ -2,7 +2,7 @@
 use borrow.Author.Needs.{needs}
 use native.Mathlib.Nat.{mul-le-mul}
 use native.Mathlib.Omega.{arith}
-use Rattle.flow.specs.Classes.{mostIn, changedQuota}
+use Rattle.flow.specs.Classes.{mostDelayed, changedQuota}
 use Rattle.flow.specs.Bounds.{PairWithin}
 use Rattle.figures.proofs.ClassLaws.{smooth-within}
 use Rattle.figures.proofs.class.changed_quota.Statement.{statement}
@@ -38,11 +38,11 @@ unfolding changedQuota
 returns c = rw (c .before .before .before .enum-told .given .1, c .before .blocks-met .ensures .0)
 
 returns-2 : tie.Need-returns-2
-unfolding changedQuota mostIn
+unfolding changedQuota mostDelayed
 returns-2 c = rw (c .most-in .ensures, c .before .enum-told2 .given .1)
 
 returns-3 : tie.Need-returns-3
-unfolding changedQuota mostIn
+unfolding changedQuota mostDelayed
 returns-3 c = rw (c .most-in2 .ensures, c .before .enum-told3 .given .1)
 
 pub changed-quota-spec : {M : Type 1} → statement M

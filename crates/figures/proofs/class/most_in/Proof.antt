@@ -4,7 +4,7 @@ use native.Mathlib.Nat.{mul-le-mul}
 use native.Mathlib.Omega.{arith}
 use mathlib.Core.Path.{_∙_}
 use Prim.Native.Nat.{_+_, _≤_}
-use Rattle.flow.specs.Classes.{mostIn}
+use Rattle.flow.specs.Classes.{mostDelayed}
 use Rattle.flow.specs.Bounds.{PairWithin}
 use Rattle.figures.proofs.Bounds.{round-up-at-most}
 use Rattle.figures.proofs.ClassLaws.{smooth-within, uniform-within, lent-rows, lent-length, lent-at}
@@ -76,19 +76,19 @@ wide-requires-5 : tie.Need-wide-requires-5
 wide-requires-5 c κs = search needs
 
 returns : tie.Need-returns
-unfolding mostIn
+unfolding mostDelayed
 returns c =
     let rounded = c .before .round-up .ensures in
     rw (c .before .before .before .before .enum-told .given .1, rounded, c .before .before .wide2 .ensures, c .before .before .before .wide .ensures)
 
 returns-2 : tie.Need-returns-2
-unfolding mostIn
+unfolding mostDelayed
 returns-2 c =
     let rounded = c .before .round-up2 .ensures in
     rw (c .before .before .before .before .enum-told2 .given .1, rounded, c .before .before .wide4 .ensures, c .before .before .before .wide3 .ensures)
 
 returns-3 : tie.Need-returns-3
-unfolding mostIn
+unfolding mostDelayed
 returns-3 c =
     let told = c .before .before in
     let s = told .before .before .before in

@@ -2,7 +2,7 @@
 use borrow.Author.Needs.{needs}
 use Rattle.operator.specs.Operators.{numberInRange}
 use Rattle.figures.specs.Progress.{behind}
-use Rattle.figures.specs.Figures.{capacity, ownDelay, isFramed, framedAfterFilter, quotaBehind, figureTooLarge, rateTooLow}
+use Rattle.figures.specs.Figures.{heldFigure, ownDelay, isFramed, framedAfterFilter, quotaBehind, figureTooLarge, rateTooLow}
 use Rattle.figures.specs.Carried.{plannedOf}
 use Rattle.figures.proofs.Bounds.{inside-of}
 use Rattle.figures.proofs.each.plan.Statement.{statement}
@@ -44,7 +44,7 @@ unfolding plannedOf ownDelay
 returns c = rw (c .before .before .operator .given .1) (record { answered = c .plan-limiter .ensures .answered; carried = c .plan-limiter .ensures .carried })
 
 returns-2 : tie.Need-returns-2
-unfolding plannedOf framedAfterFilter isFramed figureTooLarge quotaBehind capacity rateTooLow ownDelay behind
+unfolding plannedOf framedAfterFilter isFramed figureTooLarge quotaBehind heldFigure rateTooLow ownDelay behind
 returns-2 c = rw (c .before .before .operator2 .given .1) (record { answered = c .plan-frame .ensures .0; carried = c .plan-frame .ensures .1 })
 
 returns-3 : tie.Need-returns-3

@@ -7,7 +7,7 @@ use Rattle.operator.specs.Operators.{numberInRange}
 use Rattle.operator.specs.declared.Operator.the-variants.{Delayer}
 use Rattle.figures.specs.declared.carried.Carried.{Carried}
 use Rattle.figures.specs.Progress.{Progress, behind}
-use Rattle.figures.specs.Figures.{capacityOfPart, capacity, ownDelay, isFramed, quotaBehind, figureTooLarge, rateTooLow}
+use Rattle.figures.specs.Figures.{heldOfPart, heldFigure, ownDelay, isFramed, quotaBehind, figureTooLarge, rateTooLow}
 use Rattle.figures.specs.Carried.{progressIn, plannedOf}
 use Rattle.figures.proofs.Bounds.{delayer-ready, delayer-delay}
 use Rattle.figures.proofs.Tests.{placed}
@@ -15,11 +15,11 @@ use Rattle.figures.proofs.each.plan_delayer.Statement.{statement}
 use Rattle.figures.proofs.each.plan_delayer.Tie as tie
 
 -- its capacity is that of the part with it
-delayer-capacity : (c : tie.After-part-capacity) → let s = c .before .before .before in c .part-capacity .result .0 ≡ capacity (progressIn (s .args .declared) (s .args .carried)) (Delayer (s .args .delay))
-unfolding capacity behind
-delayer-capacity c =
+delayer-held : (c : tie.After-part-held) → let s = c .before .before .before in c .part-held .result .0 ≡ heldFigure (progressIn (s .args .declared) (s .args .carried)) (Delayer (s .args .delay))
+unfolding heldFigure behind
+delayer-held c =
     let declared = c .before .before .before .args .declared in
-    c .part-capacity .ensures ∙ ap (λ (after : Carried). capacityOfPart (progressIn declared after)) (c .before .behind-delayer .ensures)
+    c .part-held .ensures ∙ ap (λ (after : Carried). heldOfPart (progressIn declared after)) (c .before .behind-delayer .ensures)
 
 own-slots : (p : Progress) (d : Delay) → ownDelay p (Delayer d) false ≡ d .0
 unfolding ownDelay
@@ -29,14 +29,14 @@ behind-delayer-requires : tie.Need-behind-delayer-requires
 unfolding numberInRange
 behind-delayer-requires c κs = (c .before .pre .0 .within .e, c .before .pre .1)
 
-part-capacity-requires : tie.Need-part-capacity-requires
-part-capacity-requires c κs =
+part-held-requires : tie.Need-part-held-requires
+part-held-requires c κs =
     let s = c .before .before in
     rw (c .behind-delayer .ensures) (delayer-ready (s .args .carried) (s .args .delay) (s .pre .0) (s .pre .1))
 
 returns : tie.Need-returns
 unfolding plannedOf isFramed figureTooLarge quotaBehind
-returns c = record { answered = rw (placed _ (Delayer _) refl, ← delayer-capacity (c .before .before), lt-ltb _ _ (c .if1 .taken)); carried = tt }
+returns c = record { answered = rw (placed _ (Delayer _) refl, ← delayer-held (c .before .before), lt-ltb _ _ (c .if1 .taken)); carried = tt }
 
 returns-2 : tie.Need-returns-2
 unfolding plannedOf isFramed figureTooLarge quotaBehind rateTooLow behind
@@ -44,10 +44,10 @@ returns-2 c =
     let made = c .before .before in
     let ready = made .before .before .before .pre .0 in
     record {
-      answered = rw (placed _ (Delayer _) refl, ← delayer-capacity made, le-ltb _ _ (c .if1 .left), own-slots);
+      answered = rw (placed _ (Delayer _) refl, ← delayer-held made, le-ltb _ _ (c .if1 .left), own-slots);
       carried = rw (made .before .behind-delayer .ensures) (refl, ready .lent, ready .burst);
     }
 
 pub plan-delayer-spec : {M : Type 1} → statement M
 plan-delayer-spec =
-    tie.close (tie.spec behind-delayer-requires part-capacity-requires returns returns-2)
+    tie.close (tie.spec behind-delayer-requires part-held-requires returns returns-2)

@@ -4,7 +4,7 @@ use borrow.Author.Tests.{not-false, lt-ltb, le-ltb}
 use mathlib.Core.Path.{_≡_, refl, ap, sym, _∙_}
 use mathlib.Core.Bool.{false, not}
 use Rattle.operator.specs.declared.Operator.the-variants.{Filter}
-use Rattle.figures.specs.Figures.{capacityOfPart, capacity, ownDelay, isFramed, quotaBehind, figureTooLarge, rateTooLow}
+use Rattle.figures.specs.Figures.{heldOfPart, heldFigure, ownDelay, isFramed, quotaBehind, figureTooLarge, rateTooLow}
 use Rattle.figures.specs.Carried.{progressIn, plannedOf}
 use Rattle.figures.proofs.Bounds.{filter-own, filter-adds}
 use Rattle.figures.proofs.Tests.{placed}
@@ -12,9 +12,9 @@ use Rattle.figures.proofs.each.plan_filter.Statement.{statement}
 use Rattle.figures.proofs.each.plan_filter.Tie as tie
 
 -- its capacity is that of the part with it
-filter-capacity : (c : tie.After-part-capacity) → let s = c .before .before .before in c .part-capacity .result .0 ≡ capacity (progressIn (s .args .declared) (s .args .carried)) (Filter (s .args .rate))
-unfolding capacity
-filter-capacity c = c .part-capacity .ensures ∙ ap capacityOfPart (c .before .behind-filter .ensures .0)
+filter-held : (c : tie.After-part-held) → let s = c .before .before .before in c .part-held .result .0 ≡ heldFigure (progressIn (s .args .declared) (s .args .carried)) (Filter (s .args .rate))
+unfolding heldFigure
+filter-held c = c .part-held .ensures ∙ ap heldOfPart (c .before .behind-filter .ensures .0)
 
 -- its delay is what it adds to that of the part
 filter-delay : (c : tie.After-added) → let s = c .before .before .before .before .before .before .before .before .before in c .added .result .0 ≡ ownDelay (progressIn (s .args .declared) (s .args .carried)) (Filter (s .args .rate)) false
@@ -28,12 +28,12 @@ filter-delay c =
 behind-filter-requires : tie.Need-behind-filter-requires
 behind-filter-requires c κs = search needs
 
-part-capacity-requires : tie.Need-part-capacity-requires
-part-capacity-requires c κs = c .behind-filter .ensures .1
+part-held-requires : tie.Need-part-held-requires
+part-held-requires c κs = c .behind-filter .ensures .1
 
 returns : tie.Need-returns
 unfolding plannedOf isFramed figureTooLarge quotaBehind
-returns c = record { answered = rw (placed _ (Filter _) refl, ← filter-capacity (c .before .before), lt-ltb _ _ (c .if1 .taken)); carried = tt }
+returns c = record { answered = rw (placed _ (Filter _) refl, ← filter-held (c .before .before), lt-ltb _ _ (c .if1 .taken)); carried = tt }
 
 carried-by-requires : tie.Need-carried-by-requires
 carried-by-requires c κs = search needs
@@ -45,7 +45,7 @@ returns-2 c =
     record {
       answered = rw (
         placed _ (Filter _) refl,
-        ← filter-capacity (tested .before .before),
+        ← filter-held (tested .before .before),
         le-ltb _ _ (tested .if1 .left),
         ap not (sym (c .before .carried-by .ensures)) ∙ c .if2 .taken,
       );
@@ -69,7 +69,7 @@ returns-3 c =
     record {
       answered = rw (
         placed _ (Filter _) refl,
-        ← filter-capacity (tested .before .before),
+        ← filter-held (tested .before .before),
         le-ltb _ _ (tested .if1 .left),
         ap not (sym (left .before .carried-by .ensures)) ∙ left .if2 .left,
         ← filter-delay c,
@@ -82,7 +82,7 @@ plan-filter-spec =
     tie.close
     (tie.spec
     behind-filter-requires
-    part-capacity-requires
+    part-held-requires
     returns
     carried-by-requires
     returns-2

@@ -7,7 +7,7 @@ use Prim.Native.Nat.{_≤_}
 use Rattle.quantity.specs.Limits.{largestAmount}
 use Rattle.quantity.specs.Ranges.{intervalRange}
 use Rattle.operator.specs.Operators.{numberInRange}
-use Rattle.figures.specs.Figures.{capacity, ownDelay, isFramed, framedAfterFilter, quotaBehind, figureTooLarge, rateTooLow}
+use Rattle.figures.specs.Figures.{heldFigure, ownDelay, isFramed, framedAfterFilter, quotaBehind, figureTooLarge, rateTooLow}
 use Rattle.figures.specs.Carried.{plannedOf}
 use Rattle.figures.proofs.Bounds.{in-range}
 use Rattle.figures.proofs.each.plan_frame.Statement.{statement}
@@ -25,7 +25,7 @@ changed-quota-requires c κs =
     (s .pre .0 .within .class, s .pre .0 .lent, least, most)
 
 returns-2 : tie.Need-returns-2
-unfolding plannedOf framedAfterFilter isFramed figureTooLarge quotaBehind capacity
+unfolding plannedOf framedAfterFilter isFramed figureTooLarge quotaBehind heldFigure
 returns-2 c =
     let changed = c .before .before in
     (rw (changed .before .before .if1 .left, ← changed .changed-quota .ensures, lt-ltb _ _ (c .if2 .taken)), tt)
@@ -34,7 +34,7 @@ expander-delay-requires : tie.Need-expander-delay-requires
 expander-delay-requires c κs = search needs
 
 returns-3 : tie.Need-returns-3
-unfolding plannedOf framedAfterFilter isFramed figureTooLarge quotaBehind capacity rateTooLow ownDelay
+unfolding plannedOf framedAfterFilter isFramed figureTooLarge quotaBehind heldFigure rateTooLow ownDelay
 returns-3 c =
     let tested = c .before .before in
     let changed = tested .before .before in

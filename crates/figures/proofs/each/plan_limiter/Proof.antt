@@ -8,7 +8,7 @@ use Prim.Native.Nat.{_≤_}
 use Rattle.quantity.specs.Ranges.{rateRange}
 use Rattle.operator.specs.Operators.{numberInRange}
 use Rattle.figures.specs.Progress.{behind}
-use Rattle.figures.specs.Figures.{capacity, ownDelay, isFramed, framedAfterFilter, quotaBehind, figureTooLarge, rateTooLow}
+use Rattle.figures.specs.Figures.{heldFigure, ownDelay, isFramed, framedAfterFilter, quotaBehind, figureTooLarge, rateTooLow}
 use Rattle.figures.specs.Carried.{classIn, plannedOf}
 use Rattle.flow.proofs.ClassBounds.{burst-bound}
 use Rattle.figures.proofs.Bounds.{in-range, round-up-at-most}
@@ -33,7 +33,7 @@ burst-at-requires : tie.Need-burst-at-requires
 burst-at-requires c κs = let s = c .before .before .before in (s .pre .0 .within .class, s .pre .0 .lent, rate-inside s .1)
 
 returns-2 : tie.Need-returns-2
-unfolding plannedOf framedAfterFilter isFramed figureTooLarge quotaBehind capacity
+unfolding plannedOf framedAfterFilter isFramed figureTooLarge quotaBehind heldFigure
 returns-2 c =
     let made = c .before .before in
     record { answered = rw (made .before .before .if1 .left, ← made .burst-at .ensures, lt-ltb _ _ (c .if2 .taken)); carried = tt }
@@ -42,7 +42,7 @@ carried-by-requires : tie.Need-carried-by-requires
 carried-by-requires c κs = search needs
 
 returns-3 : tie.Need-returns-3
-unfolding plannedOf framedAfterFilter isFramed figureTooLarge quotaBehind capacity rateTooLow
+unfolding plannedOf framedAfterFilter isFramed figureTooLarge quotaBehind heldFigure rateTooLow
 returns-3 c =
     let tested = c .before .before in
     let made = tested .before .before in
@@ -57,7 +57,7 @@ returns-3 c =
     }
 
 returns-4 : tie.Need-returns-4
-unfolding plannedOf framedAfterFilter isFramed figureTooLarge quotaBehind capacity rateTooLow ownDelay behind
+unfolding plannedOf framedAfterFilter isFramed figureTooLarge quotaBehind heldFigure rateTooLow ownDelay behind
 returns-4 c =
     let rounded = c .before .before in
     let left = rounded .before .before in

@@ -2,12 +2,12 @@
 use Prim.Native.Nat.{ℕ, _≤_}
 use mathlib.Core.Path.{subst⁻¹}
 use borrow.Author.Needs.{needs}
-use Rattle.figures.specs.Figures.{partCapacity}
+use Rattle.figures.specs.Figures.{partHeld}
 use Rattle.figures.specs.Carried.{classIn}
 use Rattle.flow.proofs.ClassBounds.{burst-bound}
 use Rattle.figures.proofs.Bounds.{rate-within, burst-kept, part-units}
-use Rattle.figures.proofs.carried.part_capacity.Statement.{statement}
-use Rattle.figures.proofs.carried.part_capacity.Tie as tie
+use Rattle.figures.proofs.carried.part_held.Statement.{statement}
+use Rattle.figures.proofs.carried.part_held.Tie as tie
 
 enum-told : tie.Need-enum-told
 enum-told c = search needs
@@ -25,11 +25,11 @@ plus-requires : tie.Need-plus-requires
 plus-requires c κs = search needs
 
 returns : tie.Need-returns
-unfolding partCapacity
+unfolding partHeld
 returns c = rw (c .before .enum-told .given .1, c .most-in .ensures)
 
 returns-2 : tie.Need-returns-2
-unfolding partCapacity
+unfolding partHeld
 returns-2 c =
     let found = c .before .before .before in
     let s = found .before .before .before .before in
@@ -41,8 +41,8 @@ returns-2 c =
     let sum = part-units _ (c .before .over .result) _ (s .args .carried .e) (c .before .over .ensures) small (s .pre .within .e) slow in
     rw (slowest, c .plus .ensures, sum, same)
 
-pub part-capacity-spec : {M : Type 1} → statement M
-part-capacity-spec =
+pub part-held-spec : {M : Type 1} → statement M
+part-held-spec =
     tie.close
     (tie.spec
     enum-told
