@@ -16,6 +16,9 @@ fn row(interval: u32, quota: u32) -> DeclaredRow {
     }
 }
 
+// As many slots as the constant table has.
+const SLOTS: usize = 1024;
+
 fn main() {
     let first = row(1, 9);
     let second = row(3, 15);
@@ -24,7 +27,7 @@ fn main() {
     let rows = [first, second, third, unused];
     let mut bound = [0; LENGTH];
     fill(Declaration::of_rows(3, rows), &mut bound);
-    print(&bound[1..LENGTH]);
+    print(&bound[1..SLOTS + 1]);
 }
 
 fn line(number: u32) {

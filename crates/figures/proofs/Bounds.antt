@@ -1,9 +1,10 @@
 -- Section 4's numbers fit their words: what is carried stays within its bounds behind every operator that is not refused, and no delay is above its class's burst and its slots.
-use Prim.Native.Nat.{ℕ, _+_, _*_, _≤_, _<_, min, _-_}
+use Prim.Native.Nat.{ℕ, suc, _+_, _*_, _≤_, _<_, min, _-_}
 use mathlib.Core.Path.{_≡_, sym, ap, subst, _∙_}
 use mathlib.Core.List.{List}
+use lib.ListN.{length}
 use mathlib.Core.Bool.{Bool, true, false}
-use native.Mathlib.Nat.{le-trans, le-mul-of-pos-right, mul-le-mul, mul-le-mul-left, mul-le-mul-right, mul-comm, le-min, min-le-left}
+use native.Mathlib.Nat.{le-trans, le-mul-of-pos-right, mul-le-mul, mul-le-mul-left, mul-le-mul-right, mul-comm, div-mul-le-self, le-min, min-le-left}
 use native.Mathlib.Omega.{arith}
 use borrow.Author.Tests.{leb-true}
 use Rattle.quantity.specs.Ranges.{Range, inRange, intervalRange, rateRange, delayRange}
@@ -17,9 +18,13 @@ use Rattle.quantity.specs.declared.Delay.{Delay}
 use Rattle.quantity.proofs.Quantities.{units-sum, units-over}
 use Rattle.quantity.proofs.Rounding.{round-up-enough, round-up-least}
 use Rattle.quantity.proofs.Sums.{both-true}
-use Rattle.flow.specs.Rows.{Row, reach, rowsMost}
-use Rattle.flow.specs.Bounds.{RowInside, ClassWithin}
-use Rattle.flow.specs.Classes.{Class, smooth, uniform, rows, Positive, mostDelayed, changedQuota, carries, burstAt}
+use Rattle.flow.specs.Rows.{Row, rowsBurst}
+use Rattle.flow.specs.Bounds.{ClassWithin}
+use Rattle.flow.specs.Declarations.{severalAt}
+use Rattle.flow.specs.declared.Kind.{Kind}
+use Rattle.quantity.specs.declared.Interval.{Interval}
+use Rattle.flow.proofs.Laws.{rows-burst-slots}
+use Rattle.flow.specs.Classes.{Class, smooth, uniform, rows, Positive, changedQuota, carries, burstAt}
 use Rattle.flow.proofs.ClassBounds.{rows-most-bound, burst-bound, within-positive}
 use Rattle.operator.specs.FilterPart.{Slowest, unfiltered, filtered, slower}
 use Rattle.operator.specs.Operators.{numberInRange}
@@ -29,9 +34,10 @@ use Rattle.figures.specs.declared.carried.LeastRate.{LeastRate}
 use Rattle.figures.specs.declared.carried.LeastRate.the-variants.{NoFilter, Least}
 use Rattle.figures.specs.Progress.{Progress, behind}
 use Rattle.figures.specs.Figures.{partDelay, delayOfPart, ownDelay, quotaBehind, largestChangedQuota}
+use Rattle.figures.specs.declared.class.FlowClass.{FlowClass}
 use Rattle.figures.specs.declared.carried.Carried.{Carried}
 use Rattle.flow.specs.declared.Declaration.{Declaration}
-use Rattle.figures.specs.Carried.{classIn, slowestIn, progressIn, RateWithin, Within, BurstKept, slotsKept, Ready, mostBefore, mostWith}
+use Rattle.figures.specs.Carried.{classIn, slowestIn, progressIn, RateWithin, Within, HasBound, Lent, Reaches, BurstKept, slotsKept, Ready, mostBefore, mostWith}
 use Rattle.figures.proofs.Part.{delay-le-slower}
 
 pub in-range : (range : Range) (value : ℕ) → inRange range value ≡ true → (range .least ≤ value) × (value ≤ range .largest)
@@ -44,6 +50,11 @@ inside-of e inside = sym (ap numberInRange e) ∙ inside
 
 pub round-up-at-most : (x y : ℕ) → 1 ≤ y → roundUp x y ≤ x
 round-up-at-most x y positive = round-up-least x y x positive (le-mul-of-pos-right x positive)
+
+-- ⌈x/y⌉·y is less than x + y
+pub round-up-times : (x y : ℕ) → roundUp x y * y ≤ x + (y - 1)
+unfolding roundUp
+round-up-times x y = div-mul-le-self (x + (y - 1)) y
 
 pub rate-within : {slowest : LeastRate} {rate : Rate} {burst : Units} {slots : Slots} → slowest ≡ Least rate burst slots → RateWithin (slowestIn slowest) → (1 ≤ rate .0) × (rate .0 ≤ 65_535)
 rate-within e within = subst (λ (slowest : LeastRate). RateWithin (slowestIn slowest)) e within
@@ -150,6 +161,38 @@ module _ {longest : ℕ} {declared : Declaration} {bound : List ℕ} {carried : 
 
   pub ready-longer : {longer : ℕ} → longest ≤ longer → Ready longer declared bound carried
   ready-longer h = record { within = within-le h (ready .within); lent = ready .lent; burst = ready .burst }
+
+-- How late a part is: a table of its rows reaches one slot beyond.
+
+-- of rows, the least rate sends the burst in fewer slots than the longest interval has
+rows-slots : (given : ℕ → Row) (k m R : ℕ) → ClassWithin (rows given k) → 1 ≤ R → 1 ≤ m → ((i : ℕ) → i < k → given i .interval ≤ m) → roundUp (rowsBurst given k R) R ≤ m - 1
+rows-slots given k m R within positive some short =
+    round-up-least (rowsBurst given k R) R (m - 1) positive (rows-burst-slots given k (within .0) (λ i less. within .2 i less .large) R m some short)
+
+rows-late : (declared : Declaration) (bound : List ℕ) → HasBound declared bound → ClassWithin (rows (severalAt declared) (declared .count)) → (e : ℕ) → e ≤ mostBefore
+    → (slowest : LeastRate) → RateWithin (slowestIn slowest) → BurstKept (rows (severalAt declared) (declared .count)) slowest → suc (slotsKept slowest + e) ≤ length bound
+unfolding burstAt
+rows-late declared bound has within e short NoFilter rate kept = omega (arith, has .long)
+rows-late declared bound has within e short (Least R burst slots) rate (same, counted) =
+    let sent = rows-slots (severalAt declared) (declared .count) (length bound - mostBefore) (R .0) within (rate .0) (omega (arith, has .long)) (λ i less. omega (arith, has .longer i less)) in
+    let slots-are : slots .0 ≡ roundUp (rowsBurst (severalAt declared) (declared .count) (R .0)) (R .0) = counted ∙ ap (λ (units : ℕ). roundUp units (R .0)) same in
+    omega (arith, sent, slots-are, has .long)
+
+reaches-by : (kind : Kind) (declared : Declaration) (bound : List ℕ) (interval : Interval) (quota : Units) → let class : FlowClass = record { kind = kind; interval = interval; quota = quota } in
+    ClassWithin (classIn declared class) → Lent kind declared bound → (e : ℕ) → e ≤ mostBefore → (slowest : LeastRate) → RateWithin (slowestIn slowest) → BurstKept (classIn declared class) slowest
+    → Reaches kind bound (suc (slotsKept slowest + e))
+reaches-by Kind.Smooth declared bound interval quota within lent e short slowest rate kept = tt
+reaches-by Kind.Uniform declared bound interval quota within lent e short slowest rate kept = tt
+reaches-by Kind.Rows declared bound interval quota within lent e short slowest rate kept = rows-late declared bound lent within e short slowest rate kept
+
+module _ {declared : Declaration} {bound : List ℕ} {carried : Carried} (ready : Ready mostBefore declared bound carried) where
+  pub late-small : slotsKept (carried .slowest) + carried .e .0 ≤ 134_218_750
+  late-small = omega (arith, delay-kept ready, part-delay-bound mostBefore (progressIn declared carried) (ready .within))
+
+  pub late-reaches : Reaches (carried .class .kind) bound (suc (slotsKept (carried .slowest) + carried .e .0))
+  late-reaches =
+      reaches-by (carried .class .kind) declared bound (carried .class .interval) (carried .class .quota) (ready .within .class) (ready .lent) (carried .e .0) (ready .within .e) (carried .slowest) (ready .within .slowest)
+      (ready .burst)
 
 -- behind a delayer
 pub delayer-ready : {declared : Declaration} {bound : List ℕ} (carried : Carried) (d : Delay) → Ready mostBefore declared bound carried → numberInRange (Delayer d) ≡ true

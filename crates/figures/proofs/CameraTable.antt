@@ -10,15 +10,15 @@ use lib.Dec.{eqb}
 use lib.ListN.{length, getD}
 use borrow.Author.Tests.{eqb-true}
 use Rattle.quantity.specs.Choice.{both}
-use Rattle.quantity.proofs.Sums.{both-true, listOf-ext}
+use Rattle.quantity.proofs.Sums.{both-true}
 use Rattle.flow.specs.Rows.{Row, rowsMost}
 use Rattle.flow.specs.Declarations.{severalAt}
-use Rattle.flow.specs.Bounds.{boundLength, boundOf}
 use Rattle.flow.specs.declared.Declaration.{Declaration}
 use Rattle.flow.proofs.RowsExample.{exampleRows}
 use Rattle.flow.proofs.Laws.{rows-none, rows-any, rows-some}
 use Rattle.flow.proofs.Declarations.{most-same}
 use Rattle.figures.specs.Cameras.{rowIs, isCamera}
+use Rattle.figures.specs.Carried.{HasBound}
 
 abbrev most : ℕ → ℕ
 most = rowsMost exampleRows 3
@@ -127,10 +127,21 @@ camera-most declared e k less =
     ∙ ap (λ (bound : ℕ → ℕ). bound (suc k)) (most-same exampleRows (severalAt declared) 3 (λ i row. sym (known .row i row)))
     ∙ ap (λ (count : ℕ). rowsMost (severalAt declared) count (suc k)) (sym (known .count))
 
--- so with the most in no slots before it, it is their bound
-pub camera-bound : (declared : Declaration) → isCamera declared ≡ true → 0 ∷ table ≡ boundOf declared
-camera-bound declared e = listOf-ext 0 (rowsMost (severalAt declared) (declared .count)) boundLength (0 ∷ table) (ap suc sized) by-place
+-- so with the most in no slots before it, it is their bound, in as many slots as figures ask for
+pub camera-bound : (declared : Declaration) → isCamera declared ≡ true → HasBound declared table
+camera-bound declared e = record { entries = by-place; long = omega (arith, sized); longer = λ i less. omega (arith, sized, short i (rw (known .count) at less)) }
   where
-    by-place : (k : ℕ) → k < boundLength → getD (0 ∷ table) k 0 ≡ rowsMost (severalAt declared) (declared .count) k
-    by-place zero less = sym (rows-none (severalAt declared) (declared .count))
-    by-place (suc k) less = camera-most declared e k (le-of-suc-le-suc less)
+    known : CameraDeclared declared
+    known = camera-declared declared e
+
+    by-place : (n : ℕ) → n ≤ length table → getD (0 ∷ table) n 0 ≡ rowsMost (severalAt declared) (declared .count) n
+    by-place zero within = sym (rows-none (severalAt declared) (declared .count))
+    by-place (suc k) within = camera-most declared e k (omega (arith, sized))
+
+    short-row : (i : ℕ) → i < 3 → exampleRows i .interval ≤ 12
+    short-row zero less = omega arith
+    short-row (suc zero) less = omega arith
+    short-row (suc (suc i)) less = omega arith
+
+    short : (i : ℕ) → i < 3 → severalAt declared i .interval ≤ 12
+    short i less = rw (known .row i less) (short-row i less)

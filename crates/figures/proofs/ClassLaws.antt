@@ -9,17 +9,17 @@ use native.Mathlib.Numerals.{add-one}
 use native.Mathlib.Omega.{arith}
 use lib.ListN.{length, getD, take, drop, length-drop}
 use lib.Seq.{length-take-le, getD-take, getD-drop}
-use Rattle.quantity.proofs.Sums.{length-listOf, getD-listOf, listOf-ext}
+use Rattle.quantity.proofs.Sums.{length-listOf, getD-listOf}
 use Rattle.flow.specs.Rows.{Row, rowsMost, rowCarried, rowsCarried, reach, greatestOf, rowsBurst}
 use Rattle.flow.specs.Classes.{rows}
 use Rattle.flow.specs.Declarations.{severalAt}
-use Rattle.flow.specs.Bounds.{boundLength, boundOf, PairWithin, ClassWithin}
+use Rattle.flow.specs.Bounds.{boundLength, boundOf, RowsInside, PairWithin, ClassWithin}
 use Rattle.flow.specs.declared.Kind.{Kind}
 use Rattle.flow.specs.declared.Declaration.{Declaration}
 use Rattle.flow.proofs.Laws.{rows-none, reach-le}
 use Rattle.flow.proofs.ClassBounds.{rows-most-bound}
 use Rattle.figures.specs.declared.class.FlowClass.{FlowClass}
-use Rattle.figures.specs.Carried.{classIn, Lent}
+use Rattle.figures.specs.Carried.{classIn, HasBound, Lent, Reaches}
 
 -- The row that a rate reaches over.
 
@@ -43,33 +43,31 @@ reach-first given i R k before here less = reach-first-of given i R before here 
 
 -- The lent table.
 
-module _ (declared : Declaration) (bound : List ℕ) (lent : 0 ∷ bound ≡ boundOf declared) where
-  pub lent-length : length bound ≡ 1_024
-  lent-length = omega (arith, ap length lent ∙ length-listOf (rowsMost (severalAt declared) (declared .count)) boundLength)
-
+module _ (declared : Declaration) (bound : List ℕ) (lent : HasBound declared bound) where
   pub lent-at : (n : ℕ) → n ≤ 1_024 → getD (0 ∷ bound) n 0 ≡ rowsMost (severalAt declared) (declared .count) n
-  lent-at n short = ap (λ (l : List ℕ). getD l n 0) lent ∙ getD-listOf 0 (rowsMost (severalAt declared) (declared .count)) boundLength n (omega arith)
+  lent-at n short = lent .entries n (omega (arith, lent .long))
 
   pub lent-small : ClassWithin (rows (severalAt declared) (declared .count)) → (i : ℕ) → i < 1_024 → getD bound i 0 ≤ 67_107_840
   lent-small within i less =
       subst⁻¹ (λ (most : ℕ). most ≤ 67_107_840) (lent-at (suc i) less) (rows-most-bound (severalAt declared) (declared .count) (suc i) (within .0) (within .2) less)
 
--- the bound of a declaration, behind its first entry, which is 0
-pub rest-of-bound : (declared : Declaration) → 0 ∷ take 1_024 (drop 1 (boundOf declared)) ≡ boundOf declared
-rest-of-bound declared = listOf-ext 0 most boundLength (0 ∷ take 1_024 (drop 1 (boundOf declared))) sized by-place
+-- the bound of a declaration in its ranges, behind its first entry, which is 0
+pub rest-of-bound : (declared : Declaration) → RowsInside (severalAt declared) (declared .count) → HasBound declared (take 1_984 (drop 1 (boundOf declared)))
+rest-of-bound declared inside =
+    record { entries = λ n within. by-place n (omega (arith, sized)); long = omega (arith, sized); longer = λ i less. omega (arith, sized, inside i less .short) }
   where
     most : ℕ → ℕ
     most = rowsMost (severalAt declared) (declared .count)
 
-    sized : suc (length (take 1_024 (drop 1 (boundOf declared)))) ≡ boundLength
-    sized = ap suc (length-take-le 1_024 (drop 1 (boundOf declared)) (omega (arith, length-drop 1 (boundOf declared), length-listOf most boundLength)))
+    sized : length (take 1_984 (drop 1 (boundOf declared))) ≡ 1_984
+    sized = length-take-le 1_984 (drop 1 (boundOf declared)) (omega (arith, length-drop 1 (boundOf declared), length-listOf most boundLength))
 
     one-more : (k : ℕ) → 1 + k ≡ suc k
     one-more k = omega arith
 
-    by-place : (k : ℕ) → k < boundLength → getD (0 ∷ take 1_024 (drop 1 (boundOf declared))) k 0 ≡ most k
+    by-place : (n : ℕ) → n < boundLength → getD (0 ∷ take 1_984 (drop 1 (boundOf declared))) n 0 ≡ most n
     by-place zero less = sym (rows-none (severalAt declared) (declared .count))
-    by-place (suc k) less = getD-take 1_024 (drop 1 (boundOf declared)) k 0 (le-of-suc-le-suc less) ∙ getD-drop 1 (boundOf declared) k 0 ∙ ap (λ (j : ℕ). getD (boundOf declared) j 0) (one-more k) ∙ getD-listOf 0 most boundLength (suc k) less
+    by-place (suc k) less = getD-take 1_984 (drop 1 (boundOf declared)) k 0 (le-of-suc-le-suc less) ∙ getD-drop 1 (boundOf declared) k 0 ∙ ap (λ (j : ℕ). getD (boundOf declared) j 0) (one-more k) ∙ getD-listOf 0 most boundLength (suc k) less
 
 pub greatest-next : (f : ℕ → ℕ) (n : ℕ) → greatestOf f (n + 1) ≡ max (greatestOf f n) (f (n + 1))
 unfolding greatestOf
@@ -92,11 +90,14 @@ module _ (declared : Declaration) (class : FlowClass) where
   pub rows-within : class .kind ≡ Kind.Rows → ClassWithin (classIn declared class) → ClassWithin (rows (severalAt declared) (declared .count))
   rows-within e within = rw e at within
 
-  pub lent-rows : (bound : List ℕ) → class .kind ≡ Kind.Rows → Lent (class .kind) declared bound → 0 ∷ bound ≡ boundOf declared
+  pub reaches-rows : (bound : List ℕ) (n : ℕ) → class .kind ≡ Kind.Rows → Reaches (class .kind) bound n → n ≤ length bound
+  reaches-rows bound n e reaches = rw e at reaches
+
+  pub lent-rows : (bound : List ℕ) → class .kind ≡ Kind.Rows → Lent (class .kind) declared bound → HasBound declared bound
   lent-rows bound e lent = rw e at lent
 
 -- the greatest that the table has beyond a rate is the burst
-pub burst-of-table : (declared : Declaration) (bound : List ℕ) (R : ℕ) → ClassWithin (rows (severalAt declared) (declared .count)) → 0 ∷ bound ≡ boundOf declared
+pub burst-of-table : (declared : Declaration) (bound : List ℕ) (R : ℕ) → ClassWithin (rows (severalAt declared) (declared .count)) → HasBound declared bound
     → greatestOf (λ n. getD (0 ∷ bound) n 0 - n * R) (reach (severalAt declared) (declared .count) R) ≡ rowsBurst (severalAt declared) (declared .count) R
 unfolding rowsBurst
 burst-of-table declared bound R within lent =

@@ -4,6 +4,7 @@ mod Steps
 mod Reached
 pub mod Promise
 mod Bounds
+mod Capacities
 mod ClassLaws
 pub mod CameraTable
 pub mod RowsNeverTooLarge

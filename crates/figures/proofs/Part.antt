@@ -1,19 +1,20 @@
 -- The filter part's figures hold of its flows: each law by whether a filter has come, from the operators' laws of the part.
 use mathlib.Core.Path.{_≡_, refl}
 use mathlib.Core.Bool.{true}
-use Prim.Native.Nat.{ℕ, _+_, _*_, _≤_, min}
+use Prim.Native.Nat.{ℕ, suc, _+_, _*_, _≤_, min}
 use native.Mathlib.Nat.{le-refl, le-trans, le-of-lt, lt-of-not-le, min-eq-left, min-eq-right, mul-le-mul-left}
 use native.Mathlib.Decide.{decLe}
 use native.Mathlib.Omega.{arith}
 use Rattle.quantity.specs.Rounding.{roundUp}
 use Rattle.quantity.proofs.Rounding.{round-up-enough, round-up-least}
+use Rattle.quantity.proofs.Sums.{total-next}
 use Rattle.flow.specs.Flows.{Flow, InTime, Behind}
 use Rattle.operator.specs.OnFlows.{heldOn, outputOn, Fitting}
-use Rattle.flow.specs.Classes.{Class, Positive, Keeps, carries, burstAt}
+use Rattle.flow.specs.Classes.{Class, Positive, Keeps, mostIn, carries, burstAt}
 use Rattle.operator.specs.FilterPart.{Slowest, unfiltered, filtered, slower, Served}
 use Rattle.operator.specs.Operators.{filter}
 use Rattle.operator.specs.declared.Operator.{Operator}
-use Rattle.flow.proofs.Laws.{window, envelope, burst-falls}
+use Rattle.flow.proofs.Laws.{window, most-mono, delayed-window, late-window, envelope, burst-falls}
 use Rattle.operator.proofs.Laws.{filtered-in-time, unfiltered-in-time, filtered-held, unfiltered-held, filter-beside}
 use Rattle.figures.specs.Figures.{partHeld, partDelay}
 
@@ -56,11 +57,19 @@ module _ (c : Class) (g : Flow) (large : Positive c) (keeps : Keeps c g) where
   part-in-time unfiltered e s carries served = unfiltered-in-time e g s served
   part-in-time (filtered P) e s carries served = filtered-in-time P e (burstAt c P) g s (carries .0) (envelope c g P large (carries .1) keeps) served
 
+  -- so what leaves the part in one slot came in that one and in as many before it as the part has delay
+  pub part-arrives : (P : Slowest) (e : ℕ) (f : Flow) → Carries P c → Behind g f → Served P e g f → (n : ℕ) → f n ≤ mostIn c (suc (partDelay c e P))
+  part-arrives P e f carries entered served n =
+      let D = partDelay c e P in
+      let one : 1 + D ≡ suc D = omega arith in
+      let window-of-one = late-window D (mostIn c) g f entered (part-in-time P e f carries served) (most-mono c large) (window c g large keeps) n 1 in
+      omega (arith, rw one at window-of-one, total-next f n)
+
   module _ (f choices : Flow) (entered : Behind g f) where
     pub part-held : (op : Operator) (P : Slowest) (e : ℕ) → Carries P c → Fitting op f choices → Served P e g (outputOn op f choices)
         → (n : ℕ) → heldOn op f choices n .b ≤ partHeld c e P
     unfolding partHeld
-    part-held op unfiltered e carries fits served = unfiltered-held op e _ g f choices fits entered (λ a. window c g large keeps a e) served
+    part-held op unfiltered e carries fits served = unfiltered-held op e _ g f choices fits entered (λ a. delayed-window c g large keeps a e) served
     part-held op (filtered P) e carries fits served =
         filtered-held op P e (burstAt c P) g f choices fits entered (envelope c g P large (carries .1) keeps) served
 

@@ -3,7 +3,7 @@ use Prim.Native.Nat.{ℕ, zero, suc, _+_, _-_, _*_, _%_, _≤_, _<_}
 use mathlib.Core.Path.{_≡_, refl, sym, ap, _∙_}
 use mathlib.Core.Bool.{Bool, true, false, not}
 use mathlib.Core.Logic.{_⊎_, inl, inr, ⊎-elim}
-use native.Mathlib.Nat.{le-refl, le-of-lt, le-of-suc-le-suc, not-suc-le-zero, eq-or-lt-of-le, zero-mul, suc-mul, mul-le-mul, mul-le-mul-right, mul-add-mod-self-right, mul-mod-left, mod-eq-of-lt, div-eq-of-lt-le, div-self, min-eq-left}
+use native.Mathlib.Nat.{add-mul, le-refl, le-of-lt, le-of-suc-le-suc, not-suc-le-zero, eq-or-lt-of-le, zero-mul, suc-mul, mul-le-mul, mul-le-mul-right, mul-add-mod-self-right, mul-mod-left, mod-eq-of-lt, div-eq-of-lt-le, div-self, min-eq-left}
 use native.Mathlib.Numerals.{add-one, add-two, add-three}
 use native.Mathlib.Omega.{arith}
 use lib.ListN.{length}
@@ -15,8 +15,8 @@ use Rattle.quantity.specs.Rounding.{roundUp}
 use Rattle.quantity.specs.Sums.{total}
 use Rattle.quantity.proofs.Laws.{either-none}
 use Rattle.quantity.proofs.Refusals.{NoneStands, none-of-both}
-use Rattle.quantity.proofs.Sums.{getD-listOf}
-use Rattle.flow.specs.Classes.{Class, smooth, uniform, changedQuota, carries, burstAt}
+use Rattle.quantity.proofs.Sums.{getD-listOf, total-zero, total-suc}
+use Rattle.flow.specs.Classes.{Class, smooth, uniform, mostIn, changedQuota, carries, burstAt}
 use Rattle.operator.specs.FilterPart.{filtered, slower}
 use Rattle.flow.specs.Declarations.{classOf}
 use Rattle.operator.specs.Operators.{limiter, compactor, expander, filter, delayer}
@@ -28,8 +28,8 @@ use Rattle.sheet.specs.House.{delayerSlots, houseInRange, hopLength, hopOperato
 use Rattle.sheet.specs.Paths.{Path, noLinkedOperator}
 use Rattle.sheet.proofs.HouseLaws.{HouseWithin, house-within, which-profile, length-houseOperators, house-some}
 use Rattle.figures.specs.Progress.{Progress, start, behind, progressAt}
-use Rattle.figures.specs.Figures.{partHeld, partDelay, heldFigure, ownDelay, pairs, isFramed, framedAfterFilter, largestChangedQuota, quotaBehind, figureTooLarge, rateTooLow}
-use Rattle.figures.specs.Answers.{operatorAt, before, pairedAt, delayAt, pathDelay, operatorCases, operatorsCases}
+use Rattle.figures.specs.Figures.{partHeld, partDelay, heldFigure, mostArriving, capacity, ownDelay, pairs, isFramed, framedAfterFilter, largestChangedQuota, quotaBehind, figureTooLarge, rateTooLow}
+use Rattle.figures.specs.Answers.{operatorAt, before, pairedAt, capacityAt, delayAt, pathDelay, operatorCases, operatorsCases}
 use Rattle.figures.proofs.Reached.{none-at}
 use Rattle.figures.proofs.Tests.{neither}
 
@@ -162,6 +162,10 @@ some-hop h within = omega arith
 abbrev pub rateLow : House → Bool
 rateLow h = not (leb (h .quota .0) (h .interval .0 * h .rate .0))
 
+-- one hop more of three quotas
+three-more : (j Q : ℕ) → 3 * suc j * Q ≡ 3 * j * Q + 3 * Q
+three-more j Q = let threes : 3 * suc j ≡ 3 * j + 3 = omega arith in rw threes (add-mul (3 * j) 3 Q)
+
 -- Profile 0: a compactor and an expander of m.
 
 -- smooth (m, Q) before operator k, and 8 nowhere
@@ -210,6 +214,36 @@ module _ (h : House) (within : HouseWithin h) (first : h .profile ≡ 0) where
       let last = some-hop h within in
       let j = h .hops .0 - 1 in
       rw last at (framed-hop j {sum = (suc j + 1) * h .interval .0} (omega arith) (framed-hops j (omega arith)) (rw (unpaired j last) (omega arith)))
+
+  -- a compactor on smooth (m, Q) has Q twice, for what it holds and for what arrives; an expander of the same interval has Q
+  compactor-full : capacity (start (smooth (h .interval .0) (h .quota .0))) (compactor (h .interval .0)) ≡ 2 * h .quota .0
+  unfolding capacity heldFigure mostArriving partDelay mostIn
+  compactor-full =
+      let large = within .interval .0 in
+      rw (smooth-same (h .interval .0) (h .quota .0) large, round-up-multiple 0 0 (h .interval .0) large (omega arith)) (omega arith)
+
+  expander-full : capacity (start (uniform (h .interval .0) (h .quota .0))) (expander (h .interval .0)) ≡ h .quota .0
+  unfolding capacity heldFigure
+  expander-full = uniform-same (h .interval .0) (h .quota .0) (within .interval .0)
+
+  hop-full : (j : ℕ) → j < h .hops .0 → (capacityAt (housePath h) (j * 2) ≡ 2 * h .quota .0) × (capacityAt (housePath h) (suc (j * 2)) ≡ h .quota .0)
+  unfolding capacityAt
+  hop-full j hop =
+      let m = h .interval .0 in
+      let Q = h .quota .0 in
+      let small : Q ≤ largestChangedQuota = omega arith in
+      let reached = framed-hops j hop in
+      let compacted = reached-next reached (framed-at (j * 2) j 0 (omega arith) hop (omega arith)) (makes-compactor (smooth m Q) m Q _ (smooth-same m Q (within .interval .0)) small) refl refl in (
+        rw (reached .here, framed-at (j * 2) j 0 (omega arith) hop (omega arith)) compactor-full,
+        rw (compacted .here, framed-at (suc (j * 2)) j 1 (omega arith) hop (omega arith)) expander-full,
+      )
+
+  hops-full : (j : ℕ) → j ≤ h .hops .0 → total (capacityAt (housePath h)) (j * 2) ≡ 3 * j * h .quota .0
+  hops-full zero inside = rw (zero-mul 2, zero-mul (h .quota .0)) (total-zero (capacityAt (housePath h)))
+  hops-full (suc j) inside =
+      let (compactor-has, expander-has) = hop-full j inside in
+      rw (suc-mul j 2, add-two)
+      (omega (arith, total-suc (capacityAt (housePath h)) (suc (j * 2)), total-suc (capacityAt (housePath h)) (j * 2), hops-full j (le-of-lt inside), compactor-has, expander-has, three-more j (h .quota .0)))
 
 -- Profile 1: a limiter R, a compactor and an expander of m.
 
@@ -341,6 +375,10 @@ module _ (h : House) (inside : houseInRange h ≡ true) where
 
   pub profile-0-delay : h .profile ≡ 0 → pathDelay (housePath h) ≡ (h .hops .0 + 1) * h .interval .0
   profile-0-delay first = whole-delay h (framed-length h within first) (framed-path h within first)
+
+  -- its capacities are 3 · hops · Q in all
+  pub profile-0-capacities : h .profile ≡ 0 → total (capacityAt (housePath h)) (length (housePath h .operators)) ≡ 3 * h .hops .0 * h .quota .0
+  profile-0-capacities first = rw (length-houseOperators h, framed-length h within first) (hops-full h within first (h .hops .0) (le-refl _))
 
   pub profile-1-delay : h .profile ≡ 1 → pathDelay (housePath h) ≡ roundUp (2 * h .quota .0) (h .rate .0) + (4 * h .hops .0 - 2) * h .interval .0
   profile-1-delay second = whole-delay h (limited-length h within second) (limited-path h within second)

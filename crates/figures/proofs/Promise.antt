@@ -1,16 +1,13 @@
 -- What the figures promise of a path that they accept, and of its sheet.
 use mathlib.Core.Path.{_≡_, refl}
-use mathlib.Core.Bool.{true}
+use mathlib.Core.Bool.{true, false}
 use mathlib.Core.List.{List, _++_}
-use Prim.Native.Nat.{ℕ, _≤_, _<_}
-use native.Mathlib.Nat.{le-refl}
+use Prim.Native.Nat.{ℕ, _*_, _≤_, _<_}
+use native.Mathlib.Nat.{le-refl, le-of-lt}
 use lib.ListN.{length, replicate}
-use lib.Dec.{ltb}
-use borrow.Author.Tests.{ltb-false}
-use Rattle.quantity.specs.Limits.{largestAmount}
+use Rattle.quantity.specs.Limits.{largestAmount, mostOperators}
 use Rattle.quantity.specs.Sums.{listOf}
 use Rattle.quantity.specs.declared.refusal.Refusal.{Refusal}
-use Rattle.quantity.proofs.Laws.{either-false}
 use Rattle.quantity.proofs.Refusals.{NoneStands, none-of-each, none-where-result, firstOf-none}
 use Rattle.flow.specs.Flows.{Flow}
 use Rattle.flow.specs.Classes.{Positive, Keeps}
@@ -22,21 +19,26 @@ use Rattle.sheet.specs.Forms.{noPath}
 use Rattle.sheet.specs.Sheets.{sheetCases, valueIn, pathIn, pathInRange}
 use Rattle.sheet.proofs.Accepted.{sheet-path, never-accepted}
 use Rattle.figures.specs.declared.PathFigures.{PathFigures}
-use Rattle.figures.specs.Answers.{operatorAt, before, heldAt, pathDelay, operatorsCases, pathCases, figureIn, figuresOf}
-use Rattle.figures.specs.Figures.{heldFigure, quotaBehind, largestChangedQuota, figureTooLarge}
+use Rattle.figures.specs.Answers.{operatorAt, before, heldAt, capacityAt, pathDelay, operatorsCases, pathCases, figureIn, figuresOf}
+use Rattle.figures.specs.Figures.{figureTooLarge}
 use Rattle.figures.specs.Along.{AllFit, Promised}
-use Rattle.figures.proofs.Reached.{none-at, reached-end, reached, passed-at, stepped}
+use Rattle.figures.proofs.Capacities.{held-passed, capacity-le}
+use Rattle.figures.proofs.Capacities as Capacities
+use Rattle.figures.proofs.EachOperator.{before-operator}
+use Rattle.figures.proofs.Reached.{none-at, none-before, reached-end, reached, passed-at, sound-at, stepped}
 use Rattle.figures.proofs.Reached as Reached
 
 -- a path of numbers in their ranges that refusals 6 to 9 let pass
 pub promised : (path : Path) → pathInRange path ≡ true → NoneStands (pathCases path)
     → (r : Flow) (choices : ℕ → Flow) → Keeps (classOf (path .declaration)) r → AllFit path r choices → Promised path r choices
-unfolding heldAt
+unfolding heldAt capacityAt
 promised path inside none r choices kept fits =
     record {
       class-kept = λ k h. reached path inside none r choices kept fits k h .known .kept;
       held-within = λ k less. stepped path inside none r choices kept fits k less .held;
       beside-within = λ k less. stepped path inside none r choices kept fits k less .beside;
+      arrives-within = λ k less. stepped path inside none r choices kept fits k less .arrives;
+      fullest-within = λ k less. stepped path inside none r choices kept fits k less .fullest;
       in-time = reached-end path r choices (reached path inside none r choices kept fits (length (path .operators)) (le-refl _));
     }
 
@@ -75,18 +77,33 @@ accepted-figures sheet accepted = rw (accepted-answer sheet accepted) (refl, ref
 pub declared-positive : (path : Path) → pathInRange path ≡ true → Positive (classOf (path .declaration))
 declared-positive = Reached.declared-positive
 
--- a path of numbers in their ranges that refusals 6 to 9 let pass: each operator's number is in its range, and its capacity at most the largest amount
+-- a path of numbers in their ranges that refusals 6 to 9 let pass: each operator's number is in its range, and its held figure at most the largest amount
 module _ (path : Path) (inside : pathInRange path ≡ true) (none : NoneStands (pathCases path)) (k : ℕ) (less : k < length (path .operators)) where
   pub operator-inside : numberInRange (operatorAt path k) ≡ true
   operator-inside = passed-at path inside none k less .inside
 
+  none-of-operators : NoneStands (operatorsCases path (length (path .operators)))
+  none-of-operators = none-of-each (operatorsCases path (length (path .operators))) _ none .0
+
+  sized : figureTooLarge (before path k) (operatorAt path k) ≡ false
+  sized = none-at path (length (path .operators)) none-of-operators k less .1 .0
+
   pub operator-held-le : heldAt path k ≤ largestAmount
-  unfolding heldAt figureTooLarge
-  operator-held-le =
-      let (operators, wanted) = none-of-each (operatorsCases path (length (path .operators))) _ none in
-      let stands = none-at path (length (path .operators)) operators k less in
-      ltb-false largestAmount (heldFigure (before path k) (operatorAt path k))
-      (either-false (ltb largestChangedQuota (quotaBehind (before path k) (operatorAt path k))) (ltb largestAmount (heldFigure (before path k) (operatorAt path k))) (stands .1 .0) .1)
+  unfolding heldAt
+  operator-held-le = held-passed (before path k) (operatorAt path k) sized
+
+  -- with what arrives, its capacity is at most twice the largest amount
+  pub operator-capacity-le : length (path .operators) ≤ mostOperators → capacityAt path k ≤ 2 * largestAmount
+  unfolding capacityAt
+  operator-capacity-le few =
+      let short = le-of-lt less in
+      let within = before-operator path few inside k less (none-before path (length (path .operators)) none-of-operators k short) in
+      capacity-le (before path k) (operatorAt path k) within (sound-at path inside none k short) (passed-at path inside none k less) sized
+
+-- an operator's capacity covers its held figure
+pub held-le-capacity : (path : Path) (k : ℕ) → heldAt path k ≤ capacityAt path k
+unfolding heldAt capacityAt
+held-le-capacity path k = Capacities.held-le-capacity (before path k) (operatorAt path k)
 
 -- no refusal stands against an accepted sheet's fields, nor against its path
 pub accepted-none : (sheet : List ℕ) → figuresOf sheet .verdict ≡ Verdict.Accepted → NoneStands (sheetCases sheet) × NoneStands (pathCases (pathIn sheet))

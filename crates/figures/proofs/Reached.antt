@@ -6,6 +6,7 @@ use mathlib.Core.Logic.{⊎-elim}
 use Prim.Native.Nat.{ℕ, zero, suc, _+_, _≤_, _<_}
 use native.Mathlib.Nat.{le-refl, le-of-lt, le-of-suc-le-suc, not-suc-le-zero, eq-or-lt-of-le, add-zero}
 use native.Mathlib.Numerals.{add-one}
+use native.Mathlib.Omega.{arith}
 use lib.ListN.{length, getD, List·getD-eq-default}
 use lib.Dec.{ltb}
 use Rattle.quantity.specs.Choice.{pick}
@@ -29,6 +30,7 @@ use Rattle.sheet.proofs.InRange.{operators-at, declaration-of-path, operators-o
 use Rattle.figures.specs.Answers.{operatorAt, before, pairedAt, delayAt, pathDelay, operatorCases, operatorsCases, pathCases}
 use Rattle.figures.specs.Along.{flowInto, flowOfClass, AllFit}
 use Rattle.figures.proofs.Part.{part-in-time}
+use Rattle.figures.proofs.Capacities.{Sound, sound-start, sound-behind}
 use Rattle.figures.proofs.Steps.{Known, Timed, Passed, Step, known-start, timed-start, timed-counted, step}
 
 -- each operator's number is in its range
@@ -45,6 +47,12 @@ none-at path zero none k less = absurd (not-suc-le-zero less)
 none-at path (suc n) none k less =
     let (earlier, last) = none-of-each (operatorsCases path n) (operatorCases path n) none in
     ⊎-elim (λ same. rw same last) (none-at path n earlier k) (eq-or-lt-of-le (le-of-suc-le-suc less))
+
+-- nor against the first k
+pub none-before : (path : Path) (n : ℕ) → NoneStands (operatorsCases path n) → (k : ℕ) → k ≤ n → NoneStands (operatorsCases path k)
+none-before path zero none k few = let first : k ≡ 0 = omega arith in rw first none
+none-before path (suc n) none k few =
+    ⊎-elim (λ same. rw same none) (λ less. none-before path n (unfold operatorsCases in none-of-each (operatorsCases path n) (operatorCases path n) none .0) k (le-of-suc-le-suc less)) (eq-or-lt-of-le few)
 
 -- a paired operator pairs with the next one
 paired-pairs : (path : Path) (k : ℕ) → pairedAt path k ≡ true → pairs (operatorAt path k) (operatorAt path (suc k)) ≡ true
@@ -103,6 +111,11 @@ module _ (path : Path) (inside : pathInRange path ≡ true) (none : NoneStands (
   passed-at k less =
       let here = none-at path (length (path .operators)) (none-of-each (operatorsCases path (length (path .operators))) _ none .0) k less in
       record { inside = number-in-range (path .operators) (operators-of-path path inside) k less; placed = here .0; rated = here .1 .1 .0 }
+
+  pub sound-at : (k : ℕ) → k ≤ length (path .operators) → Sound (before path k)
+  unfolding before progressAt
+  sound-at zero h = sound-start (classOf (path .declaration))
+  sound-at (suc k) h = sound-behind (before path k) (operatorAt path k) (sound-at k (le-of-lt h)) (passed-at k h)
 
   module _ (r : Flow) (choices : ℕ → Flow) (kept : Keeps (classOf (path .declaration)) r) (fits : AllFit path r choices) where
     step-at : (k : ℕ) → k < length (path .operators) → Reached path r choices k

@@ -16,7 +16,7 @@ use Rattle.operator.specs.Operators.{leastOutput, greatestOutput, heldAfter, nu
 use Rattle.flow.specs.Flows.{flowOf}
 use Rattle.operator.specs.OnFlows.{outputOn, heldOn, none}
 use Rattle.flow.specs.Rows.{smaller, withUnits, leastOf, noRows, behindRows, mostOfRows, unitsIn, rowsMost, rowCarried, rowsCarried, reach, greatestOf, rowsBurst}
-use Rattle.flow.specs.Classes.{mostDelayed, blocksMet, changedQuota, carries, burstAt}
+use Rattle.flow.specs.Classes.{mostIn, mostDelayed, blocksMet, changedQuota, carries, burstAt}
 use Rattle.flow.specs.Declarations.{emptyRow, ofOneRow, ofSeveral, classOf}
 use Rattle.flow.specs.declared.DeclaredRow.{DeclaredRow}
 use Rattle.operator.specs.FilterPart.{slower}
@@ -27,8 +27,8 @@ use Rattle.operator.specs.declared.Operator.{Operator}
 use Rattle.operator.specs.declared.single.Stepped.{Stepped}
 use Rattle.sheet.specs.Paths.{Path}
 use Rattle.figures.specs.Progress.{behind, progressAt}
-use Rattle.figures.specs.Figures.{partHeld, partDelay, heldFigure, ownDelay, pairs, isFramed, framedAfterFilter, quotaBehind, figureTooLarge, rateTooLow}
-use Rattle.figures.specs.Answers.{operatorAt, before, pairedAt, heldAt, delayAt, pathDelay, operatorsCases, pathCases}
+use Rattle.figures.specs.Figures.{partHeld, partDelay, heldFigure, mostArriving, capacity, ownDelay, pairs, isFramed, framedAfterFilter, quotaBehind, figureTooLarge, rateTooLow}
+use Rattle.figures.specs.Answers.{operatorAt, before, pairedAt, capacityAt, delayAt, pathDelay, operatorsCases, pathCases}
 
 -- a path of a kind's (m, Q), its delay wanted and its operators, all on link 0
 abbrev pub pathOf : Kind → ℕ → ℕ → ℕ → List Operator → Path
@@ -70,7 +70,7 @@ pub data Outcome : Type 0 where
 abbrev pub outcome : Path → Outcome
 outcome path =
     firstOf (pathCases path) (λ why. refused (refusalNumber why) (refusalPlace why))
-    (figures (listOf (heldAt path) (length (path .operators))) (listOf (delayAt path) (length (path .operators))) (total (heldAt path) (length (path .operators))) (pathDelay path))
+    (figures (listOf (capacityAt path) (length (path .operators))) (listOf (delayAt path) (length (path .operators))) (total (capacityAt path) (length (path .operators))) (pathDelay path))
 
 -- a new filter 2's first step, of input 5
 abbrev pub stepOutcome : Stepped → Outcome
@@ -116,34 +116,34 @@ computed =
 
 pub expected : List Outcome
 expected =
-    figures (30 ∷ 30 ∷ 30 ∷ 30 ∷ []) (10 ∷ 0 ∷ 10 ∷ 10 ∷ []) 120 30
+    figures (60 ∷ 30 ∷ 60 ∷ 30 ∷ []) (10 ∷ 0 ∷ 10 ∷ 10 ∷ []) 180 30
     ∷ refused 9 0
-    ∷ figures (60 ∷ 30 ∷ 30 ∷ []) (20 ∷ 10 ∷ 10 ∷ []) 120 40
-    ∷ figures (60 ∷ 75 ∷ 75 ∷ 87 ∷ []) (20 ∷ 5 ∷ 0 ∷ 4 ∷ []) 297 29
+    ∷ figures (90 ∷ 33 ∷ 30 ∷ []) (20 ∷ 10 ∷ 10 ∷ []) 153 40
+    ∷ figures (90 ∷ 165 ∷ 195 ∷ 207 ∷ []) (20 ∷ 5 ∷ 0 ∷ 4 ∷ []) 657 29
     ∷ refused 8 0
-    ∷ figures (60 ∷ []) (15 ∷ []) 60 15
-    ∷ figures (16 ∷ []) (6 ∷ []) 16 6
+    ∷ figures (90 ∷ []) (15 ∷ []) 90 15
+    ∷ figures (24 ∷ []) (6 ∷ []) 24 6
     ∷ figures (8 ∷ []) (2 ∷ []) 8 2
     ∷ output (0 ∷ 0 ∷ 0 ∷ 3 ∷ 0 ∷ 0 ∷ [])
     ∷ output (5 ∷ [])
     ∷ refused 14 0
     ∷ output (0 ∷ 0 ∷ 4 ∷ [])
-    ∷ figures (30 ∷ []) (8 ∷ []) 30 8
-    ∷ figures (30 ∷ 60 ∷ []) (7 ∷ 5 ∷ []) 90 12
+    ∷ figures (60 ∷ []) (8 ∷ []) 60 8
     ∷ figures (60 ∷ 90 ∷ []) (7 ∷ 5 ∷ []) 150 12
-    ∷ figures (30 ∷ 58 ∷ 78 ∷ 66 ∷ []) (7 ∷ 8 ∷ 5 ∷ 2 ∷ []) 232 22
-    ∷ figures (13 ∷ []) (4 ∷ []) 13 4
+    ∷ figures (90 ∷ 150 ∷ []) (7 ∷ 5 ∷ []) 240 12
+    ∷ figures (60 ∷ 88 ∷ 138 ∷ 156 ∷ []) (7 ∷ 8 ∷ 5 ∷ 2 ∷ []) 442 22
+    ∷ figures (22 ∷ []) (4 ∷ []) 22 4
     ∷ refused 8 0
-    ∷ figures (0 ∷ []) (0 ∷ []) 0 0
-    ∷ figures (5 ∷ 50 ∷ []) (1 ∷ 10 ∷ []) 55 11
-    ∷ figures (45 ∷ 45 ∷ []) (8 ∷ 4 ∷ []) 90 12
-    ∷ figures (45 ∷ 45 ∷ []) (0 ∷ 8 ∷ []) 90 8
-    ∷ figures (39 ∷ 45 ∷ 75 ∷ 61 ∷ []) (7 ∷ 1 ∷ 5 ∷ 3 ∷ []) 220 16
-    ∷ figures (5 ∷ []) (1 ∷ []) 5 1
-    ∷ figures (7 ∷ []) (3 ∷ []) 7 3
+    ∷ figures (9 ∷ []) (0 ∷ []) 9 0
+    ∷ figures (14 ∷ 55 ∷ []) (1 ∷ 10 ∷ []) 69 11
+    ∷ figures (54 ∷ 45 ∷ []) (8 ∷ 4 ∷ []) 99 12
+    ∷ figures (45 ∷ 90 ∷ []) (0 ∷ 8 ∷ []) 135 8
+    ∷ figures (48 ∷ 90 ∷ 120 ∷ 124 ∷ []) (7 ∷ 1 ∷ 5 ∷ 3 ∷ []) 382 16
+    ∷ figures (15 ∷ []) (1 ∷ []) 15 1
+    ∷ figures (17 ∷ []) (3 ∷ []) 17 3
     ∷ refused 8 0
     ∷ []
 
 pub reference-paths : computed ≡ expected
-unfolding computed expected frames camera twoRows smaller withUnits leastOf noRows behindRows mostOfRows unitsIn rowsMost rowCarried rowsCarried reach greatestOf rowsBurst classOf carries burstAt changedQuota roundUp total every listOf inRange keeps compactorLeast compactorAfter besideAfter filterLeast filterGreatest filterAfter ofAge olderThan staysOf delayerLeast delayerAfter leastOutput greatestOutput heldAfter numberInRange outputOn heldOn mostDelayed euclid gcd blocksMet slower Single.stepOf Single.sent Single.holdsNext Single.choiceAbove Single.leavesTooMuch Single.stateNext Single.holds Single.usesHeld Single.usesBeside Single.wordsUsed storedFits wordFits Single.storedUnusable Single.unusable behind progressAt partHeld partDelay heldFigure ownDelay pairs isFramed framedAfterFilter quotaBehind figureTooLarge rateTooLow operatorAt before pairedAt heldAt delayAt pathDelay operatorsCases
+unfolding computed expected frames camera twoRows smaller withUnits leastOf noRows behindRows mostOfRows unitsIn rowsMost rowCarried rowsCarried reach greatestOf rowsBurst classOf carries burstAt changedQuota roundUp total every listOf inRange keeps compactorLeast compactorAfter besideAfter filterLeast filterGreatest filterAfter ofAge olderThan staysOf delayerLeast delayerAfter leastOutput greatestOutput heldAfter numberInRange outputOn heldOn mostIn mostDelayed euclid gcd blocksMet slower Single.stepOf Single.sent Single.holdsNext Single.choiceAbove Single.leavesTooMuch Single.stateNext Single.holds Single.usesHeld Single.usesBeside Single.wordsUsed storedFits wordFits Single.storedUnusable Single.unusable behind progressAt partHeld partDelay heldFigure mostArriving capacity ownDelay pairs isFramed framedAfterFilter quotaBehind figureTooLarge rateTooLow operatorAt before pairedAt capacityAt delayAt pathDelay operatorsCases
 reference-paths = refl

@@ -27,7 +27,7 @@ module _ (given : ℕ → Row) (k : ℕ) (inside : ClassWithin (rows given k)) w
   unfolding changedQuota
   changed-small n short = omega (arith, rows-most-bound given k n (inside .0) (inside .2) short)
 
-  -- the capacity of a filter part
+  -- the held figure of a filter part
   part-small : (e : ℕ) (P : Slowest) → e ≤ mostWith → RateWithin P → partHeld (rows given k) e P ≤ largestAmount
   unfolding partHeld mostDelayed
   part-small e unfiltered short rate = omega (arith, rows-most-bound given k e (inside .0) (inside .2) short)

@@ -12,10 +12,11 @@ use Rattle.quantity.specs.Refusals.{Case, firstOf}
 use Rattle.quantity.specs.declared.refusal.Refusal.{Refusal}
 use Rattle.quantity.proofs.Refusals.{NoneStands, firstOf-none, firstOf-append, firstOf-map, none-where-result}
 use borrow.Author.Tests.{eq-eqb}
-use Rattle.flow.specs.Declarations.{hasRows, declarationInRange}
-use Rattle.flow.specs.Bounds.{boundLength, boundOf, boundable, boundFilled}
+use Rattle.flow.specs.Declarations.{hasRows, declarationInRange, severalAt, classOf}
+use Rattle.flow.specs.Bounds.{boundLength, boundOf, boundable, boundFilled, RowsInside, ClassWithin}
 use Rattle.flow.specs.declared.Kind.{Kind}
 use Rattle.flow.proofs.Declarations.{kind-of-rows}
+use Rattle.flow.proofs.ClassBounds.{class-within}
 use Rattle.flow.specs.declared.Declaration.{Declaration}
 use Rattle.sheet.specs.Paths.{Path, noLinkedOperator}
 use Rattle.sheet.specs.Forms.{inFull, valueOfPath, noPath}
@@ -31,7 +32,7 @@ use Rattle.figures.specs.Answers.{pathCases, figureIn, noFigure, pathDel
 use Rattle.figures.specs.Cameras.{isCamera}
 use Rattle.figures.proofs.ClassLaws.{rest-of-bound}
 use Rattle.figures.proofs.CameraTable.{table, camera-bound}
-use Rattle.figures.specs.Carried.{Lent, WasRead, Readable, PathWithin, figuresOfValue, figuresOfRead}
+use Rattle.figures.specs.Carried.{HasBound, Lent, WasRead, Readable, PathWithin, figuresOfValue, figuresOfRead}
 
 -- the figures of a path: 6 to 9
 figuresOfPath : PathValue → Path → PathFigures
@@ -144,14 +145,20 @@ readable Verdict.Accepted value bound within lent =
     (within, lent (subst (λ (d : Declaration). declarationInRange d ≡ true) (within .clear) (declaration-of-path (inFull value) (within .inside))))
 readable (Verdict.Refused why) value bound empty lent = empty
 
+-- the rows of a declaration in its ranges
+several-within : (declared : Declaration) → declared .kind ≡ Kind.Rows → ClassWithin (classOf declared) → RowsInside (severalAt declared) (declared .count)
+unfolding classOf
+several-within declared rows within = let known = rw rows at within in known .2
+
 -- the table that is filled is, but for its first entry, the bound of the declaration's rows; the standard camera's is that too; of one row none is read
 pub filled-bound : (declared : Declaration) (lent : List ℕ) → length lent ≡ boundLength → hasRows (declared .kind) ≡ true → {after : List ℕ} → after ≡ boundFilled declared lent
-    → declarationInRange declared ≡ true → Lent (declared .kind) declared (take 1_024 (drop 1 after))
+    → declarationInRange declared ≡ true → Lent (declared .kind) declared (take 1_984 (drop 1 after))
 unfolding boundFilled boundable
 filled-bound declared lent sized several {after} filled inside =
     let rows = kind-of-rows (declared .kind) several in
     let whole : after ≡ boundOf declared = filled ∙ rw (eq-eqb (length lent) boundLength sized, several, inside) in
-    subst (λ (kind : Kind). Lent kind declared (take 1_024 (drop 1 after))) (sym rows) (ap (λ (l : List ℕ). 0 ∷ take 1_024 (drop 1 l)) whole ∙ rest-of-bound declared)
+    let within = several-within declared rows (class-within declared inside) in
+    subst (λ (kind : Kind). Lent kind declared (take 1_984 (drop 1 after))) (sym rows) (subst⁻¹ (λ (l : List ℕ). HasBound declared (take 1_984 (drop 1 l))) whole (rest-of-bound declared within))
 
 pub camera-lent : (declared : Declaration) → hasRows (declared .kind) ≡ true → isCamera declared ≡ true → Lent (declared .kind) declared table
 camera-lent declared several camera = subst (λ (kind : Kind). Lent kind declared table) (sym (kind-of-rows (declared .kind) several)) (camera-bound declared camera)

@@ -22,8 +22,8 @@ use Rattle.operator.specs.declared.Operator.the-variants.{Limiter, Compactor, E
 use Rattle.flow.proofs.Laws as Flows
 use Rattle.operator.proofs.Laws as Laws
 use Rattle.figures.specs.Progress.{Progress, start, behind}
-use Rattle.figures.specs.Figures.{partDelay, delayOfPart, heldFigure, ownDelay, pairs, isFramed, framedAfterFilter, rateTooLow}
-use Rattle.figures.proofs.Part.{Carries, slower-carries, delay-le-slower, delay-le-longer, part-held, part-beside}
+use Rattle.figures.specs.Figures.{partDelay, delayOfPart, heldFigure, mostArriving, capacity, ownDelay, pairs, isFramed, framedAfterFilter, rateTooLow}
+use Rattle.figures.proofs.Part.{Carries, slower-carries, delay-le-slower, delay-le-longer, part-arrives, part-held, part-beside}
 
 -- what is known before an operator, of the flow g that the class is of and the flow f into the operator
 pub record Known (p : Progress) (g f : Flow) : Type 0 where
@@ -52,6 +52,8 @@ pub record Step (p : Progress) (op : Operator) (g f c : Flow) : Type 0 where
   pub known : Known (behind p op) (pick (isFramed op) (outputOn op f c) g) (outputOn op f c)
   pub held : (n : ℕ) → heldOn op f c n .b ≤ heldFigure p op
   pub beside : (n : ℕ) → heldOn op f c n .h ≤ heldFigure p op
+  pub arrives : (n : ℕ) → f n ≤ mostArriving p
+  pub fullest : (n : ℕ) → heldOn op f c n .b + f n ≤ capacity p op
   pub timed : (r : Flow) (D : ℕ) (next : Operator) (pair : Bool) → (pair ≡ true → pairs op next ≡ true) → Timed r p op g f D
       → Timed r (behind p op) next (pick (isFramed op) (outputOn op f c) g) (outputOn op f c) (D + ownDelay p op pair)
 
@@ -63,7 +65,7 @@ pub above-least : (range : Range) (value : ℕ) → inRange range value ≡ true
 unfolding inRange
 above-least range value e = leb-true (range .least) value (both-true (leb (range .least) value) (leb value (range .largest)) e .0)
 
-not-in-part : (t : Bool) → pick t true false ≡ false → t ≡ false
+pub not-in-part : (t : Bool) → pick t true false ≡ false → t ≡ false
 not-in-part true e = e
 not-in-part false e = refl
 
@@ -79,6 +81,11 @@ timed-counted r p op g f D other (counted E sum late) = (E, sum, late)
 timed-counted r p op g f D other (paired n s c makes flow fits late) = absurd (true≢false (sym makes ∙ other n))
 
 module _ (p : Progress) (g f c : Flow) (known : Known p g f) where
+  -- into every operator, since the flow into it is that behind its part so far
+  arrives-into : (n : ℕ) → f n ≤ mostArriving p
+  unfolding mostArriving
+  arrives-into = part-arrives (p .class) g (known .large) (known .kept) (p .slowest) (p .e) f (known .carries) (known .entered) (known .served)
+
   -- Framed operators, before the filter part.
 
   module _ (before : p .inFilterPart ≡ false) where
@@ -96,16 +103,19 @@ module _ (p : Progress) (g f c : Flow) (known : Known p g f) where
         rw (← all, ← known .plain before .1) late
 
   step-limiter : (R : Rate) → Passed p (Limiter R) → Fitting (Limiter R) f c → Step p (Limiter R) g f c
-  unfolding behind heldFigure ownDelay pairs isFramed framedAfterFilter rateTooLow numberInRange
+  unfolding behind heldFigure capacity ownDelay pairs isFramed framedAfterFilter rateTooLow numberInRange
   step-limiter R passed fits =
       let output = outputOn (Limiter R) f c in
       let before = not-in-part (p .inFilterPart) (passed .placed) in
       let bound : Envelope (burstAt (p .class) (R .0)) (R .0) f = Flows.envelope (p .class) f (R .0) (known .large) (not-false (carries (p .class) (R .0)) (passed .rated)) (kept-into before) in
+      let held = Laws.limiter-held (R .0) (burstAt (p .class) (R .0)) f c fits bound in
       let late = Laws.limiter-in-time (R .0) (burstAt (p .class) (R .0)) f c (above-least rateRange (R .0) (passed .inside)) fits bound in
       record {
         known = known-start (uniform 1 (R .0)) output (le-refl 1) (Laws.limiter-uniform (R .0) f c fits);
-        held = Laws.limiter-held (R .0) (burstAt (p .class) (R .0)) f c fits bound;
+        held = held;
         beside = λ n. omega (arith, Laws.beside-none (Limiter R) (λ R same. let z : _≡_ {A = ℕ} 0 1 = cc in omega arith) f c n);
+        arrives = arrives-into;
+        fullest = λ n. omega (arith, held n, arrives-into n);
         timed = λ r D next pair makes timed. timed-start r (uniform 1 (R .0)) next output _
             (Flows.in-time-add D _ r f output (late-into before r D (timed-counted r p (Limiter R) g f D (λ n. refl) timed)) late);
       }
@@ -119,7 +129,7 @@ module _ (p : Progress) (g f c : Flow) (known : Known p g f) where
       timed-start r q next _ _ (Flows.in-time-add D (n .0) r f (outputOn (Expander n) f c) late (Laws.expander-in-time (n .0) f c large fits))
 
   step-expander : (n : Interval) → Passed p (Expander n) → Fitting (Expander n) f c → Step p (Expander n) g f c
-  unfolding behind heldFigure ownDelay pairs isFramed framedAfterFilter numberInRange
+  unfolding behind heldFigure capacity ownDelay pairs isFramed framedAfterFilter numberInRange
   step-expander n passed fits =
       let output = outputOn (Expander n) f c in
       let Q = changedQuota (n .0) (p .class) in
@@ -130,6 +140,8 @@ module _ (p : Progress) (g f c : Flow) (known : Known p g f) where
         known = known-start (smooth (n .0) Q) output large (Laws.expander-smooth (n .0) Q f c large fits kept);
         held = Laws.expander-held (n .0) Q f c large fits kept;
         beside = λ k. omega (arith, Laws.beside-none (Expander n) (λ R same. let z : _≡_ {A = ℕ} 0 1 = cc in omega arith) f c k);
+        arrives = arrives-into;
+        fullest = Laws.expander-fullest (n .0) Q f c large fits kept;
         timed = λ r D next pair makes timed. timed-expander n _ large fits r D next (late-into before r D (timed-counted r p (Expander n) g f D (λ n. refl) timed)) pair makes;
       }
 
@@ -146,17 +158,20 @@ module _ (p : Progress) (g f c : Flow) (known : Known p g f) where
       (rw (← into) (Laws.pair-in-time (n .0) s e c large (rw interval at first) (rw into fits)))
 
   step-compactor : (n : Interval) → Passed p (Compactor n) → Fitting (Compactor n) f c → Step p (Compactor n) g f c
-  unfolding behind heldFigure ownDelay isFramed framedAfterFilter numberInRange
+  unfolding behind heldFigure capacity ownDelay isFramed framedAfterFilter numberInRange
   step-compactor n passed fits =
       let output = outputOn (Compactor n) f c in
       let Q = changedQuota (n .0) (p .class) in
       let before = not-in-part (p .inFilterPart) (passed .placed) in
       let large = above-least intervalRange (n .0) (passed .inside) in
       let kept = smooth-into before (n .0) in
+      let held = Laws.compactor-held (n .0) Q f c large fits kept in
       record {
         known = known-start (uniform (n .0) Q) output large (Laws.compactor-uniform (n .0) Q f c large fits kept);
-        held = Laws.compactor-held (n .0) Q f c large fits kept;
+        held = held;
         beside = λ k. omega (arith, Laws.beside-none (Compactor n) (λ R same. let z : _≡_ {A = ℕ} 0 1 = cc in omega arith) f c k);
+        arrives = arrives-into;
+        fullest = λ n. omega (arith, held n, arrives-into n);
         timed = λ r D next pair makes timed. timed-start r (uniform (n .0) Q) next output _ (late-compactor n before large fits r D timed);
       }
 
@@ -175,29 +190,35 @@ module _ (p : Progress) (g f c : Flow) (known : Known p g f) where
       }
 
   step-filter : (R : Rate) → Passed p (Filter R) → Fitting (Filter R) f c → Step p (Filter R) g f c
-  unfolding behind heldFigure ownDelay pairs isFramed rateTooLow numberInRange
+  unfolding behind heldFigure capacity ownDelay pairs isFramed rateTooLow numberInRange
   step-filter R passed fits =
       let output = outputOn (Filter R) f c in
       let enough = slower-carries (p .slowest) (R .0) (p .class) (known .carries) (above-least rateRange (R .0) (passed .inside)) (not-false (carries (p .class) (R .0)) (passed .rated)) in
       let served = Laws.served-filter (p .slowest) (p .e) (R .0) g f c (known .served) fits in
+      let held = part-held (p .class) g (known .large) (known .kept) f c (known .entered) (Filter R) _ (p .e) enough fits served in
       record {
         known = known-in-part (Filter R) (p .e) _ enough fits served;
-        held = part-held (p .class) g (known .large) (known .kept) f c (known .entered) (Filter R) _ (p .e) enough fits served;
+        held = held;
         beside = part-beside (p .class) g (known .large) (known .kept) f c (known .entered) (R .0) (p .slowest) (p .e) enough (known .served);
+        arrives = arrives-into;
+        fullest = λ n. omega (arith, held n, arrives-into n);
         timed = λ r D next pair makes timed.
             let (E, sum, late) = timed-counted r p (Filter R) g f D (λ n. refl) timed in
             counted E (omega (arith, delay-le-slower (p .class) (p .e) (p .slowest) (R .0) (known .large) (above-least rateRange (R .0) (passed .inside)) (not-false (carries (p .class) (R .0)) (passed .rated)))) late;
       }
 
   step-delayer : (d : Delay) → Passed p (Delayer d) → Fitting (Delayer d) f c → Step p (Delayer d) g f c
-  unfolding behind heldFigure ownDelay pairs isFramed
+  unfolding behind heldFigure capacity ownDelay pairs isFramed
   step-delayer d passed fits =
       let output = outputOn (Delayer d) f c in
       let served = Laws.served-delayer (p .slowest) (p .e) (d .0) g f c (known .served) fits in
+      let held = part-held (p .class) g (known .large) (known .kept) f c (known .entered) (Delayer d) (p .slowest) _ (known .carries) fits served in
       record {
         known = known-in-part (Delayer d) (p .e + d .0) (p .slowest) (known .carries) fits served;
-        held = part-held (p .class) g (known .large) (known .kept) f c (known .entered) (Delayer d) (p .slowest) _ (known .carries) fits served;
+        held = held;
         beside = λ n. omega (arith, Laws.beside-none (Delayer d) (λ R same. let z : _≡_ {A = ℕ} 0 1 = cc in omega arith) f c n);
+        arrives = arrives-into;
+        fullest = λ n. omega (arith, held n, arrives-into n);
         timed = λ r D next pair makes timed.
             let (E, sum, late) = timed-counted r p (Delayer d) g f D (λ n. refl) timed in
             counted E (omega (arith, delay-le-longer (p .class) (p .e) (d .0) (p .slowest))) late;

@@ -20,7 +20,7 @@ use Rattle.sheet.specs.declared.read.Verdict.{Verdict}
 use Rattle.figures.specs.declared.Figure.{Figure}
 use Rattle.figures.specs.declared.PathFigures.{PathFigures}
 use Rattle.figures.specs.Progress.{Progress, progressAt}
-use Rattle.figures.specs.Figures.{heldFigure, ownDelay, pairs, framedAfterFilter, figureTooLarge, rateTooLow}
+use Rattle.figures.specs.Figures.{heldFigure, capacity, ownDelay, pairs, framedAfterFilter, figureTooLarge, rateTooLow}
 
 -- operator k of a path
 unfoldable pub operatorAt : Path → ℕ → Operator
@@ -34,9 +34,13 @@ before path k = progressAt (classOf (path .declaration)) (operatorAt path) k
 unfoldable pub pairedAt : Path → ℕ → Bool
 pairedAt path k = pick (ltb (k + 1) (length (path .operators))) (pairs (operatorAt path k) (operatorAt path (k + 1))) false
 
--- the capacity of operator k
+-- the held figure of operator k
 unfoldable pub heldAt : Path → ℕ → ℕ
 heldAt path k = heldFigure (before path k) (operatorAt path k)
+
+-- its capacity
+unfoldable pub capacityAt : Path → ℕ → ℕ
+capacityAt path k = capacity (before path k) (operatorAt path k)
 
 -- its own delay
 unfoldable pub delayAt : Path → ℕ → ℕ
@@ -68,7 +72,7 @@ abbrev pub figuresCases : List ℕ → List Case
 figuresCases sheet = sheetCases sheet ++ pathCases (pathIn sheet)
 
 unfoldable pub figureAt : Path → ℕ → Figure
-figureAt path k = record { capacity = record { 0 = heldAt path k }; delay = record { 0 = delayAt path k } }
+figureAt path k = record { capacity = record { 0 = capacityAt path k }; delay = record { 0 = delayAt path k } }
 
 unfoldable pub noFigure : Figure
 noFigure = record { capacity = record { 0 = 0 }; delay = record { 0 = 0 } }

@@ -1,10 +1,10 @@
 -- Serves the private contracts of the figures, and need not be believed: no public call cites it.
 -- What the code carries along a path stands for a progress of section 4; and the bounds within which its numbers fit their words.
-use Prim.Native.Nat.{ℕ, _≤_}
+use Prim.Native.Nat.{ℕ, _+_, _≤_, _<_}
 use mathlib.Core.Path.{_≡_}
-use mathlib.Core.Bool.{Bool, true}
+use mathlib.Core.Bool.{Bool, true, false}
 use mathlib.Core.List.{List, [], _∷_}
-use lib.ListN.{length}
+use lib.ListN.{length, getD}
 use Rattle.quantity.specs.Limits.{mostOperators}
 use Rattle.quantity.specs.Rounding.{roundUp}
 use Rattle.quantity.specs.Refusals.{Case, _⇒_, firstOf}
@@ -13,11 +13,13 @@ use Rattle.quantity.specs.declared.refusal.Refusal.{Refusal}
 use Rattle.quantity.specs.declared.refusal.Refusal.the-variants.{FramedAfterFilter, FigureTooLarge, RateTooLow}
 use Rattle.flow.specs.Classes.{Class, smooth, uniform, rows, changedQuota, burstAt}
 use Rattle.flow.specs.Declarations.{byKind, severalAt, cleared}
-use Rattle.flow.specs.Bounds.{boundOf, ClassWithin}
+use Rattle.flow.specs.Rows.{rowsMost}
+use Rattle.flow.specs.Bounds.{ClassWithin}
 use Rattle.flow.specs.declared.Kind.{Kind}
 use Rattle.flow.specs.declared.Declaration.{Declaration}
 use Rattle.operator.specs.FilterPart.{Slowest, unfiltered, filtered}
 use Rattle.operator.specs.declared.Operator.{Operator}
+use Rattle.operator.specs.declared.Operator.the-variants.{Limiter, Compactor, Expander, Filter, Delayer}
 use Rattle.sheet.specs.Forms.{inFull, noPath}
 use Rattle.sheet.specs.Sheets.{pathInRange}
 use Rattle.sheet.specs.declared.PathValue.{PathValue}
@@ -54,11 +56,30 @@ pub record Within (longest : ℕ) (p : Progress) : Type 0 where
   pub e : p .e ≤ longest
   pub slowest : RateWithin (p .slowest)
 
--- where the class is of rows, the lent table is their bound in 1 slot and more
+-- of fifteen delayers before an operator, and of sixteen with it
+abbrev pub mostBefore : ℕ
+mostBefore = 960
+
+abbrev pub mostWith : ℕ
+mostWith = 1_024
+
+-- a table that has the bound of a declaration's rows in 1 slot and more: as far as figures ask, which is an interval of 1,024, and one of the rows' own behind fifteen delayers
+pub record HasBound (declared : Declaration) (bound : List ℕ) : Type 0 where
+  pub entries : (n : ℕ) → n ≤ length bound → getD (0 ∷ bound) n 0 ≡ rowsMost (severalAt declared) (declared .count) n
+  pub long : 1_024 ≤ length bound
+  pub longer : (i : ℕ) → i < declared .count → mostBefore + severalAt declared i .interval ≤ length bound
+
+-- where the class is of rows, the lent table has their bound
 abbrev pub Lent : Kind → Declaration → List ℕ → Type 0
 Lent Kind.Smooth declared bound = Unit {0}
 Lent Kind.Uniform declared bound = Unit {0}
-Lent Kind.Rows declared bound = 0 ∷ bound ≡ boundOf declared
+Lent Kind.Rows declared bound = HasBound declared bound
+
+-- and it has the most in so many slots
+abbrev pub Reaches : Kind → List ℕ → ℕ → Type 0
+Reaches Kind.Smooth bound n = Unit {0}
+Reaches Kind.Uniform bound n = Unit {0}
+Reaches Kind.Rows bound n = n ≤ length bound
 
 -- what is kept as the burst is that at the least rate, with the slots in which the rate sends it
 abbrev pub BurstKept : Class → LeastRate → Type 0
@@ -75,18 +96,19 @@ pub record Ready (longest : ℕ) (declared : Declaration) (bound : List ℕ) (c 
   pub lent : Lent (c .class .kind) declared bound
   pub burst : BurstKept (classIn declared (c .class)) (c .slowest)
 
--- of fifteen delayers before an operator, and of sixteen with it
-abbrev pub mostBefore : ℕ
-mostBefore = 960
-
-abbrev pub mostWith : ℕ
-mostWith = 1_024
-
 -- what an operator behind a progress goes through, as 6 to 8 of a path's operator k
 abbrev pub casesOf : Progress → Operator → ℕ → List Case
 casesOf p op k = (framedAfterFilter p op ⇒ FramedAfterFilter k) ∷ (figureTooLarge p op ⇒ FigureTooLarge k) ∷ (rateTooLow p op ⇒ RateTooLow k) ∷ []
 
--- its figure
+-- an expander, whose held figure covers what arrives
+abbrev pub isExpander : Operator → Bool
+isExpander (Limiter R) = false
+isExpander (Compactor n) = false
+isExpander (Expander n) = true
+isExpander (Filter R) = false
+isExpander (Delayer d) = false
+
+-- its held figure and its own delay, of which its figure is made
 abbrev pub figureOf : Progress → Operator → Bool → Figure
 figureOf p op paired = record { capacity = record { 0 = heldFigure p op }; delay = record { 0 = ownDelay p op paired } }
 

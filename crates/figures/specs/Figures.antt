@@ -1,17 +1,17 @@
--- Section 4: an operator's capacity and own delay, from the class before it; and what refuses them (section 7, 6 to 8).
-use Prim.Native.Nat.{ℕ, _+_, _-_, _*_}
+-- Section 4, with document 02, item 9: an operator's held figure, capacity and own delay, from the class before it; and what refuses them (section 7, 6 to 8).
+use Prim.Native.Nat.{ℕ, suc, _+_, _-_, _*_}
 use mathlib.Core.Bool.{Bool, true, false, not}
 use lib.Dec.{ltb, eqb}
 use Rattle.quantity.specs.Choice.{pick, either}
 use Rattle.quantity.specs.Rounding.{roundUp}
 use Rattle.quantity.specs.Limits.{largestAmount}
-use Rattle.flow.specs.Classes.{Class, mostDelayed, changedQuota, carries, burstAt}
+use Rattle.flow.specs.Classes.{Class, mostIn, mostDelayed, changedQuota, carries, burstAt}
 use Rattle.operator.specs.FilterPart.{Slowest, unfiltered, filtered}
 use Rattle.operator.specs.declared.Operator.{Operator}
 use Rattle.operator.specs.declared.Operator.the-variants.{Limiter, Compactor, Expander, Filter, Delayer}
 use Rattle.figures.specs.Progress.{Progress, behind}
 
--- in the filter part, the held figure is burst + e·P, the burst taken at P; with no filter so far it is the most of the class in e slots
+-- in the filter part what is held is at most burst + e·P, the burst taken at P; with no filter so far, what delayers of e slots hold
 unfoldable pub partHeld : Class → ℕ → Slowest → ℕ
 partHeld c e unfiltered = mostDelayed c e
 partHeld c e (filtered P) = burstAt c P + e * P
@@ -28,13 +28,25 @@ heldOfPart p = partHeld (p .class) (p .e) (p .slowest)
 abbrev pub delayOfPart : Progress → ℕ
 delayOfPart p = partDelay (p .class) (p .e) (p .slowest)
 
--- an operator's held figure
+-- section 4's figure: what an operator holds at a slot's end, and a filter's h, are at most this
 unfoldable pub heldFigure : Progress → Operator → ℕ
 heldFigure p (Limiter R) = burstAt (p .class) (R .0)
 heldFigure p (Compactor n) = changedQuota (n .0) (p .class)
 heldFigure p (Expander n) = changedQuota (n .0) (p .class)
 heldFigure p (Filter R) = heldOfPart (behind p (Filter R))
 heldFigure p (Delayer d) = heldOfPart (behind p (Delayer d))
+
+-- the most that arrives at an operator in one slot: the most of the class in 1 + D slots, D the filter part's delay before it, which is 0 before a filter part
+unfoldable pub mostArriving : Progress → ℕ
+mostArriving p = mostIn (p .class) (suc (delayOfPart p))
+
+-- an operator's capacity, for the fullest moment: before it sends it has what it held and what arrives. An expander's held figure covers both
+unfoldable pub capacity : Progress → Operator → ℕ
+capacity p (Limiter R) = heldFigure p (Limiter R) + mostArriving p
+capacity p (Compactor n) = heldFigure p (Compactor n) + mostArriving p
+capacity p (Expander n) = heldFigure p (Expander n)
+capacity p (Filter R) = heldFigure p (Filter R) + mostArriving p
+capacity p (Delayer d) = heldFigure p (Delayer d) + mostArriving p
 
 -- an operator's own delay; `paired` is whether the next operator is a compactor of its interval
 unfoldable pub ownDelay : Progress → Operator → Bool → ℕ

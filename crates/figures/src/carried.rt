@@ -2,7 +2,8 @@
 
 use crate::class::FlowClass;
 use crate::class::burst_at;
-use crate::class::most_in;
+use crate::class::most_delayed;
+use crate::class::most_late;
 use crate::class::round_up;
 use crate::class::wide;
 use flow::Declaration;
@@ -14,7 +15,7 @@ use quantity::Slots;
 use quantity::Units;
 ghost use mathlib.Core.Path.{_≡_};
 ghost use mathlib.Core.Bool.{true, false};
-ghost use Prim.Native.Nat.{_+_, _≤_};
+ghost use Prim.Native.Nat.{_+_, _*_, _≤_};
 ghost use Rattle.quantity.specs.Ranges.{inRange, delayRange};
 ghost use Rattle.operator.specs.FilterPart.{filtered, slower};
 ghost use Rattle.flow.specs.Declarations.{classOf};
@@ -22,7 +23,7 @@ ghost use Rattle.flow.specs.Bounds.{ClassWithin};
 ghost use Rattle.operator.specs.Operators.{numberInRange};
 ghost use Rattle.operator.specs.declared.Operator.the-variants.{Filter};
 ghost use Rattle.figures.specs.Progress.{start, behind};
-ghost use Rattle.figures.specs.Figures.{heldOfPart};
+ghost use Rattle.figures.specs.Figures.{heldOfPart, mostArriving};
 ghost use Rattle.figures.specs.Carried.{classIn, slowestIn, progressIn, Lent, BurstKept, slotsKept, Ready, mostBefore, mostWith};
 ghost use Rattle.figures.specs.declared.carried.LeastRate.the-variants.{NoFilter};
 
@@ -142,7 +143,7 @@ pub(crate) fn behind_delayer(carried: Carried, delay: Delay) -> Carried
     in_part(class, e, slowest)
 }
 
-// The capacity of the filter part so far.
+// The held figure of the filter part so far.
 pub(crate) fn part_held(carried: Carried, declared: Declaration, bound: &[u32]) -> Units
     requires { ⌜ Ready mostWith declared (now bound) carried ⌝ }
     ensures { λ r. ⌜ r .0 ≡ heldOfPart (progressIn declared carried) ⌝ }
@@ -150,7 +151,7 @@ pub(crate) fn part_held(carried: Carried, declared: Declaration, bound: &[u32]) 
     let class = carried.class;
     let slowest = carried.slowest;
     match slowest {
-        LeastRate::NoFilter => most_in(class, declared, bound, carried.e),
+        LeastRate::NoFilter => most_delayed(class, declared, bound, carried.e),
         LeastRate::Least(rate, burst, _) => burst.plus(rate.over(carried.e)),
     }
 }
@@ -163,4 +164,15 @@ pub(crate) fn sending(slowest: LeastRate) -> Slots
         LeastRate::NoFilter => Slots(0),
         LeastRate::Least(_, _, slots) => slots,
     }
+}
+
+// The most that arrives at the next operator in one slot: a filter part makes its flow late.
+pub(crate) fn most_arriving(carried: Carried, declared: Declaration, bound: &[u32]) -> Units
+    requires { ⌜ Ready mostBefore declared (now bound) carried ⌝ }
+    ensures { λ r. ⌜ (r .0 ≡ mostArriving (progressIn declared carried)) × (r .0 ≤ 134_218_751 * 67_108_863) ⌝ }
+{
+    let class = carried.class;
+    let slowest = carried.slowest;
+    let late = sending(slowest).plus(carried.e);
+    most_late(class, declared, bound, late)
 }

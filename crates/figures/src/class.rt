@@ -10,15 +10,15 @@ use quantity::Slots;
 use quantity::Units;
 use quantity::divisor::gcd;
 ghost use mathlib.Core.Path.{_≡_};
-ghost use Prim.Native.Nat.{ℕ, _+_, _-_, _*_, _≤_, _<_, max};
+ghost use Prim.Native.Nat.{suc, ℕ, _+_, _-_, _*_, _≤_, _<_, max};
 ghost use mathlib.Core.List.{_∷_};
 ghost use lib.ListN.{length, getD};
 ghost use Rattle.quantity.specs.Rounding.{roundUp};
 ghost use Rattle.flow.specs.Rows.{rowCarried, reach, greatestOf};
-ghost use Rattle.flow.specs.Classes.{mostDelayed, blocksMet, changedQuota, carries, burstAt};
+ghost use Rattle.flow.specs.Classes.{mostIn, mostDelayed, blocksMet, changedQuota, carries, burstAt};
 ghost use Rattle.flow.specs.Declarations.{emptyRow, rowOf};
 ghost use Rattle.flow.specs.Bounds.{ClassWithin};
-ghost use Rattle.figures.specs.Carried.{classIn, Lent};
+ghost use Rattle.figures.specs.Carried.{classIn, Lent, Reaches};
 
 // Smooth or uniform (m, Q). Behind a change of interval Q may be larger than a declared quota. Rows are the declaration's, and have no (m, Q) of their own.
 pub struct FlowClass {
@@ -131,8 +131,13 @@ fn entry(bound: &[u32], n: u32) -> u32
     if n == 0 { 0 } else { bound[(n - 1) as usize] }
 }
 
-// The most that the class carries in n neighbouring slots.
-pub(crate) fn most_in(class: FlowClass, declared: Declaration, bound: &[u32], n: Slots) -> Units
+// The most that delayers of n slots in all hold before any filter; of a uniform class and of rows that is the most in n slots.
+pub(crate) fn most_delayed(
+    class: FlowClass,
+    declared: Declaration,
+    bound: &[u32],
+    n: Slots,
+) -> Units
     requires { ⌜ ClassWithin (classIn declared class) × Lent (class .kind) declared (now bound) × (n .0 ≤ 1_024) ⌝ }
     ensures { λ r. ⌜ r .0 ≡ mostDelayed (classIn declared class) (n .0) ⌝ }
 {
@@ -147,6 +152,30 @@ pub(crate) fn most_in(class: FlowClass, declared: Declaration, bound: &[u32], n:
             Units(blocks * class.quota.0)
         }
         Kind::Rows => Units(wide(entry(bound, n.0))),
+    }
+}
+
+// The most that arrives in one slot of a flow of the class that is so many slots late: the most of the class in one slot and so many more.
+pub(crate) fn most_late(
+    class: FlowClass,
+    declared: Declaration,
+    bound: &[u32],
+    late: Slots,
+) -> Units
+    requires { ⌜ ClassWithin (classIn declared class) × Lent (class .kind) declared (now bound) × Reaches (class .kind) (now bound) (suc (late .0)) × (late .0 ≤ 134_218_750) ⌝ }
+    ensures { λ r. ⌜ (r .0 ≡ mostIn (classIn declared class) (suc (late .0))) × (r .0 ≤ 134_218_751 * 67_108_863) ⌝ }
+{
+    let kind = class.kind;
+    match kind {
+        Kind::Smooth => {
+            let blocks = round_up(wide(late.0), wide(class.interval.0));
+            Units((blocks + 1) * class.quota.0)
+        }
+        Kind::Uniform => {
+            let blocks = round_up(wide(late.0) + 1, wide(class.interval.0));
+            Units(blocks * class.quota.0)
+        }
+        Kind::Rows => Units(wide(bound[late.0 as usize])),
     }
 }
 
@@ -175,7 +204,7 @@ pub(crate) fn changed_quota(
             let interval = class.interval;
             Units(blocks_met(interval, n) * class.quota.0)
         }
-        Kind::Uniform => most_in(class, declared, bound, Slots(n.0)),
-        Kind::Rows => most_in(class, declared, bound, Slots(n.0)),
+        Kind::Uniform => most_delayed(class, declared, bound, Slots(n.0)),
+        Kind::Rows => most_delayed(class, declared, bound, Slots(n.0)),
     }
 }

@@ -1,4 +1,4 @@
-// The figure of one operator and what is carried behind it, or why it is refused (document 01, sections 4 and 7).
+// The figure of one operator and what is carried behind it, or why it is refused (document 01, sections 4 and 7; document 02, item 9).
 
 use crate::Figure;
 use crate::carried::Carried;
@@ -6,6 +6,7 @@ use crate::carried::LeastRate;
 use crate::carried::behind_delayer;
 use crate::carried::behind_filter;
 use crate::carried::framed;
+use crate::carried::most_arriving;
 use crate::carried::part_held;
 use crate::carried::sending;
 use crate::class::burst_at;
@@ -26,16 +27,17 @@ ghost use mathlib.Core.Path.{_≡_};
 ghost use mathlib.Core.Bool.{true, false};
 ghost use Prim.Native.Nat.{_-_, _≤_};
 ghost use Rattle.quantity.specs.Choice.{pick};
+ghost use Rattle.quantity.specs.Limits.{largestAmount};
 ghost use Rattle.operator.specs.Operators.{numberInRange};
 ghost use Rattle.operator.specs.declared.Operator.the-variants.{Limiter, Expander, Filter, Delayer};
 ghost use Rattle.figures.specs.Progress.{start};
-ghost use Rattle.figures.specs.Figures.{pairs};
-ghost use Rattle.figures.specs.Carried.{progressIn, Lent, slotsKept, Ready, mostBefore, changedClass, outcome, plannedOf, CarriedOn, PlannedAs};
+ghost use Rattle.figures.specs.Figures.{heldFigure, capacity, pairs};
+ghost use Rattle.figures.specs.Carried.{isExpander, progressIn, Lent, slotsKept, Ready, mostBefore, changedClass, outcome, plannedOf, CarriedOn, PlannedAs};
 
 // Section 7, 7: the largest changed quota.
 const LARGEST_CHANGED_QUOTA: u64 = 67_108_863;
 
-// What one operator comes to: its figure and what is carried behind it, or why it is refused.
+// What one operator comes to: its held figure and own delay, and what is carried behind it, or why it is refused.
 pub enum Planned {
     Fits(Figure, Carried),
     Refused(Refusal),
@@ -112,7 +114,7 @@ fn expander_delay(n: Interval, paired: bool) -> Slots
     if paired { Slots(0) } else { Slots(n.0) }
 }
 
-// An expander, or a compactor, whose figure is that of an expander that has no pair; its output is of this kind, and of the changed quota. A quota that is not too large is no capacity too large.
+// An expander, or a compactor, whose figure is that of an expander that has no pair; its output is of this kind, and of the changed quota. A quota that is not too large is no held figure too large.
 fn plan_frame(
     carried: Carried,
     declared: Declaration,
@@ -203,7 +205,42 @@ fn plan_delayer(
     Planned::Fits(figure, after)
 }
 
-// The figure of operator k and what is carried behind it; `paired` is whether the next operator is a compactor of its interval.
+fn is_expander(operator: Operator) -> bool
+    ensures { λ r. ⌜ r ≡ isExpander operator ⌝ }
+{
+    match operator {
+        Operator::Expander(_) => true,
+        Operator::Limiter(_) => false,
+        Operator::Compactor(_) => false,
+        Operator::Filter(_) => false,
+        Operator::Delayer(_) => false,
+    }
+}
+
+// An operator's figure: its capacity is for the fullest moment, before it sends, when it has what it held and what arrives. What an expander holds at the most has both already.
+pub(crate) fn fullest(
+    carried: Carried,
+    declared: Declaration,
+    bound: &[u32],
+    operator: Operator,
+    held: Figure,
+) -> Figure
+    requires { ⌜ Ready mostBefore declared (now bound) carried × (held .capacity .0 ≡ heldFigure (progressIn declared carried) operator) × (held .capacity .0 ≤ largestAmount) ⌝ }
+    ensures { λ r. ⌜ (r .capacity .0 ≡ capacity (progressIn declared carried) operator) × (r .delay ≡ held .delay) ⌝ }
+{
+    if is_expander(operator) {
+        return held;
+    }
+    let arriving = most_arriving(carried, declared, bound);
+    let most = held.capacity;
+    let delay = held.delay;
+    Figure {
+        capacity: most.plus(arriving),
+        delay,
+    }
+}
+
+// The held figure and own delay of operator k, and what is carried behind it; `paired` is whether the next operator is a compactor of its interval.
 pub(crate) fn plan(
     carried: Carried,
     declared: Declaration,

@@ -4,6 +4,7 @@ use crate::camera::MOST;
 use crate::camera::is_camera;
 use crate::carried::start;
 use crate::each::Planned;
+use crate::each::fullest;
 use crate::each::paired;
 use crate::each::plan;
 use flow::bound::LENGTH;
@@ -149,9 +150,9 @@ fn figures_read(answer: ReadSheet, bound: &[u32]) -> PathFigures
                 planned = refused(why);
                 return planned;
             }
-            Planned::Fits(figure, behind) => {
-                planned.figures[k] = figure;
-                delay = delay.plus(figure.delay);
+            Planned::Fits(held, behind) => {
+                planned.figures[k] = fullest(carried, declaration, bound, operator, held);
+                delay = delay.plus(held.delay);
                 carried = behind;
             }
         }

@@ -9,8 +9,8 @@ use native.Mathlib.Nat.{add-assoc, le-trans}
 use Rattle.quantity.specs.Sums.{total}
 use Rattle.quantity.specs.Rounding.{roundUp}
 use Rattle.quantity.specs.Divisors.{Divides}
-use Rattle.flow.specs.Flows.{Flow, flowOf, Smooth, Uniform, InTime, Envelope}
-use Rattle.flow.specs.Classes.{Class, Positive, Keeps, mostDelayed, blocksMet, changedQuota, changedTo, carries, burstAt}
+use Rattle.flow.specs.Flows.{Flow, flowOf, Smooth, Uniform, InTime, Behind, Envelope}
+use Rattle.flow.specs.Classes.{Class, smooth, Positive, Keeps, mostIn, mostDelayed, blocksMet, changedQuota, changedTo, carries, burstAt}
 use Rattle.flow.specs.Keeping.{keepsClass}
 use Rattle.flow.specs.Rows.{Row, KeepsRows, units, mostOfRows, rowsMost, rowCarried, rowsCarried, reach, greatestOf, rowsBurst}
 use Rattle.flow.proofs.Windows as Windows
@@ -32,8 +32,29 @@ pub uniform-is-smooth : (m Q : ℕ) (r : Flow) → Uniform m Q r → Smooth m Q 
 uniform-is-smooth = Windows.uniform-is-smooth
 
 -- no window of n slots has more than the most that the class carries in n slots
-pub window : (c : Class) (r : Flow) → Positive c → Keeps c r → (a n : ℕ) → total r (a + n) ≤ total r a + mostDelayed c n
+pub window : (c : Class) (r : Flow) → Positive c → Keeps c r → (a n : ℕ) → total r (a + n) ≤ total r a + mostIn c n
 window = Windows.window
+
+-- the most never falls as the window grows
+pub most-mono : (c : Class) → Positive c → (n n' : ℕ) → n ≤ n' → mostIn c n ≤ mostIn c n'
+most-mono = Windows.most-mono
+
+-- section 4's figure for delayers is no less than the most in as many slots
+pub most-le-delayed : (c : Class) → Positive c → (n : ℕ) → mostIn c n ≤ mostDelayed c n
+most-le-delayed = Windows.most-le-delayed
+
+-- so no window of n slots has more than that figure
+pub delayed-window : (c : Class) (r : Flow) → Positive c → Keeps c r → (a n : ℕ) → total r (a + n) ≤ total r a + mostDelayed c n
+delayed-window = Windows.delayed-window
+
+-- A flow that is late by at most D has in n slots what the flow before it may have in n + D.
+pub late-window : (D : ℕ) (most : ℕ → ℕ) (r s : Flow) → Behind r s → InTime D r s → ((n n' : ℕ) → n ≤ n' → most n ≤ most n') → ((a n : ℕ) → total r (a + n) ≤ total r a + most n)
+    → (a n : ℕ) → total s (a + n) ≤ total s a + most (n + D)
+late-window = Windows.late-window
+
+-- smooth (10, 30): 30 in one slot, 60 in 2 to 11, 90 in 12, and 0 in none
+pub most-example : (mostIn (smooth 10 30) 0 ≡ 0) × (mostIn (smooth 10 30) 1 ≡ 30) × (mostIn (smooth 10 30) 2 ≡ 60) × (mostIn (smooth 10 30) 11 ≡ 60) × (mostIn (smooth 10 30) 12 ≡ 90)
+most-example = Windows.most-example
 
 -- the flow keeps the changed class
 pub keeps-changed : (n : ℕ) (c : Class) (r : Flow) → Positive c → Keeps c r → Keeps (changedTo n c) r
@@ -58,7 +79,11 @@ blocks-met-least = Reached.blocks-met-least
 pub blocks-met-whole : (m n : ℕ) → 1 ≤ m → 1 ≤ n → Divides m n → blocksMet m n ≡ n / m
 blocks-met-whole = Reached.blocks-met-whole
 
--- at a rate that carries the class, the burst and the rate's units are enough in every window
+-- at a rate that carries the class, the burst and the rate's units are enough for every number of slots
+pub most-le-burst : (c : Class) (R : ℕ) → Positive c → carries c R ≡ true → (n : ℕ) → mostIn c n ≤ burstAt c R + n * R
+most-le-burst = Windows.most-le-burst
+
+-- so in every window
 pub envelope : (c : Class) (r : Flow) (R : ℕ) → Positive c → carries c R ≡ true → Keeps c r → Envelope (burstAt c R) R r
 envelope = Windows.envelope
 
@@ -136,6 +161,10 @@ module _ (rows : ℕ → Row) (k : ℕ) (some : 1 ≤ k) (large : (i : ℕ) → 
   -- and no more than such a row's quota
   pub rows-burst-le : (R i : ℕ) → i < k → rowCarried (rows i) R ≡ true → rowsBurst rows k R ≤ rows i .quota
   rows-burst-le = RowsBurst.rows-burst-le rows k some large
+
+-- where no row has an interval above m, a rate sends the burst in fewer than m slots
+pub rows-burst-slots : (rows : ℕ → Row) (k : ℕ) → 1 ≤ k → ((i : ℕ) → i < k → 1 ≤ rows i .interval) → (R m : ℕ) → 1 ≤ m → ((i : ℕ) → i < k → rows i .interval ≤ m) → rowsBurst rows k R ≤ (m - 1) * R
+rows-burst-slots = RowsBurst.rows-burst-slots
 
 -- no more than so many units a slot
 pub rows-at-most : (rows : ℕ → Row) (k q : ℕ) → 1 ≤ k → ((i : ℕ) → i < k → (1 ≤ rows i .interval) × (rows i .quota ≤ q)) → (n : ℕ) → rowsMost rows k n ≤ n * q

@@ -1,18 +1,16 @@
--- The burst of several rows at a rate: it is an envelope in every window, the same whichever row with Q ≤ m·R is taken, and does not fall as the rate falls.
+-- The burst of several rows at a rate: with the rate's units it is enough for every number of slots, the same whichever row with Q ≤ m·R is taken, and does not fall as the rate falls.
 use mathlib.Core.Path.{_≡_, refl, ap, sym, _∙_}
 use mathlib.Core.Bool.{Bool, true, false, true≢false}
 use mathlib.Core.Logic.{⊎-elim}
 use Prim.Native.Nat.{ℕ, zero, suc, _+_, _-_, _*_, _≤_, _<_, max}
-use native.Mathlib.Nat.{not-suc-le-zero, le-of-suc-le-suc, eq-or-lt-of-le, mul-le-mul-left}
+use native.Mathlib.Nat.{not-suc-le-zero, le-of-suc-le-suc, eq-or-lt-of-le, mul-le-mul-left, mul-le-mul-right, suc-mul}
 use native.Mathlib.Omega.{arith}
 use borrow.Author.Tests.{leb-true, le-leb, lt-ltb, le-ltb}
 use lib.Dec.{ltb}
 use Rattle.quantity.specs.Choice.{pick, either}
-use Rattle.quantity.specs.Sums.{total}
 use Rattle.quantity.proofs.Laws.{either-first, either-second, either-false}
-use Rattle.flow.specs.Flows.{Flow, Envelope}
-use Rattle.flow.specs.Rows.{Row, KeepsRows, rowsMost, rowCarried, rowsCarried, reach, greatestOf, rowsBurst}
-use Rattle.flow.proofs.RowsWindows.{rows-window, rows-within-quota, rows-envelope}
+use Rattle.flow.specs.Rows.{Row, rowsMost, rowCarried, rowsCarried, reach, greatestOf, rowsBurst}
+use Rattle.flow.proofs.RowsWindows.{rows-within-quota, rows-envelope}
 
 -- the greatest is at least each, and at most what each is at most
 pub greatest-each : (f : ℕ → ℕ) (n i : ℕ) → 1 ≤ i → i ≤ n → f i ≤ greatestOf f n
@@ -97,9 +95,6 @@ module _ (rows : ℕ → Row) (k : ℕ) (some : 1 ≤ k) (large : (i : ℕ) → 
       let (i, less, own, reached) = carried-row rows k R carried in
       omega (arith, rows-burst-any R i less own, enough R i less own n)
 
-  pub rows-envelope-of : (R : ℕ) → rowsCarried rows k R ≡ true → (r : Flow) → KeepsRows rows k r → Envelope (rowsBurst rows k R) R r
-  rows-envelope-of R carried r keeps a n = omega (arith, rows-window rows k some large r keeps a n, rows-burst-enough R carried n)
-
   pub rows-burst-falls : (P R : ℕ) → P ≤ R → rowsCarried rows k P ≡ true → rowsBurst rows k R ≤ rowsBurst rows k P
   unfolding rowsBurst
   rows-burst-falls P R slower carried =
@@ -110,3 +105,21 @@ module _ (rows : ℕ → Row) (k : ℕ) (some : 1 ≤ k) (large : (i : ℕ) → 
   rows-burst-le R i less carried =
       rw (rows-burst-any R i less carried)
       (greatest-le (above R) (rows i .interval) (rows i .quota) (λ n positive within. omega (arith, rows-within-quota rows k some large i less n within)))
+
+  -- the burst is sent in fewer slots than the interval of such a row has: within it no more comes than its quota, and a slot is over
+  pub rows-burst-slots : (R m : ℕ) → 1 ≤ m → ((i : ℕ) → i < k → rows i .interval ≤ m) → rowsBurst rows k R ≤ (m - 1) * R
+  unfolding rowsBurst
+  rows-burst-slots R m positive short = by-test (rowsCarried rows k R) refl
+    where
+      one-less : (m : ℕ) → 1 ≤ m → m * R ≡ (m - 1) * R + R
+      one-less zero positive = absurd (not-suc-le-zero positive)
+      one-less (suc m) positive = let before : suc m - 1 ≡ m = omega arith in rw before (suc-mul m R)
+
+      by-test : (t : Bool) → rowsCarried rows k R ≡ t → greatestOf (above R) (reach rows k R) ≤ (m - 1) * R
+      by-test true e =
+          let (i, less, own, reached) = carried-row rows k R e in
+          let carried : rows i .quota ≤ rows i .interval * R = unfold rowCarried in leb-true _ _ own in
+          rw reached
+          (greatest-le (above R) (rows i .interval) ((m - 1) * R)
+          (λ n some-slot within. omega (arith, rows-within-quota rows k some large i less n within, mul-le-mul-right R (short i less), one-less m positive, mul-le-mul-right R some-slot)))
+      by-test false e = rw (reach-none rows k R e) (unfold greatestOf in omega arith)

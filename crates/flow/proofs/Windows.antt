@@ -1,20 +1,21 @@
--- Windows, change of interval and envelope (source document 000, Theorem 1): whole intervals add up, and whole intervals cover a window.
-use mathlib.Core.Path.{_≡_}
+-- Windows, change of interval and envelope (source document 000, Theorem 1; for the smooth window document 02, item 9): whole intervals add up, and whole intervals cover a window.
+use mathlib.Core.Path.{_≡_, refl}
 use mathlib.Core.Bool.{true}
-use Prim.Native.Nat.{ℕ, zero, suc, _+_, _-_, _*_, _/_, _%_, _≤_}
-use native.Mathlib.Nat.{add-zero, add-assoc, add-mul, zero-mul, suc-mul, mul-assoc, le-refl, mul-le-mul-left, mul-le-mul-right, mod-lt, div-add-mod', div-mul-le-self, lt-div-mul-add}
+use Prim.Native.Nat.{ℕ, zero, suc, _+_, _-_, _*_, _/_, _%_, _≤_, _<_}
+use native.Mathlib.Nat.{add-zero, zero-add, add-assoc, add-mul, zero-mul, suc-mul, mul-assoc, le-refl, le-dest, lt-of-not-le, mul-le-mul-left, mul-le-mul-right, mod-lt, div-add-mod', div-mul-le-self, lt-div-mul-add}
+use native.Mathlib.Decide.{decLe}
 use native.Mathlib.Omega.{arith}
 use borrow.Author.Tests.{leb-true}
 use Rattle.quantity.specs.Sums.{total}
 use Rattle.quantity.specs.Rounding.{roundUp}
 use Rattle.quantity.specs.Divisors.{gcd}
-use Rattle.quantity.proofs.Sums.{total-le}
+use Rattle.quantity.proofs.Sums.{total-zero, total-le}
 use Rattle.quantity.proofs.Rounding.{round-up-enough, round-up-least}
 use Rattle.quantity.proofs.Divisors.{divides-multiple, divides-mod, multiples-apart, gcd-divides-left, gcd-divides-right}
-use Rattle.flow.specs.Flows.{Flow, Smooth, Uniform, Envelope}
-use Rattle.flow.specs.Classes.{Class, smooth, uniform, rows, Positive, Keeps, mostDelayed, blocksMet, changedQuota, changedTo, carries, burstAt}
-use Rattle.flow.proofs.RowsWindows.{rows-window}
-use Rattle.flow.proofs.RowsBurst.{rows-envelope-of, rows-burst-falls}
+use Rattle.flow.specs.Flows.{Flow, Smooth, Uniform, InTime, Behind, Envelope}
+use Rattle.flow.specs.Classes.{Class, smooth, uniform, rows, Positive, Keeps, mostIn, mostDelayed, blocksMet, changedQuota, changedTo, carries, burstAt}
+use Rattle.flow.proofs.RowsWindows.{rows-window, rows-mono}
+use Rattle.flow.proofs.RowsBurst.{rows-burst-enough, rows-burst-falls}
 
 -- what rises by at most Q an interval rises by at most k·Q in k intervals
 intervals-le : (m Q : ℕ) (r : Flow) (a : ℕ) → ((k : ℕ) → total r (a + k * m + m) ≤ total r (a + k * m) + Q) → (k : ℕ) → total r (a + k * m) ≤ total r a + k * Q
@@ -34,11 +35,11 @@ module _ (m Q : ℕ) (r : Flow) where
         let enough = round-up-enough n m large in
         omega (arith, uniform-intervals-le keeps a (roundUp n m), total-le r {n = a + n} {m = a + roundUp n m * m} (omega arith))
 
-    -- from the block of slot a on
-    smooth-window-le : Smooth m Q r → (a n : ℕ) → total r (a + n) ≤ total r a + (roundUp n m + 1) * Q
+    -- the n slots behind slot a end within ⌈n/m⌉ blocks behind that of slot a
+    smooth-window-le : Smooth m Q r → (a n : ℕ) → total r (a + suc n) ≤ total r a + (roundUp n m + 1) * Q
     smooth-window-le keeps a n =
         let blocks = smooth-blocks-le keeps (a / m) (roundUp n m + 1) in
-        let ends : a + n ≤ a / m * m + (roundUp n m + 1) * m = omega (arith, lt-div-mul-add {a = a} large, round-up-enough n m large, add-mul (roundUp n m) 1 m) in
+        let ends : a + suc n ≤ a / m * m + (roundUp n m + 1) * m = omega (arith, lt-div-mul-add {a = a} large, round-up-enough n m large, add-mul (roundUp n m) 1 m) in
         omega (arith, total-le r (div-mul-le-self a m), total-le r ends)
 
 -- a block of n slots begins at least the greatest common divisor before the end of its block of m
@@ -70,11 +71,33 @@ rounded-le m Q R n large slow =
 
 -- Each law by the class.
 
-pub window : (c : Class) (r : Flow) → Positive c → Keeps c r → (a n : ℕ) → total r (a + n) ≤ total r a + mostDelayed c n
-unfolding mostDelayed
-window (smooth m Q) r large keeps = smooth-window-le m Q r large keeps
-window (uniform m Q) r large keeps = uniform-window-le m Q r large keeps
-window (rows given k) r large keeps = rows-window given k (large .0) (large .1) r keeps
+pub window : (c : Class) (r : Flow) → Positive c → Keeps c r → (a n : ℕ) → total r (a + n) ≤ total r a + mostIn c n
+unfolding mostIn
+window (smooth m Q) r large keeps a zero = simp add-zero (le-refl _)
+window (smooth m Q) r large keeps a (suc n) = smooth-window-le m Q r large keeps a n
+window (uniform m Q) r large keeps a n = uniform-window-le m Q r large keeps a n
+window (rows given k) r large keeps a n = rows-window given k (large .0) (large .1) r keeps a n
+
+rounded-mono : (m Q : ℕ) → 1 ≤ m → (n n' : ℕ) → n ≤ n' → roundUp n m * Q ≤ roundUp n' m * Q
+rounded-mono m Q large n n' h = mul-le-mul-right Q (round-up-least n m (roundUp n' m) large (omega (arith, round-up-enough n' m large)))
+
+-- a longer window has no less
+pub most-mono : (c : Class) → Positive c → (n n' : ℕ) → n ≤ n' → mostIn c n ≤ mostIn c n'
+unfolding mostIn
+most-mono (smooth m Q) large zero n' h = omega arith
+most-mono (smooth m Q) large (suc n) (suc n') h = omega (arith, rounded-mono m Q large n n' (omega arith), add-mul (roundUp n m) 1 Q, add-mul (roundUp n' m) 1 Q)
+most-mono (uniform m Q) large n n' h = rounded-mono m Q large n n' h
+most-mono (rows given k) large n n' h = rows-mono given k (large .0) (large .1) n n' h
+
+-- for a smooth class section 4's figure for delayers is the most in one slot more
+pub most-le-delayed : (c : Class) → Positive c → (n : ℕ) → mostIn c n ≤ mostDelayed c n
+unfolding mostIn mostDelayed
+most-le-delayed (smooth m Q) large n = most-mono (smooth m Q) large n (suc n) (omega arith)
+most-le-delayed (uniform m Q) large n = le-refl _
+most-le-delayed (rows given k) large n = le-refl _
+
+pub delayed-window : (c : Class) (r : Flow) → Positive c → Keeps c r → (a n : ℕ) → total r (a + n) ≤ total r a + mostDelayed c n
+delayed-window c r large keeps a n = omega (arith, window c r large keeps a n, most-le-delayed c large n)
 
 pub keeps-changed : (n : ℕ) (c : Class) (r : Flow) → Positive c → Keeps c r → Keeps (changedTo n c) r
 unfolding changedTo changedQuota
@@ -88,12 +111,16 @@ smooth-of-changed n (smooth m Q) r keeps = keeps
 smooth-of-changed n (uniform m Q) r keeps = uniform-is-smooth n _ r keeps
 smooth-of-changed n (rows given k) r keeps = uniform-is-smooth n _ r keeps
 
+-- at a rate that carries the class, the burst and the rate's units are enough for every number of slots
+pub most-le-burst : (c : Class) (R : ℕ) → Positive c → carries c R ≡ true → (n : ℕ) → mostIn c n ≤ burstAt c R + n * R
+unfolding mostIn carries burstAt
+most-le-burst (smooth m Q) R large slow zero = omega arith
+most-le-burst (smooth m Q) R large slow (suc n) = omega (arith, rounded-le m Q R n large (leb-true _ _ slow), add-mul (roundUp n m) 1 Q, suc-mul n R)
+most-le-burst (uniform m Q) R large slow n = rounded-le m Q R n large (leb-true _ _ slow)
+most-le-burst (rows given k) R large slow n = rows-burst-enough given k (large .0) (large .1) R slow n
+
 pub envelope : (c : Class) (r : Flow) (R : ℕ) → Positive c → carries c R ≡ true → Keeps c r → Envelope (burstAt c R) R r
-unfolding carries burstAt
-envelope (smooth m Q) r R large slow keeps a k =
-    omega (arith, smooth-window-le m Q r large keeps a k, add-mul (roundUp k m) 1 Q, rounded-le m Q R k large (leb-true _ _ slow))
-envelope (uniform m Q) r R large slow keeps a k = omega (arith, uniform-window-le m Q r large keeps a k, rounded-le m Q R k large (leb-true _ _ slow))
-envelope (rows given k) r R large slow keeps a n = rows-envelope-of given k (large .0) (large .1) R slow r keeps a n
+envelope c r R large slow keeps a k = omega (arith, window c r large keeps a k, most-le-burst c R large slow k)
 
 -- the burst does not fall as the rate falls
 pub burst-falls : (c : Class) (P R : ℕ) → Positive c → P ≤ R → carries c P ≡ true → burstAt c R ≤ burstAt c P
@@ -101,3 +128,27 @@ unfolding carries burstAt
 burst-falls (smooth m Q) P R large slower slow = le-refl _
 burst-falls (uniform m Q) P R large slower slow = le-refl _
 burst-falls (rows given k) P R large slower slow = rows-burst-falls given k (large .0) (large .1) P R slower slow
+
+-- what entered as r by slot a − D has left as s by slot a, so n slots of s from slot a on carry what came in those and in the D before
+pub late-window : (D : ℕ) (most : ℕ → ℕ) (r s : Flow) → Behind r s → InTime D r s → ((n n' : ℕ) → n ≤ n' → most n ≤ most n') → ((a n : ℕ) → total r (a + n) ≤ total r a + most n)
+    → (a n : ℕ) → total s (a + n) ≤ total s a + most (n + D)
+late-window D most r s entered late rises window a n = elim (decLe D a) [ yes later ↦ after later | no earlier ↦ before (lt-of-not-le earlier) ]
+  where
+    after : D ≤ a → total s (a + n) ≤ total s a + most (n + D)
+    after later =
+        let (j, e) = le-dest later in
+        let slots : j + D ≡ a = omega arith in
+        let span : j + (n + D) ≡ a + n = omega arith in
+        let came : total r (a + n) ≤ total r j + most (n + D) = rw span at (window j (n + D)) in
+        let left : total r j ≤ total s a = rw slots at (late j) in
+        omega (arith, entered (a + n))
+
+    before : a < D → total s (a + n) ≤ total s a + most (n + D)
+    before earlier =
+        let first : total r (a + n) ≤ total r 0 + most (a + n) = rw zero-add at (window 0 (a + n)) in
+        omega (arith, entered (a + n), total-zero r, rises (a + n) (n + D) (omega arith))
+
+-- smooth (10, 30): 30 in one slot, 60 in 2 to 11, 90 in 12, and 0 in none
+pub most-example : (mostIn (smooth 10 30) 0 ≡ 0) × (mostIn (smooth 10 30) 1 ≡ 30) × (mostIn (smooth 10 30) 2 ≡ 60) × (mostIn (smooth 10 30) 11 ≡ 60) × (mostIn (smooth 10 30) 12 ≡ 90)
+unfolding mostIn roundUp
+most-example = (refl, refl, refl, refl, refl)

@@ -12,9 +12,9 @@ use Rattle.flow.specs.Classes.{Class, smooth, uniform, rows}
 use Rattle.flow.specs.Declarations.{hasRows, severalAt, declarationInRange}
 use Rattle.flow.specs.declared.Declaration.{Declaration}
 
--- the most in 0 to 1,024 slots
+-- the most in 0 to 1,984 slots: an operator of a filter part is at most 960 slots of delayers and less than a row's interval behind the part's input
 abbrev pub boundLength : ℕ
-boundLength = 1_025
+boundLength = 1_985
 
 -- entry n is the most in n slots
 abbrev pub boundOf : Declaration → List ℕ

@@ -1,6 +1,6 @@
 -- Section 4's classes of flows, and the rows of document 02, item 6: what keeps one, the most in a window, the change of interval, the burst at a rate
 -- and whether a rate carries it, after source documents 000, Theorem 1, and 003. What is above goes by these definitions and their laws.
-use Prim.Native.Nat.{ℕ, _+_, _-_, _*_, _/_, _≤_, _<_}
+use Prim.Native.Nat.{ℕ, zero, suc, _+_, _-_, _*_, _/_, _≤_, _<_}
 use mathlib.Core.Bool.{Bool}
 use lib.Dec.{leb}
 use Rattle.quantity.specs.Rounding.{roundUp}
@@ -26,11 +26,18 @@ Keeps (smooth m Q) r = Smooth m Q r
 Keeps (uniform m Q) r = Uniform m Q r
 Keeps (rows given k) r = KeepsRows given k r
 
--- the most that the class carries in n neighbouring slots: (⌈n/m⌉+1)·Q for smooth, ⌈n/m⌉·Q for uniform, the bound for rows
+-- the most that the class carries in n neighbouring slots (document 02, item 9): 0 in none; (⌈(n − 1)/m⌉+1)·Q for smooth, ⌈n/m⌉·Q for uniform, the bound for rows
+unfoldable pub mostIn : Class → ℕ → ℕ
+mostIn (smooth m Q) zero = 0
+mostIn (smooth m Q) (suc n) = (roundUp n m + 1) * Q
+mostIn (uniform m Q) n = roundUp n m * Q
+mostIn (rows given k) n = rowsMost given k n
+
+-- the most that delayers of e slots in all hold before any filter (section 4): (⌈e/m⌉+1)·Q for smooth, which may be more than the most in e slots; ⌈e/m⌉·Q for uniform, the bound for rows
 unfoldable pub mostDelayed : Class → ℕ → ℕ
-mostDelayed (smooth m Q) n = (roundUp n m + 1) * Q
-mostDelayed (uniform m Q) n = roundUp n m * Q
-mostDelayed (rows given k) n = rowsMost given k n
+mostDelayed (smooth m Q) e = (roundUp e m + 1) * Q
+mostDelayed (uniform m Q) e = roundUp e m * Q
+mostDelayed (rows given k) e = rowsMost given k e
 
 -- how many blocks of m slots a block of n slots meets at the most: it begins at a multiple of the greatest common divisor within its block of m, so at m less that at the most
 unfoldable pub blocksMet : ℕ → ℕ → ℕ

@@ -12,8 +12,8 @@ ghost use Rattle.flow.specs.Rows.{rowsMost};
 ghost use Rattle.flow.specs.Declarations.{emptyRow, rowOf};
 ghost use Rattle.flow.specs.Bounds.{boundLength, boundable, boundFilled, pairAt, RowsInside, Remade};
 
-// The entries of a table: the most in 0 to 1,024 slots.
-pub const LENGTH: usize = 1025;
+// The entries of a table: the most in 0 to 1,984 slots, as many as figures ask for at the most.
+pub const LENGTH: usize = 1985;
 
 // Fills a table with the bound of the declaration's rows. Where it has none, or one out of its range, or the table has another length, it answers so and writes nothing.
 pub fn fill(declaration: Declaration, table: &mut [u32]) -> bool

@@ -2,7 +2,7 @@
 -- a compactor behind it sees no difference (Theorem 7).
 use mathlib.Core.Path.{_≡_, sym, _∙_}
 use Prim.Native.Nat.{ℕ, zero, suc, _+_, _*_, _/_, _%_, _≤_}
-use native.Mathlib.Nat.{le-of-lt, mod-lt, mul-mod-left, div-add-mod', div-mul-le-self, lt-div-mul-add}
+use native.Mathlib.Nat.{add-suc, mod-lt, mul-mod-left, div-add-mod', div-mul-le-self, lt-div-mul-add}
 use native.Mathlib.Numerals.{add-one}
 use native.Mathlib.Omega.{arith}
 use lib.Dec.{eqb}
@@ -40,11 +40,15 @@ module _ (n : ℕ) (r c : Flow) (large : 1 ≤ n) (fits : Fitting (expander n) r
       omega (arith, total-le r late, total-le (outputOn (expander n) r c) (div-mul-le-self (k + n) n))
 
 module _ (n Q : ℕ) (r c : Flow) (large : 1 ≤ n) (fits : Fitting (expander n) r c) (keeps : Smooth n Q r) where
-  pub expander-held : (k : ℕ) → heldOn (expander n) r c k .b ≤ Q
-  expander-held k =
-      let came : total r k ≤ total r (k / n * n) + Q = rw div-add-mod' at (keeps (k / n) (k % n) (le-of-lt (mod-lt k large))) in
+  -- what it holds before slot k and what arrives in it came in the block of slot k
+  pub expander-fullest : (k : ℕ) → heldOn (expander n) r c k .b + r k ≤ Q
+  expander-fullest k =
+      let came : total r (suc k) ≤ total r (k / n * n) + Q = rw (add-suc, div-add-mod') at (keeps (k / n) (suc (k % n)) (mod-lt k large)) in
       omega
-      (arith, conserved (expander n) r c fits k, expander-totals n r c large fits (k / n), total-le (outputOn (expander n) r c) (div-mul-le-self k n))
+      (arith, total-suc r k, conserved (expander n) r c fits k, expander-totals n r c large fits (k / n), total-le (outputOn (expander n) r c) (div-mul-le-self k n))
+
+  pub expander-held : (k : ℕ) → heldOn (expander n) r c k .b ≤ Q
+  expander-held k = omega (arith, expander-fullest k)
 
   pub expander-smooth : Smooth n Q (outputOn (expander n) r c)
   expander-smooth j k h = omega (arith, output-behind (expander n) r c fits (j * n + k), keeps j k h, expander-totals n r c large fits j)

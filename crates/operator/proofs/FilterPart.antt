@@ -142,7 +142,7 @@ limiter-le-filter R s c fits n =
 pub served-filter : (P : Slowest) (e R : ℕ) (r s c : Flow) → Served P e r s → Fitting (filter R) s c → Served (slower P R) e r (outputOn (filter R) s c)
 served-filter P e R r s c served fits n = le-trans (served-limiter P e R r s served n) (limiter-le-filter R s c fits (n + e))
 
--- Delays and capacities.
+-- Delays, and what is held.
 
 pub filtered-in-time : (P e B : ℕ) (r s : Flow) → 1 ≤ P → Envelope B P r → Served (filtered P) e r s → InTime (roundUp B P + e) r s
 unfolding limited

@@ -95,6 +95,10 @@ expander-totals = Expander.expander-totals
 pub expander-held : (n Q : ℕ) (r c : Flow) → 1 ≤ n → Fitting (expander n) r c → Smooth n Q r → (k : ℕ) → heldOn (expander n) r c k .b ≤ Q
 expander-held = Expander.expander-held
 
+-- with what arrives, before it sends, it has no more (document 02, item 9)
+pub expander-fullest : (n Q : ℕ) (r c : Flow) → 1 ≤ n → Fitting (expander n) r c → Smooth n Q r → (k : ℕ) → heldOn (expander n) r c k .b + r k ≤ Q
+expander-fullest = Expander.expander-fullest
+
 pub expander-in-time : (n : ℕ) (r c : Flow) → 1 ≤ n → Fitting (expander n) r c → InTime n r (outputOn (expander n) r c)
 expander-in-time = Expander.expander-in-time
 

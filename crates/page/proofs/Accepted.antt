@@ -24,8 +24,8 @@ use Rattle.sheet.proofs.Accepted.{SheetPath, sheet-path, sheet-full}
 use Rattle.sheet.proofs.InRange.{link-of-path, wanted-of-path}
 use Rattle.figures.specs.declared.Figure.{Figure}
 use Rattle.figures.specs.declared.PathFigures.{PathFigures}
-use Rattle.figures.specs.Answers.{operatorAt, heldAt, delayAt, pathDelay, operatorsCases, figureAt, noFigure, figureIn, figuresOf}
-use Rattle.figures.proofs.Promise.{accepted-figures, accepted-none, operator-held-le}
+use Rattle.figures.specs.Answers.{operatorAt, capacityAt, delayAt, pathDelay, operatorsCases, figureAt, noFigure, figureIn, figuresOf}
+use Rattle.figures.proofs.Promise.{accepted-figures, accepted-none, operator-capacity-le}
 
 -- a sum of numbers that are at most b
 total-bound : (f : ℕ → ℕ) (b n : ℕ) → ((k : ℕ) → k < n → f k ≤ b) → total f n ≤ n * b
@@ -85,12 +85,12 @@ module _ (sheet : List ℕ) (accepted : figuresOf sheet .verdict ≡ Verdict.Acc
         | no behind ↦ let none : linkAt path k ≡ 0 = ap (λ (linked : LinkedOperator). linked .link .0) (List·getD-eq-default (path .operators) noLinkedOperator {n = k} (omega arith)) in omega arith
       ]
 
-  -- refusal 7: a capacity is at most 1,073,741,823
-  pub capacity-le : (k : ℕ) → k < operators → heldAt path k ≤ largestAmount
-  capacity-le = operator-held-le path (in-sheet .inside) (accepted-none sheet accepted .1)
+  -- a capacity is at most twice the largest amount
+  pub capacity-le : (k : ℕ) → k < operators → capacityAt path k ≤ 2 * largestAmount
+  capacity-le k less = operator-capacity-le path (in-sheet .inside) (accepted-none sheet accepted .1) k less few-operators
 
-  pub capacities-le : (k : ℕ) → k ≤ operators → total (heldAt path) k ≤ 16 * largestAmount
-  capacities-le k inside = let few = few-operators in omega (arith, total-bound (heldAt path) largestAmount k (λ j less. capacity-le j (omega arith)))
+  pub capacities-le : (k : ℕ) → k ≤ operators → total (capacityAt path) k ≤ 32 * largestAmount
+  capacities-le k inside = let few = few-operators in omega (arith, total-bound (capacityAt path) (2 * largestAmount) k (λ j less. capacity-le j (omega arith)))
 
   -- refusal 9: the delay is at most the delay wanted
   pub path-delay-le : pathDelay path ≤ 65_535

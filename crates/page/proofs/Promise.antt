@@ -18,7 +18,7 @@ use Rattle.sheet.specs.Paths.{Path, linkAt}
 use Rattle.sheet.specs.Sheets.{sheetCases, valueIn, pathIn}
 use Rattle.figures.specs.declared.Figure.{Figure}
 use Rattle.figures.specs.declared.PathFigures.{PathFigures}
-use Rattle.figures.specs.Answers.{operatorAt, heldAt, pathDelay, pathCases, figureAt, refusedFigures, acceptedFigures, figuresOf}
+use Rattle.figures.specs.Answers.{operatorAt, capacityAt, pathDelay, pathCases, figureAt, refusedFigures, acceptedFigures, figuresOf}
 use Rattle.page.specs.declared.Paged.{Paged}
 use Rattle.page.specs.Columns.{Cell, charactersOf}
 use Rattle.page.specs.Pages.{widths, lineFeed, lineOf, pathName, operatorCells, pathCells, cellsAt, sumCells, rowsOf, pageOf}
@@ -32,7 +32,7 @@ use Rattle.page.proofs.Accepted.{few-operators, link-le, capacity-le, c
 use Rattle.page.proofs.Pages.{Sound, AllSound, sound-append, sound-list, sound-at, length-lines, line-length, line-at, lines-shaped}
 
 -- an operator's line, of small numbers
-operator-sound : (index : ℕ) (operator : Operator) (link : ℕ) (figure : Figure) → index ≤ 15 → link ≤ 15 → figure .capacity .0 ≤ 1_073_741_823 → figure .delay .0 ≤ 65_535 → Sound (operatorCells index operator link figure)
+operator-sound : (index : ℕ) (operator : Operator) (link : ℕ) (figure : Figure) → index ≤ 15 → link ≤ 15 → figure .capacity .0 ≤ 2_147_483_646 → figure .delay .0 ≤ 65_535 → Sound (operatorCells index operator link figure)
 unfolding operatorCells charactersOf widths
 operator-sound index operator link figure few near small soon =
     let plain = decimal-lacks lineFeed (omega arith) in (
@@ -40,7 +40,7 @@ operator-sound index operator link figure few near small soon =
       (plain index, (name-unbroken operator, (plain link, (plain (figure .capacity .0), (plain (figure .delay .0), tt))))),
     )
 
-path-sound : (capacity delay : ℕ) → capacity ≤ 17_179_869_168 → delay ≤ 65_535 → Sound (pathCells capacity delay)
+path-sound : (capacity delay : ℕ) → capacity ≤ 34_359_738_336 → delay ≤ 65_535 → Sound (pathCells capacity delay)
 unfolding pathCells pathName charactersOf widths lacks
 path-sound capacity delay small soon =
     let plain = decimal-lacks lineFeed (omega arith) in (
@@ -94,7 +94,7 @@ module _ (sheet : List ℕ) (accepted : figuresOf sheet .verdict ≡ Verdict.Acc
   rows-sound =
       sound-append (listOf (cellsAt path) operators) (sumCells path ∷ [])
       (sound-list (cellsAt path) operators cells-sound)
-      (path-sound (total (heldAt path) operators) (pathDelay path) (omega (arith, capacities-le sheet accepted operators (omega arith))) (path-delay-le sheet accepted), tt)
+      (path-sound (total (capacityAt path) operators) (pathDelay path) (omega (arith, capacities-le sheet accepted operators (omega arith))) (path-delay-le sheet accepted), tt)
 
   -- every figure fits its column, the sums too
   pub figures-fit : (j : ℕ) → j < length (rowsOf path) → Fits widths (getD (rowsOf path) j [])
@@ -121,9 +121,9 @@ module _ (sheet : List ℕ) (accepted : figuresOf sheet .verdict ≡ Verdict.Acc
   unfolding entryAt entryOf columnAt cellsAt figureAt
   entries-read k less = entry-read k (operatorAt path k) (linkAt path k) (figureAt path k) (columns-cut k (omega arith) (row-at path k less))
 
-  path-read : (numberIn (columnAt page operators 3) ≡ total (heldAt path) operators) × (numberIn (columnAt page operators 4) ≡ pathDelay path)
+  path-read : (numberIn (columnAt page operators 3) ≡ total (capacityAt path) operators) × (numberIn (columnAt page operators 4) ≡ pathDelay path)
   unfolding columnAt sumCells
-  path-read = sums-read (total (heldAt path) operators) (pathDelay path) (columns-cut operators (omega arith) (last-row path))
+  path-read = sums-read (total (capacityAt path) operators) (pathDelay path) (columns-cut operators (omega arith) (last-row path))
 
   lines-counted : length page / lineLength ≡ operators + 1
   lines-counted = rw (line-length, page-length) (omega arith)

@@ -5,7 +5,7 @@ use Prim.Native.Nat.{ℕ}
 use Rattle.quantity.specs.Rounding.{roundUp}
 use Rattle.quantity.specs.Divisors.{euclid, gcd}
 use Rattle.quantity.specs.Sums.{total, listOf}
-use Rattle.flow.specs.Classes.{mostDelayed, blocksMet, changedQuota, carries, burstAt}
+use Rattle.flow.specs.Classes.{mostIn, mostDelayed, blocksMet, changedQuota, carries, burstAt}
 use Rattle.flow.specs.Declarations.{ofOneRow, classOf}
 use Rattle.operator.specs.FilterPart.{slower}
 use Rattle.operator.specs.Operators.{limiter, compactor, expander, filter, delayer}
@@ -17,8 +17,8 @@ use Rattle.sheet.specs.Paths.{Path}
 use Rattle.sheet.specs.Bodies.{operatorByte}
 use Rattle.figures.specs.declared.Figure.{Figure}
 use Rattle.figures.specs.Progress.{behind, progressAt}
-use Rattle.figures.specs.Figures.{partHeld, partDelay, heldFigure, ownDelay, pairs, isFramed}
-use Rattle.figures.specs.Answers.{operatorAt, before, pairedAt, heldAt, delayAt, pathDelay, figureAt}
+use Rattle.figures.specs.Figures.{partHeld, partDelay, heldFigure, mostArriving, capacity, ownDelay, pairs, isFramed}
+use Rattle.figures.specs.Answers.{operatorAt, before, pairedAt, capacityAt, delayAt, pathDelay, figureAt}
 use Rattle.page.specs.Columns.{text, number, digitsOf, decimal, column, columns}
 use Rattle.page.specs.Pages.{widths, lineOf, kindNames, pathName, operatorCells, pathCells, cellsAt, sumCells, rowsOf, linesOf, pageOf}
 use Rattle.page.specs.Reading.{widthOf, lineLength, lineAt, cut, columnAt, behindSpaces, numberIn, beforeSpaces, same, whichOf, kindIn, entryAt, readLines, readPage}
@@ -43,15 +43,15 @@ frames =
 -- index, kind (1 compactor, 2 expander), link, capacity and delay of each operator, and the sums
 page-computed : readPage (pageOf frames) ≡ record {
   entries =
-      record { index = 0; kind = 1; link = 0; capacity = 30; delay = 10 }
+      record { index = 0; kind = 1; link = 0; capacity = 60; delay = 10 }
       ∷ record { index = 1; kind = 2; link = 0; capacity = 30; delay = 0 }
-      ∷ record { index = 2; kind = 1; link = 1; capacity = 30; delay = 10 }
+      ∷ record { index = 2; kind = 1; link = 1; capacity = 60; delay = 10 }
       ∷ record { index = 3; kind = 2; link = 1; capacity = 30; delay = 10 }
       ∷ [];
-  capacity = 120;
+  capacity = 180;
   delay = 30;
 }
-unfolding roundUp euclid gcd total listOf carries burstAt mostDelayed blocksMet changedQuota classOf slower withDigit withDigits valueOf operatorByte behind progressAt partHeld partDelay heldFigure ownDelay pairs isFramed operatorAt before pairedAt heldAt delayAt pathDelay figureAt digitsOf decimal column columns widths lineOf kindNames pathName operatorCells pathCells cellsAt sumCells rowsOf linesOf pageOf widthOf lineLength lineAt cut columnAt behindSpaces numberIn beforeSpaces same whichOf kindIn entryAt readLines readPage
+unfolding roundUp euclid gcd total listOf carries burstAt mostIn mostDelayed blocksMet changedQuota classOf slower withDigit withDigits valueOf operatorByte behind progressAt partHeld partDelay heldFigure mostArriving capacity ownDelay pairs isFramed operatorAt before pairedAt capacityAt delayAt pathDelay figureAt digitsOf decimal column columns widths lineOf kindNames pathName operatorCells pathCells cellsAt sumCells rowsOf linesOf pageOf widthOf lineLength lineAt cut columnAt behindSpaces numberIn beforeSpaces same whichOf kindIn entryAt readLines readPage
 page-computed = refl
 
 -- the line of an operator of each kind, character by character

@@ -16,7 +16,7 @@ use Rattle.sheet.specs.Paths.{Path, linkAt}
 use Rattle.sheet.specs.Sheets.{pathIn}
 use Rattle.sheet.proofs.Runs.{run-behind}
 use Rattle.figures.specs.declared.Figure.{Figure}
-use Rattle.figures.specs.Answers.{operatorAt, heldAt, pathDelay, figureAt, figuresOf}
+use Rattle.figures.specs.Answers.{operatorAt, capacityAt, pathDelay, figureAt, figuresOf}
 use Rattle.page.specs.Pages.{lineOf, linesOf, operatorCells, pathCells, cellsAt, sumCells, rowsOf, pageOf}
 use Rattle.page.proofs.Accepted.{capacity-le, capacities-le}
 use Rattle.page.proofs.Pages.{sound-list, length-lines, lines-more, lines-next}
@@ -24,12 +24,12 @@ use Rattle.page.proofs.Promise.{cells-sound, page-length}
 
 pub record Written (path : Path) (lent₀ : List ℕ) (k : ℕ) (lent : List ℕ) (capacity : Units) (at : ℕ) : Type 0 where
   pub placed : at ≡ 61 * k
-  pub summed : capacity .0 ≡ total (heldAt path) k
+  pub summed : capacity .0 ≡ total (capacityAt path) k
   pub stored : lent ≡ sets lent₀ 0 (linesOf (listOf (cellsAt path) k))
 
 pub written-none : (path : Path) (lent₀ : List ℕ) → Written path lent₀ 0 lent₀ (record { 0 = 0 }) 0
 unfolding linesOf listOf
-written-none path lent₀ = record { placed = refl; summed = sym (total-zero (heldAt path)); stored = refl }
+written-none path lent₀ = record { placed = refl; summed = sym (total-zero (capacityAt path)); stored = refl }
 
 module _ (sheet : List ℕ) (accepted : figuresOf sheet .verdict ≡ Verdict.Accepted) {lent₀ lent : List ℕ} {k : ℕ} {capacity : Units} {at : ℕ} (written : Written (pathIn sheet) lent₀ k lent capacity at) where
   abbrev path : Path
@@ -56,7 +56,7 @@ module _ (sheet : List ℕ) (accepted : figuresOf sheet .verdict ≡ Verdict.Acc
       let here : operatorCells k operator link figure ≡ cellsAt path k = rw (placed, linked, figured) in
       record {
         placed = omega (arith, written .placed);
-        summed = ap (λ (units : Units). units .0) added ∙ units-sum capacity (figure .capacity) fits ∙ omega (arith, written .summed, ap (λ (f : Figure). f .capacity .0) figured, total-next (heldAt path) k);
+        summed = ap (λ (units : Units). units .0) added ∙ units-sum capacity (figure .capacity) fits ∙ omega (arith, written .summed, ap (λ (f : Figure). f .capacity .0) figured, total-next (capacityAt path) k);
         stored =
             run-behind lent₀ 0 at (linesOf (listOf (cellsAt path) k)) (lineOf (cellsAt path k)) (written .stored) (rw here at put) (lines-end (omega arith))
             ∙ ap (sets lent₀ 0) (lines-next (cellsAt path) k);

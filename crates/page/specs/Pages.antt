@@ -7,7 +7,7 @@ use Rattle.operator.specs.declared.Operator.{Operator}
 use Rattle.sheet.specs.Paths.{Path, linkAt}
 use Rattle.sheet.specs.Bodies.{operatorByte}
 use Rattle.figures.specs.declared.Figure.{Figure}
-use Rattle.figures.specs.Answers.{operatorAt, heldAt, pathDelay, figureAt}
+use Rattle.figures.specs.Answers.{operatorAt, capacityAt, pathDelay, figureAt}
 use Rattle.page.specs.Columns.{Cell, text, number, columns}
 
 -- index in 4 columns, kind in 12, link in 4, capacity in 20, delay in 20
@@ -59,7 +59,7 @@ cellsAt path k = operatorCells k (operatorAt path k) (linkAt path k) (figureAt p
 
 -- the path's line: the capacities of all operators, and the path's delay
 unfoldable pub sumCells : Path → List Cell
-sumCells path = pathCells (total (heldAt path) (length (path .operators))) (pathDelay path)
+sumCells path = pathCells (total (capacityAt path) (length (path .operators))) (pathDelay path)
 
 -- all lines of a path
 unfoldable pub rowsOf : Path → List (List Cell)

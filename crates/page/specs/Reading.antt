@@ -10,7 +10,7 @@ use Rattle.text.specs.Rows.{space}
 use Rattle.text.specs.Decimals.{valueOf}
 use Rattle.sheet.specs.Paths.{Path, linkAt}
 use Rattle.sheet.specs.Bodies.{operatorByte}
-use Rattle.figures.specs.Answers.{operatorAt, heldAt, delayAt, pathDelay}
+use Rattle.figures.specs.Answers.{operatorAt, capacityAt, delayAt, pathDelay}
 use Rattle.page.specs.Pages.{widths, kindNames}
 
 -- so many characters have columns of such widths
@@ -109,7 +109,7 @@ entryOf path k =
       index = k;
       kind = operatorByte (operatorAt path k);
       link = linkAt path k;
-      capacity = heldAt path k;
+      capacity = capacityAt path k;
       delay = delayAt path k;
     }
 
@@ -117,6 +117,6 @@ unfoldable pub figuresIn : Path → Reading
 figuresIn path =
     record {
       entries = listOf (entryOf path) (length (path .operators));
-      capacity = total (heldAt path) (length (path .operators));
+      capacity = total (capacityAt path) (length (path .operators));
       delay = pathDelay path;
     }

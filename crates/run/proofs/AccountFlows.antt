@@ -24,7 +24,7 @@ use Rattle.flow.proofs.Laws.{keeps-decided}
 use Rattle.operator.proofs.Laws.{least-le-greatest, whole-on, none-fits}
 use Rattle.sheet.specs.Paths.{Path}
 use Rattle.sheet.specs.Sheets.{pathInRange}
-use Rattle.figures.specs.Answers.{operatorAt, heldAt, pathDelay, pathCases}
+use Rattle.figures.specs.Answers.{operatorAt, heldAt, capacityAt, pathDelay, pathCases}
 use Rattle.figures.specs.Along.{flowInto, AllFit, Promised}
 use Rattle.figures.proofs.Promise.{promised, declared-positive}
 use Rattle.run.specs.Calls.{Call, choiceFor}
@@ -41,7 +41,7 @@ pub record AccountKept (path : Path) (account : Account) : Type 0 where
   pub keeps : Keeps (classOf (path .declaration)) (flowOf (account .entered))
   -- what entered by the end of slot i has left by the end of slot i + delay, wherever that slot was taken
   pub in-time : (i : ℕ) → i + pathDelay path < account .slot → total (flowOf (account .entered)) (suc i) ≤ total (flowOf (account .left)) (suc (i + pathDelay path))
-  -- no operator holds more than its capacity, nor a filter's h
+  -- no operator holds more than its held figure, nor a filter's h
   pub held-within : (k : ℕ) → k < length (path .operators) → account .held k .b ≤ heldAt path k
   pub beside-within : (k : ℕ) → k < length (path .operators) → account .held k .h ≤ heldAt path k
   -- a delayer's b is the sum of its past
@@ -197,9 +197,26 @@ module _ (path : Path) (inside : pathInRange path ≡ true) where
         keeps = declaration-kept (account .entered ++ (call .input ∷ [])) (not-false _ (none .1 .1 .1 .0));
       }
 
--- the account of every list of calls, on a path of numbers in their ranges that refusals 6 to 9 let pass
-pub account-kept : (path : Path) → pathInRange path ≡ true → NoneStands (pathCases path) → (calls : List Call) → AccountKept path (accountAll path newAccount calls)
-account-kept path inside none calls =
-    let follows = all-holds path (Follows path) (follows-next path inside) newAccount calls (follows-new path inside) in
-    follows-kept path (accountAll path newAccount calls) follows
-    (promised path inside none (flowOf (accountAll path newAccount calls .entered)) (λ k. flowOf (follows .chosen k)) (follows .keeps) (follows .fits))
+-- The account of every list of calls, on a path of numbers in their ranges that refusals 6 to 9 let pass.
+module _ (path : Path) (inside : pathInRange path ≡ true) (none : NoneStands (pathCases path)) where
+  follows-promised : (account : Account) (follows : Follows path account) → Promised path (flowOf (account .entered)) (λ k. flowOf (follows .chosen k))
+  follows-promised account follows = promised path inside none (flowOf (account .entered)) (λ k. flowOf (follows .chosen k)) (follows .keeps) (follows .fits)
+
+  follows-all : (calls : List Call) → Follows path (accountAll path newAccount calls)
+  follows-all calls = all-holds path (Follows path) (follows-next path inside) newAccount calls (follows-new path inside)
+
+  pub account-kept : (calls : List Call) → AccountKept path (accountAll path newAccount calls)
+  account-kept calls = let follows = follows-all calls in follows-kept path (accountAll path newAccount calls) follows (follows-promised (accountAll path newAccount calls) follows)
+
+  -- the fullest moment is one of the flows with the call
+  follows-fullest : (account : Account) (call : Call) → NoneStands (accountCases path account call) → Follows path account
+      → (k : ℕ) → k < length (path .operators) → account .held k .b + arriving path account call k ≤ capacityAt path k
+  unfolding accountNext follows-next
+  follows-fullest account call taken follows k less =
+      let with-call = follows-promised (accountNext path account call) (follows-next path inside account call taken follows) in
+      rw (held-before path account call follows k, arrives path account call follows k) (with-call .fullest-within k less (account .slot))
+
+  -- in a slot that is taken no operator has more than its capacity before it sends: what the slot before left, and what arrives
+  pub account-fullest : (calls : List Call) (call : Call) → NoneStands (accountCases path (accountAll path newAccount calls) call)
+      → (k : ℕ) → k < length (path .operators) → accountAll path newAccount calls .held k .b + arriving path (accountAll path newAccount calls) call k ≤ capacityAt path k
+  account-fullest calls call taken = follows-fullest (accountAll path newAccount calls) call taken (follows-all calls)

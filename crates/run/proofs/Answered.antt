@@ -61,14 +61,14 @@ pub record Passes (path : Path) : Type 0 where
   pub ordered : rowsInOrder (path .declaration) ≡ true
   pub unused : unusedClear (path .declaration) ≡ true
   pub number : (k : ℕ) → k < length (path .operators) → numberInRange (operatorAt path k) ≡ true
-  pub capacity : (k : ℕ) → k < length (path .operators) → heldAt path k ≤ largestAmount
+  pub held : (k : ℕ) → k < length (path .operators) → heldAt path k ≤ largestAmount
 
 module _ (path : Path) (passes : Passes path) (run : Run) (words : List ℕ) (account : Account) (joined : Joined path run words account) (kept : AccountKept path account) where
-  -- a stage of the path is usable: what it stands for is within its capacity
+  -- a stage of the path is usable: what it stands for is within its held figure
   stage-usable : account .slot ≤ lastSlot → (k : ℕ) → k < length (path .operators) → stageFits run words k ≡ true
   unfolding stageFits stageMisplaced stageUnusable
   stage-usable left k less =
-      let capacity = passes .capacity k less in
+      let small = passes .held k less in
       rw (
         lt-ltb k (run .count) (rw (joined .counted) less),
         joined .operator k less,
@@ -190,7 +190,7 @@ module _ (path : Path) (passes : Passes path) (run : Run) (words : List ℕ) (ac
           (λ k counts.
           let less : k < length (path .operators) = rw (joined .counted) at counts in
           let held = next-held k less in
-          let capacity = passes .capacity k less in
+          let small = passes .held k less in
           let within = next taken .held-within k less in
           let beside = next taken .beside-within k less in
           rw (held, le-ltb largestAmount (accountNext path account call .held k .b) (omega arith), le-ltb largestAmount (accountNext path account call .held k .h) (omega arith))))

@@ -1,9 +1,10 @@
 -- Demand 3: by induction over the calls run and words stay joined to the account, and of the account the figures' promise holds.
-use mathlib.Core.Path.{_≡_, refl, ap, sym, _∙_}
+use mathlib.Core.Path.{_≡_, refl, ap, sym, subst, _∙_}
 use mathlib.Core.Bool.{true}
 use mathlib.Core.List.{List, [], _∷_, _++_}
 use mathlib.Core.Logic.{_⊎_, inl, inr, ⊎-elim}
 use Prim.Native.Nat.{ℕ, zero, suc, _+_, _≤_, _<_}
+use native.Mathlib.Nat.{le-trans}
 use native.Mathlib.Omega.{arith}
 use lib.ListN.{length, getD, take}
 use borrow.Author.Tests.{lt-ltb}
@@ -21,20 +22,21 @@ use Rattle.sheet.specs.declared.read.Verdict.{Verdict}
 use Rattle.sheet.proofs.Accepted.{sheet-path, order-of-sheet, unused-of-sheet, never-accepted}
 use Rattle.figures.specs.declared.Figure.{Figure}
 use Rattle.figures.specs.declared.PathFigures.{PathFigures}
-use Rattle.figures.specs.Answers.{heldAt, pathCases, figureAt, figureIn, noFigure, refusedFigures, acceptedFigures, figuresOf}
-use Rattle.figures.proofs.Promise.{accepted-figures, declared-positive, operator-inside, operator-held-le}
+use Rattle.figures.specs.Answers.{capacityAt, pathCases, figureAt, figureIn, noFigure, refusedFigures, acceptedFigures, figuresOf}
+use Rattle.figures.proofs.Promise.{accepted-figures, declared-positive, operator-inside, operator-held-le, held-le-capacity}
 use Rattle.run.specs.declared.opening.Opened.{Opened}
 use Rattle.run.specs.declared.slot.Outcome.{Outcome}
 use Rattle.run.specs.Calls.{Call, choicesMiscounted, amountTooLarge}
-use Rattle.run.specs.Account.{Account, newAccount, slotsUsedUp, choicesTooLarge, accountCases, accountAnswer, accountNext, accountAfter}
+use Rattle.run.specs.Account.{Account, newAccount, arriving, slotsUsedUp, choicesTooLarge, accountCases, leaving, accountAnswer, accountNext, accountAfter}
 use Rattle.run.specs.Runs.{runWordCount}
 use Rattle.run.specs.Opening.{newRun, openCases, refusedOpening, openedOf, wordsOpened}
 use Rattle.run.specs.Slots.{slottedOf}
 use Rattle.run.specs.Watching.{runHolds}
 use Rattle.run.specs.Lists.{Running, opened, slotted, slottedAll, accountAll}
+use Rattle.run.specs.Taking.{Took}
 use Rattle.run.specs.NeverLate.{callAt, NeverLate}
 use Rattle.run.proofs.AccountCalls.{declaration-tested}
-use Rattle.run.proofs.AccountFlows.{AccountKept, account-kept}
+use Rattle.run.proofs.AccountFlows.{AccountKept, account-kept, account-fullest}
 use Rattle.run.proofs.Joined.{Joined, joined-new}
 use Rattle.run.proofs.Words.{joined-word}
 use Rattle.run.proofs.Answered.{Passes, answer-same, joined-after}
@@ -114,11 +116,11 @@ module _ (sheet words : List ℕ) (accepted : openedOf sheet words .verdict ≡ 
         ordered = order-of-sheet sheet sheet-stands;
         unused = unused-of-sheet sheet sheet-stands;
         number = operator-inside value path-inside path-stands;
-        capacity = operator-held-le value path-inside path-stands;
+        held = operator-held-le value path-inside path-stands;
       }
 
-  -- the capacity that `figures` answers is section 4's
-  capacity-answered : (k : ℕ) → k < length (value .operators) → getD (figuresOf sheet .figures) k noFigure .capacity .0 ≡ heldAt value k
+  -- the capacity that `figures` answers is section 4's held figure
+  capacity-answered : (k : ℕ) → k < length (value .operators) → getD (figuresOf sheet .figures) k noFigure .capacity .0 ≡ capacityAt value k
   unfolding figureIn figureAt
   capacity-answered k less =
       let few = passes .few in
@@ -165,6 +167,15 @@ module _ (sheet words : List ℕ) (accepted : openedOf sheet words .verdict ≡ 
     answered-at n less =
         answer-same value passes (running n .run) (running n .words) (account n) (joined-at n (omega arith)) (account-within (take n calls)) (callAt calls n) (account-taken (take n calls) (callAt calls n))
 
+    -- a call that took a slot is one that the account takes, so of it the figures' promise for the fullest moment holds
+    fullest-at : (n : ℕ) → n < length calls → Took (slottedOf (running n .run) (running n .words) (callAt calls n) .outcome) → (k : ℕ) → k < length (value .operators)
+        → account n .held k .b + arriving value (account n) (callAt calls n) k ≤ capacityAt value k
+    unfolding accountAnswer
+    fullest-at n less took =
+        account-fullest value path-inside path-stands (take n calls) (callAt calls n)
+        (none-where-result Outcome.Refused (Outcome.Sent (record { 0 = leaving value (account n) (callAt calls n) })) Took (λ why refused. refused) (accountCases value (account n) (callAt calls n))
+        (subst Took (answered-at n less) took))
+
 -- Demand 3: of every sheet, every content of the lent words, and every list of calls, where opening was not refused
 pub never-late : (sheet words : List ℕ) → openedOf sheet words .verdict ≡ Verdict.Accepted → (calls : List Call) → NeverLate sheet words calls
 unfolding runHolds
@@ -179,6 +190,12 @@ never-late sheet words accepted calls =
           λ n h.
           joined-word (pathIn sheet) (running sheet words accepted calls n .run) (running sheet words accepted calls n .words) (account sheet words accepted calls n) (joined-at sheet words accepted calls n h);
       in-time = rw delay (account-within sheet words accepted calls .in-time);
-      within = λ n h k less. rw (capacity-answered sheet words accepted k less) (account-within sheet words accepted (take n calls) .held-within k less);
+      within = λ n less took k here. rw (capacity-answered sheet words accepted k here) (fullest-at sheet words accepted calls n less took k here);
       unusable-only = λ n less refused. unusable-tested (pathIn sheet) (accountAll (pathIn sheet) newAccount (take n calls)) (callAt calls n) (sym (answered-at sheet words accepted calls n less) ∙ refused);
     }
+
+-- so after every call each operator's b alone is within its capacity
+pub never-over : (sheet words : List ℕ) → openedOf sheet words .verdict ≡ Verdict.Accepted → (calls : List Call) (k : ℕ) → k < length (pathIn sheet .operators)
+    → accountAll (pathIn sheet) newAccount calls .held k .b ≤ getD (figuresOf sheet .figures) k noFigure .capacity .0
+never-over sheet words accepted calls k less =
+    rw (capacity-answered sheet words accepted k less) (le-trans (account-within sheet words accepted calls .held-within k less) (held-le-capacity (pathIn sheet) k))

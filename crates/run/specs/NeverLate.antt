@@ -15,11 +15,12 @@ use Rattle.sheet.specs.Paths.{Path}
 use Rattle.sheet.specs.Sheets.{pathIn}
 use Rattle.figures.specs.Answers.{figuresOf, noFigure}
 use Rattle.run.specs.Calls.{Call, choicesMiscounted, amountTooLarge}
-use Rattle.run.specs.Account.{Account, newAccount, slotsUsedUp, breaksDeclaration, accountAnswer}
+use Rattle.run.specs.Account.{Account, newAccount, arriving, slotsUsedUp, breaksDeclaration, accountAnswer}
 use Rattle.run.specs.Runs.{runWordCount}
 use Rattle.run.specs.Slots.{slottedOf}
 use Rattle.run.specs.Watching.{runHolds}
 use Rattle.run.specs.Words.{runWord}
+use Rattle.run.specs.Taking.{Took}
 use Rattle.run.specs.Lists.{Running, opened, slottedAll, accountAll}
 use Rattle.run.specs.declared.slot.Outcome.{Outcome}
 
@@ -67,8 +68,9 @@ module _ (sheet lent : List ℕ) (calls : List Call) where
     pub words : (n : ℕ) → n ≤ length calls → (j : ℕ) → j < runWordCount → wordAt (runningAfter n .words) j ≡ runWord path (accountAfterCalls n) j
     -- if the list took slot i + delay, all that entered by the end of slot i had left the last operator by the end of slot i + delay
     pub in-time : (i : ℕ) → i + delay < final .slot → total (flowOf (final .entered)) (suc i) ≤ total (flowOf (final .left)) (suc (i + delay))
-    -- after every call each operator's b is at most its capacity
-    pub within : (n : ℕ) → n ≤ length calls → (k : ℕ) → k < length (path .operators) → accountAfterCalls n .held k .b ≤ capacity k
+    -- in each slot taken each operator's b + r, b as the slot before left it and r what the account says arrives, is at most its capacity
+    pub within : (n : ℕ) → n < length calls → Took (answerTo n) → (k : ℕ) → k < length (path .operators)
+        → accountAfterCalls n .held k .b + arriving path (accountAfterCalls n) (callAt calls n) k ≤ capacity k
     -- a refusal 1 comes only from a wrong argument or the last slot number
     pub unusable-only : (n : ℕ) → n < length calls → answerTo n ≡ Outcome.Refused Unusable
         → (choicesMiscounted (length (path .operators)) (callAt calls n) ≡ true) ⊎ (amountTooLarge (callAt calls n) ≡ true) ⊎ (slotsUsedUp (accountAfterCalls n) ≡ true)

@@ -35,7 +35,7 @@ figures-read-requires : tie.Need-figures-read-requires
 figures-read-requires c κs =
     let s = c .before .before .before .before .before .before .before .before in
     readable (s .args .answer .verdict) (s .args .answer .path) _ (s .pre .0)
-    (filled-bound (s .args .answer .path .declaration) (replicate 1025 0) (length-replicate {A = ℕ} 1025 0) (s .pre .1) (c .before .before .before .fill .ensures .1))
+    (filled-bound (s .args .answer .path .declaration) (replicate 1985 0) (length-replicate {A = ℕ} 1985 0) (s .pre .1) (c .before .before .before .fill .ensures .1))
 
 returns-2 : tie.Need-returns-2
 returns-2 c = c .figures-read .ensures

@@ -13,7 +13,7 @@ use Rattle.sheet.specs.declared.read.Verdict.{Verdict}
 use Rattle.figures.specs.Progress.{start}
 use Rattle.figures.specs.Answers.{refusedFigures}
 use Rattle.figures.specs.Carried.{Lent, outcome, CarriedOn, Readable, PathWithin, figuresOfValue, figuresOfRead}
-use Rattle.figures.proofs.EachOperator.{Walked, plannedAt, walked-start, walked-planned, walked-next, path-operator, operator-ready, paired-here, delay-counted, refused-path, late-path, accepted-path}
+use Rattle.figures.proofs.EachOperator.{Walked, plannedAt, walked-start, walked-planned, walked-held, walked-next, path-operator, operator-ready, paired-here, delay-counted, refused-path, late-path, accepted-path}
 use Rattle.figures.proofs.figures_read.Statement.{statement}
 use Rattle.figures.proofs.figures_read.Tie as tie
 
@@ -124,38 +124,47 @@ returns-2 c =
     let (inside, within, verdict, read, walked) = c .before .before .before .before .before .before .before .before .before .before .loop .inv in
     c .refused .ensures ∙ refused-path within walked (c .before .before .before .before .before .before .before .before .before .loop-test .taken) (sym (ap outcome (c .before .before .why .given .1)) ∙ planned-at (c .before .before .before .before)) ∙ figures-read (c .before .before .before .before .before .before .before .before .before .before .before)
 
-enum-known-figure : tie.Need-enum-known-figure Inv-loop μ-loop
-enum-known-figure c = search needs
+enum-known-held : tie.Need-enum-known-held Inv-loop μ-loop
+enum-known-held c = search needs
 
-mul-figure : tie.Need-mul-figure Inv-loop μ-loop
-mul-figure c = omega (arith, c .before .before .before .before .before .before .before .before .loop-test .taken, c .before .before .before .before .before .before .before .before .before .loop .inv .1 .few)
+fullest-requires : tie.Need-fullest-requires Inv-loop μ-loop
+fullest-requires c κs =
+    let (inside, within, verdict, read, walked) = c .before .before .before .before .before .before .before .before .before .loop .inv in
+    let here = c .before .before .before .before .before .before .before .before .loop-test .taken in
+    let planned = sym (ap outcome (c .before .held .given .1)) ∙ planned-at (c .before .before .before) in
+    let (same, few) = walked-held walked (sym (path-operator _ _ here)) planned in
+    (operator-ready within walked here .0, same, few)
 
-element-set-from-figure : tie.Need-element-set-from-figure Inv-loop μ-loop
-element-set-from-figure c = omega (arith, c .before .before .before .before .before .before .before .before .loop-test .taken, c .before .before .before .before .before .before .before .before .before .loop .inv .1 .few)
+mul-t35 : tie.Need-mul-t35 Inv-loop μ-loop
+mul-t35 c = omega (arith, c .before .before .before .before .before .before .before .before .before .loop-test .taken, c .before .before .before .before .before .before .before .before .before .before .loop .inv .1 .few)
+
+element-set-from-planned : tie.Need-element-set-from-planned Inv-loop μ-loop
+element-set-from-planned c = omega (arith, c .before .before .before .before .before .before .before .before .before .loop-test .taken, c .before .before .before .before .before .before .before .before .before .before .loop .inv .1 .few)
 
 plus-requires : tie.Need-plus-requires Inv-loop μ-loop
 plus-requires c κs = search needs
 
 add-k : tie.Need-add-k Inv-loop μ-loop
-add-k c = omega (arith, c .before .before .before .before .before .before .before .before .before .loop-test .taken, c .before .before .before .before .before .before .before .before .before .before .loop .inv .1 .few)
+add-k c = omega (arith, c .before .before .before .before .before .before .before .before .before .before .loop-test .taken, c .before .before .before .before .before .before .before .before .before .before .before .loop .inv .1 .few)
 
 loop-less : tie.Need-loop-less Inv-loop μ-loop
 loop-less c = omega arith
 
 loop-again : tie.Need-loop-again Inv-loop μ-loop
 loop-again c =
-    let s = c .before .before .before .before .before .before .before .before .before .before .before .before .before .before .before .before .before .before in
-    let (inside, within, verdict, read, walked) = c .before .before .before .before .before .before .before .before .before .before .loop .inv in
-    let here = c .before .before .before .before .before .before .before .before .before .loop-test .taken in
+    let s = c .before .before .before .before .before .before .before .before .before .before .before .before .before .before .before .before .before .before .before in
+    let (inside, within, verdict, read, walked) = c .before .before .before .before .before .before .before .before .before .before .before .loop .inv in
+    let here = c .before .before .before .before .before .before .before .before .before .before .loop-test .taken in
     let few = within .few in
-    let answer = c .before .before .figure .given .1 in
-    let planned = sym (ap outcome answer) ∙ planned-at (c .before .before .before .before) in
-    let (carries, lent, burst) = subst (CarriedOn (s .args .answer .path .declaration) (s .args .bound .now) _) answer (c .before .before .before .before .plan .ensures .carried) in (
+    let answer = c .before .before .before .held .given .1 in
+    let planned = sym (ap outcome answer) ∙ planned-at (c .before .before .before .before .before) in
+    let (full, same) = c .before .fullest .ensures in
+    let (carries, lent, burst) = subst (CarriedOn (s .args .answer .path .declaration) (s .args .bound .now) _) answer (c .before .before .before .before .before .plan .ensures .carried) in (
       omega (arith, here),
       within,
       verdict,
       read,
-      walked-next walked (omega (arith, here, few)) (sym (path-operator _ _ here)) planned carries lent burst (delay-counted within walked here planned (c .plus .ensures)),
+      walked-next walked (omega (arith, here, few)) (sym (path-operator _ _ here)) planned full same carries lent burst (delay-counted within walked here planned (c .plus .ensures)),
     )
 
 refused-requires-2 : tie.Need-refused-requires-2 Inv-loop μ-loop
@@ -190,9 +199,10 @@ figures-read-spec =
     enum-known-why
     refused-requires
     returns-2
-    enum-known-figure
-    mul-figure
-    element-set-from-figure
+    enum-known-held
+    fullest-requires
+    mul-t35
+    element-set-from-planned
     plus-requires
     add-k
     loop-less

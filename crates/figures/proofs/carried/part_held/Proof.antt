@@ -12,8 +12,8 @@ use Rattle.figures.proofs.carried.part_held.Tie as tie
 enum-told : tie.Need-enum-told
 enum-told c = search needs
 
-most-in-requires : tie.Need-most-in-requires
-most-in-requires c κs = search needs
+most-delayed-requires : tie.Need-most-delayed-requires
+most-delayed-requires c κs = search needs
 
 enum-known-slowest : tie.Need-enum-known-slowest
 enum-known-slowest c = search needs
@@ -26,7 +26,7 @@ plus-requires c κs = search needs
 
 returns : tie.Need-returns
 unfolding partHeld
-returns c = rw (c .before .enum-told .given .1, c .most-in .ensures)
+returns c = rw (c .before .enum-told .given .1, c .most-delayed .ensures)
 
 returns-2 : tie.Need-returns-2
 unfolding partHeld
@@ -46,7 +46,7 @@ part-held-spec =
     tie.close
     (tie.spec
     enum-told
-    most-in-requires
+    most-delayed-requires
     enum-known-slowest
     over-requires
     plus-requires

@@ -8,9 +8,10 @@ use lib.ListN.{getD}
 use Rattle.flow.specs.Rows.{greatestOf}
 use Rattle.flow.specs.Classes.{rows, burstAt}
 use Rattle.flow.specs.Declarations.{severalAt}
-use Rattle.flow.specs.Bounds.{boundOf, ClassWithin}
+use Rattle.flow.specs.Bounds.{ClassWithin}
+use Rattle.figures.specs.Carried.{HasBound}
 use Rattle.flow.proofs.Laws.{reach-le}
-use Rattle.figures.proofs.ClassLaws.{smooth-within, rows-within, lent-rows, lent-length, lent-small, burst-of-table}
+use Rattle.figures.proofs.ClassLaws.{smooth-within, rows-within, lent-rows, lent-small, burst-of-table}
 use Rattle.figures.proofs.class.burst_at.Statement.{statement}
 use Rattle.figures.proofs.class.burst_at.Tie as tie
 
@@ -32,7 +33,7 @@ enum-told-3 c = search needs
 rows-inside : (c : tie.After-enum-told3) → let declared = c .before .before .before .args .declared in ClassWithin (rows (severalAt declared) (declared .count))
 rows-inside c = let s = c .before .before .before in rows-within (s .args .declared) (s .args .class) (c .enum-told3 .given .1) (s .pre .0)
 
-rows-lent : (c : tie.After-enum-told3) → 0 ∷ c .before .before .before .args .bound .now ≡ boundOf (c .before .before .before .args .declared)
+rows-lent : (c : tie.After-enum-told3) → HasBound (c .before .before .before .args .declared) (c .before .before .before .args .bound .now)
 rows-lent c = let s = c .before .before .before in lent-rows (s .args .declared) (s .args .class) (s .args .bound .now) (c .enum-told3 .given .1) (s .pre .1)
 
 reach-requires : tie.Need-reach-requires
@@ -45,7 +46,7 @@ greatest-beyond-requires c κs =
     let reached = reach-le (severalAt (s .args .declared)) (s .args .declared .count) (s .args .rate .0) 1_024 (λ i less. inside .2 i less .short) in
     let short : c .reach .result ≤ 1_024 = omega (arith, c .reach .ensures, reached) in
     let lent = rows-lent (c .before .before) in
-    (omega (arith, short, lent-length (s .args .declared) (s .args .bound .now) lent), short, s .pre .2, λ i less. lent-small (s .args .declared) (s .args .bound .now) lent inside i (omega (arith, short)))
+    (omega (arith, short, lent .long), short, s .pre .2, λ i less. lent-small (s .args .declared) (s .args .bound .now) lent inside i (omega (arith, short)))
 
 wide-requires : tie.Need-wide-requires
 wide-requires c κs = search needs

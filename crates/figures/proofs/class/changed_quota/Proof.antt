@@ -24,14 +24,14 @@ mul-t9 c = let pair = smooth-pair (c .before .before .before) in omega (arith, m
 enum-told-2 : tie.Need-enum-told-2
 enum-told-2 c = search needs
 
-most-in-requires : tie.Need-most-in-requires
-most-in-requires c κs = search needs
+most-delayed-requires : tie.Need-most-delayed-requires
+most-delayed-requires c κs = search needs
 
 enum-told-3 : tie.Need-enum-told-3
 enum-told-3 c = search needs
 
-most-in-requires-2 : tie.Need-most-in-requires-2
-most-in-requires-2 c κs = search needs
+most-delayed-requires-2 : tie.Need-most-delayed-requires-2
+most-delayed-requires-2 c κs = search needs
 
 returns : tie.Need-returns
 unfolding changedQuota
@@ -39,11 +39,11 @@ returns c = rw (c .before .before .before .enum-told .given .1, c .before .block
 
 returns-2 : tie.Need-returns-2
 unfolding changedQuota mostDelayed
-returns-2 c = rw (c .most-in .ensures, c .before .enum-told2 .given .1)
+returns-2 c = rw (c .most-delayed .ensures, c .before .enum-told2 .given .1)
 
 returns-3 : tie.Need-returns-3
 unfolding changedQuota mostDelayed
-returns-3 c = rw (c .most-in2 .ensures, c .before .enum-told3 .given .1)
+returns-3 c = rw (c .most-delayed2 .ensures, c .before .enum-told3 .given .1)
 
 pub changed-quota-spec : {M : Type 1} → statement M
 changed-quota-spec =
@@ -53,9 +53,9 @@ changed-quota-spec =
     blocks-met-requires
     mul-t9
     enum-told-2
-    most-in-requires
+    most-delayed-requires
     enum-told-3
-    most-in-requires-2
+    most-delayed-requires-2
     returns
     returns-2
     returns-3)

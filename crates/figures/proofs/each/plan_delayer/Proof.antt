@@ -14,7 +14,7 @@ use Rattle.figures.proofs.Tests.{placed}
 use Rattle.figures.proofs.each.plan_delayer.Statement.{statement}
 use Rattle.figures.proofs.each.plan_delayer.Tie as tie
 
--- its capacity is that of the part with it
+-- its held figure is that of the part with it
 delayer-held : (c : tie.After-part-held) → let s = c .before .before .before in c .part-held .result .0 ≡ heldFigure (progressIn (s .args .declared) (s .args .carried)) (Delayer (s .args .delay))
 unfolding heldFigure behind
 delayer-held c =

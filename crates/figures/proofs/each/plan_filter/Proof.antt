@@ -11,7 +11,7 @@ use Rattle.figures.proofs.Tests.{placed}
 use Rattle.figures.proofs.each.plan_filter.Statement.{statement}
 use Rattle.figures.proofs.each.plan_filter.Tie as tie
 
--- its capacity is that of the part with it
+-- its held figure is that of the part with it
 filter-held : (c : tie.After-part-held) → let s = c .before .before .before in c .part-held .result .0 ≡ heldFigure (progressIn (s .args .declared) (s .args .carried)) (Filter (s .args .rate))
 unfolding heldFigure
 filter-held c = c .part-held .ensures ∙ ap heldOfPart (c .before .behind-filter .ensures .0)

@@ -19,7 +19,7 @@ rate-inside : (s : tie.Start) → (1 ≤ s .args .rate .0) × (s .args .rate .0 
 unfolding numberInRange
 rate-inside s = in-range rateRange (s .args .rate .0) (s .pre .1)
 
--- its capacity is the burst, and is small
+-- its held figure is the burst, and is small
 limiter-small : (c : tie.After-burst-at) → c .burst-at .result .0 ≤ 134_217_726
 limiter-small c =
     let s = c .before .before .before .before in

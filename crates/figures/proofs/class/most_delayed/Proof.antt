@@ -7,9 +7,9 @@ use Prim.Native.Nat.{_+_, _≤_}
 use Rattle.flow.specs.Classes.{mostDelayed}
 use Rattle.flow.specs.Bounds.{PairWithin}
 use Rattle.figures.proofs.Bounds.{round-up-at-most}
-use Rattle.figures.proofs.ClassLaws.{smooth-within, uniform-within, lent-rows, lent-length, lent-at}
-use Rattle.figures.proofs.class.most_in.Statement.{statement}
-use Rattle.figures.proofs.class.most_in.Tie as tie
+use Rattle.figures.proofs.ClassLaws.{smooth-within, uniform-within, lent-rows, lent-at}
+use Rattle.figures.proofs.class.most_delayed.Statement.{statement}
+use Rattle.figures.proofs.class.most_delayed.Tie as tie
 
 enum-told : tie.Need-enum-told
 enum-told c = search needs
@@ -70,7 +70,7 @@ entry-requires : tie.Need-entry-requires
 entry-requires c κs =
     let s = c .before .before .before in
     let lent = lent-rows (s .args .declared) (s .args .class) (s .args .bound .now) (c .enum-told3 .given .1) (s .pre .1) in
-    omega (arith, s .pre .2, lent-length (s .args .declared) (s .args .bound .now) lent)
+    omega (arith, s .pre .2, lent .long)
 
 wide-requires-5 : tie.Need-wide-requires-5
 wide-requires-5 c κs = search needs
@@ -96,8 +96,8 @@ returns-3 c =
     let lent = lent-rows (s .args .declared) (s .args .class) (s .args .bound .now) kind (s .pre .1) in
     rw kind (c .wide5 .ensures ∙ c .before .entry .ensures ∙ lent-at (s .args .declared) (s .args .bound .now) lent (s .args .n .0) (s .pre .2))
 
-pub most-in-spec : {M : Type 1} → statement M
-most-in-spec =
+pub most-delayed-spec : {M : Type 1} → statement M
+most-delayed-spec =
     tie.close
     (tie.spec
     enum-told
