@@ -2,8 +2,8 @@
 
 use super::sheet::Row;
 
-/// The entries of a table: windows of 0 to 1,024 slots.
-const LENGTH: usize = 1_025;
+/// The entries of a table: windows of 0 to 1,920 slots, which is as late as an operator is behind fourteen delayers and a filter, and one slot.
+const LENGTH: usize = 1_921;
 
 /// Entry n is the most in n slots. Entries are signed, since plain x86-64 has no vector comparison of unsigned words.
 pub type Table = [i32; LENGTH];

@@ -30,8 +30,11 @@ fn gcd(mut a: u64, mut b: u64) -> u64 {
 trait Class {
     fn burst_at(&self, rate: u64) -> u64;
 
-    /// The most that comes in n neighbouring slots.
+    /// The most that comes in n neighbouring slots, of which there is one at least.
     fn most_in(&self, n: u64) -> u64;
+
+    /// The most that delayers of so many slots hold before any filter.
+    fn most_delayed(&self, slots: u64) -> u64;
 
     /// The quota after a change of interval to n.
     fn changed_quota(&self, n: u64) -> u64;
@@ -72,7 +75,14 @@ impl Class for Pair {
     }
 
     fn most_in(&self, n: u64) -> u64 {
-        let blocks = n.div_ceil(self.interval);
+        match self.kind {
+            Kind::Smooth => ((n - 1).div_ceil(self.interval) + 1) * self.quota,
+            Kind::Uniform => n.div_ceil(self.interval) * self.quota,
+        }
+    }
+
+    fn most_delayed(&self, slots: u64) -> u64 {
+        let blocks = slots.div_ceil(self.interval);
         match self.kind {
             Kind::Smooth => (blocks + 1) * self.quota,
             Kind::Uniform => blocks * self.quota,
@@ -101,6 +111,10 @@ impl Class for Bound<'_> {
 
     fn most_in(&self, n: u64) -> u64 {
         Bound::most_in(self, n)
+    }
+
+    fn most_delayed(&self, slots: u64) -> u64 {
+        Bound::most_in(self, slots)
     }
 
     fn changed_quota(&self, n: u64) -> u64 {
@@ -136,17 +150,18 @@ impl FilterPart {
         }
     }
 
-    fn capacity(&self, class: &impl Class) -> u64 {
+    /// The most that an operator holds at a slot's end.
+    fn held(&self, class: &impl Class) -> u64 {
         match self.slowest {
             Some(Slowest { rate, burst }) => burst + self.e * rate,
-            None => class.most_in(self.e),
+            None => class.most_delayed(self.e),
         }
     }
 
-    /// The figure of the operator that has joined the part: its own delay is what it adds.
+    /// The figure of the operator that has joined the part: its own delay is what it adds, and before it sends it has what arrives in a slot too.
     fn figure(&mut self, class: &impl Class, k: usize) -> Result<Figure, Refusal> {
-        let capacity = self.capacity(class);
-        if capacity > LARGEST {
+        let held = self.held(class);
+        if held > LARGEST {
             return Err(Refusal::FigureTooLarge(k));
         }
         let before = self.delay;
@@ -155,7 +170,7 @@ impl FilterPart {
                 .slowest
                 .map_or(0, |Slowest { rate, burst }| burst.div_ceil(rate));
         Ok(Figure {
-            capacity,
+            capacity: held + class.most_in(1 + before),
             delay: self.delay - before,
         })
     }
@@ -171,16 +186,16 @@ fn framed(
     let (kind, n) = match places[k].operator {
         Operator::Limiter(rate) => {
             let rate = u64::from(rate);
-            let capacity = class.burst_at(rate);
-            if capacity > LARGEST {
+            let held = class.burst_at(rate);
+            if held > LARGEST {
                 return Err(Refusal::FigureTooLarge(k));
             }
             if class.is_above(rate) {
                 return Err(Refusal::RateTooLow(k));
             }
             let figure = Figure {
-                capacity,
-                delay: capacity.div_ceil(rate),
+                capacity: held + class.most_in(1),
+                delay: held.div_ceil(rate),
             };
             let behind = Pair {
                 kind: Kind::Uniform,
@@ -202,8 +217,12 @@ fn framed(
         && places
             .get(k + 1)
             .is_some_and(|next| next.operator == Operator::Compactor(n));
+    let arriving = match kind {
+        Kind::Smooth => 0,
+        Kind::Uniform => class.most_in(1),
+    };
     let figure = Figure {
-        capacity: quota,
+        capacity: quota + arriving,
         delay: if paired { 0 } else { interval },
     };
     let behind = Pair {
@@ -264,17 +283,24 @@ fn pair_part(
     Ok(delay)
 }
 
-/// The slots up to which the figures of a path of rows ask for their bound. The class is rows up to the first framed operator.
+/// The slots up to which the figures of a path of rows ask for their bound. The class is rows up to the first framed operator. A filter part's delay is less than the interval of the row that its least rate carries and the slots of its delayers.
 fn slots_asked(rows: &[Row], places: &[Place]) -> usize {
-    let mut asked = 0;
+    let mut asked = 1;
     let mut e = 0;
+    let mut slowest = u64::MAX;
+    let mut late = 1;
     for place in places {
+        asked = asked.max(e + late);
         match place.operator {
             Operator::Limiter(rate) => {
                 return asked.max(reach(rows, u64::from(rate)).unwrap_or(0));
             }
             Operator::Compactor(n) | Operator::Expander(n) => return asked.max(n as usize),
-            Operator::Filter(rate) => asked = asked.max(reach(rows, u64::from(rate)).unwrap_or(0)),
+            Operator::Filter(rate) => {
+                slowest = slowest.min(u64::from(rate));
+                late = reach(rows, slowest).unwrap_or(1);
+                asked = asked.max(late);
+            }
             Operator::Delayer(d) => {
                 e += d as usize;
                 asked = asked.max(e);
