@@ -119,7 +119,7 @@ module _ (sheet words : List ℕ) (accepted : openedOf sheet words .verdict ≡ 
         held = operator-held-le value path-inside path-stands;
       }
 
-  -- the capacity that `figures` answers is section 4's held figure
+  -- the capacity that `figures` answers is that of the definitions
   capacity-answered : (k : ℕ) → k < length (value .operators) → getD (figuresOf sheet .figures) k noFigure .capacity .0 ≡ capacityAt value k
   unfolding figureIn figureAt
   capacity-answered k less =
