@@ -38,7 +38,7 @@ greatest-le-there (Filter R) t x r = le-refl _
 greatest-le-there (Delayer d) t x r = le-refl _
 
 -- all that a delayer can send: its ages from 0 to d
-total-ages : (d : ℕ) (x : Held) (r : ℕ) → x .b ≡ total (x .past) d → total (ofAge x r) (suc d) ≡ x .b + r
+pub total-ages : (d : ℕ) (x : Held) (r : ℕ) → x .b ≡ total (x .past) d → total (ofAge x r) (suc d) ≡ x .b + r
 unfolding ofAge
 total-ages d x r whole = omega (arith, total-first (ofAge x r) d)
 
@@ -61,23 +61,23 @@ stays-at d x r s k u e =
     rw older
 
 -- what stays of the ages below k, where the older ones are u in all
-total-stays : (d : ℕ) (x : Held) (r s k u : ℕ) → total (ofAge x r) k + u ≡ total (ofAge x r) (suc d) → total (staysOf d x r s) k ≡ total (ofAge x r) k - (s - u)
+pub total-stays : (d : ℕ) (x : Held) (r s k u : ℕ) → total (ofAge x r) k + u ≡ total (ofAge x r) (suc d) → total (staysOf d x r s) k ≡ total (ofAge x r) k - (s - u)
 total-stays d x r s zero u e = omega (arith, total-zero (staysOf d x r s), total-zero (ofAge x r))
 total-stays d x r s (suc k) u e =
     let next : total (ofAge x r) (suc k) ≡ total (ofAge x r) k + ofAge x r k = total-suc (ofAge x r) k in
     let before : total (staysOf d x r s) k ≡ total (ofAge x r) k - (s - (ofAge x r k + u)) = total-stays d x r s k (ofAge x r k + u) (omega arith) in
     rw (next, total-suc, before, stays-at d x r s k u e) (sym (left-of-both (total (ofAge x r) k) (ofAge x r k) u s))
 
-total-past-after : (d : ℕ) (x : Held) (r s : ℕ) → total (delayerAfter d x r s .past) d ≡ total (staysOf d x r s) d
+pub total-past-after : (d : ℕ) (x : Held) (r s k : ℕ) → k ≤ d → total (delayerAfter d x r s .past) k ≡ total (staysOf d x r s) k
 unfolding delayerAfter
-total-past-after d x r s =
-    total-same (delayerAfter d x r s .past) (staysOf d x r s) d (λ a less. pick-true (ltb a d) (staysOf d x r s a) 0 (lt-ltb a d less))
+total-past-after d x r s k within =
+    total-same (delayerAfter d x r s .past) (staysOf d x r s) k (λ a less. pick-true (ltb a d) (staysOf d x r s a) 0 (lt-ltb a d (omega arith)))
 
-delayer-whole-after : (d : ℕ) (x : Held) (r s : ℕ) → x .b ≡ total (x .past) d → ofAge x r d ≤ s → s ≤ x .b + r
+pub delayer-whole-after : (d : ℕ) (x : Held) (r s : ℕ) → x .b ≡ total (x .past) d → ofAge x r d ≤ s → s ≤ x .b + r
     → x .b + r - s ≡ total (delayerAfter d x r s .past) d
 delayer-whole-after d x r s whole low high =
     let last : total (ofAge x r) (suc d) ≡ total (ofAge x r) d + ofAge x r d = total-suc (ofAge x r) d in
-    omega (arith, total-past-after d x r s, total-stays d x r s d (ofAge x r d) (sym last), total-ages d x r whole)
+    omega (arith, total-past-after d x r s d (le-refl d), total-stays d x r s d (ofAge x r d) (sym last), total-ages d x r whole)
 
 pub whole-nothing : (op : Operator) → Whole op nothing
 whole-nothing (Limiter R) = tt

@@ -2,7 +2,7 @@
 -- A path's figures rest on these and on nothing inside the operators. Theorems are those of source document 000.
 use mathlib.Core.Path.{_≡_}
 use mathlib.Core.List.{[], _∷_}
-use Prim.Native.Nat.{ℕ, suc, _+_, _*_, _/_, _≤_}
+use Prim.Native.Nat.{ℕ, suc, _+_, _-_, _*_, _/_, _≤_}
 use Rattle.quantity.specs.Sums.{total, listOf}
 use Rattle.quantity.specs.declared.Rate.{Rate}
 use Rattle.quantity.specs.Rounding.{roundUp}
@@ -19,6 +19,7 @@ use Rattle.operator.proofs.Conservation as Conservation
 use Rattle.operator.proofs.Limiter as Limiter
 use Rattle.operator.proofs.Compactor as Compactor
 use Rattle.operator.proofs.Expander as Expander
+use Rattle.operator.proofs.Delayer as Delayer
 use Rattle.operator.proofs.FilterPart as FilterPart
 use Rattle.operator.proofs.Misreadings as Misreadings
 
@@ -112,6 +113,25 @@ module _ (n : ℕ) (r c e : Flow) (large : 1 ≤ n) (first : Fitting (expander n
 
   pub pair-in-time : InTime n r (outputOn (compactor n) (outputOn (expander n) r c) e)
   pair-in-time = Expander.pair-in-time n r c e large first second
+
+-- Delayer d, in totals (a difference is 0 where it would be negative).
+
+-- oldest leave first: of the units of ages a and above it holds what entered by then less what left
+pub delayer-by-age : (d : ℕ) (r c : Flow) → Fitting (delayer d) r c → (n a : ℕ) → a ≤ d
+    → total (heldOn (delayer d) r c n .past) d - total (heldOn (delayer d) r c n .past) a ≡ total r (n - a) - total (outputOn (delayer d) r c) n
+delayer-by-age = Delayer.delayer-by-age
+
+-- so its least is what entered by the end of the slot d slots ago less what left
+pub delayer-least : (d : ℕ) (r c : Flow) → Fitting (delayer d) r c → (n : ℕ)
+    → leastOutput (delayer d) n (heldOn (delayer d) r c n) (r n) ≡ total r (suc n - d) - total (outputOn (delayer d) r c) n
+delayer-least = Delayer.delayer-least
+
+pub delayer-in-time : (d : ℕ) (r c : Flow) → Fitting (delayer d) r c → InTime d r (outputOn (delayer d) r c)
+delayer-in-time = Delayer.delayer-in-time
+
+-- and it can send any flow that is in time and does not leave before it entered
+pub delayer-sends : (d : ℕ) (r s : Flow) → Behind r s → InTime d r s → (c : Flow) × Fitting (delayer d) r c × ((n : ℕ) → outputOn (delayer d) r c n ≡ s n)
+delayer-sends = Delayer.delayer-sends
 
 -- The filter part (Theorems 8 to 10). r is the flow into the part, s the flow into the operator.
 

@@ -4,6 +4,7 @@ mod Conservation
 mod Limiter
 mod Compactor
 mod Expander
+mod Delayer
 mod FilterPart
 mod Misreadings
 pub mod SingleLaws
