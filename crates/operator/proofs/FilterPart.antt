@@ -1,27 +1,23 @@
 -- Source document 000, Theorems 8 to 10: each operator of the filter part keeps the invariant that a limiter P's total on the part's input has left e slots later.
--- A delayer holds nothing that entered before the last d slots. A filter sends at least what the limiter beside it sends, and a limiter keeps the invariant by the moment it was last empty.
+-- A delayer has sent what entered d slots ago. A filter sends at least what the limiter beside it sends, and a limiter keeps the invariant by the moment it was last empty.
 use mathlib.Core.Path.{_≡_, refl}
-use mathlib.Core.Bool.{Bool, true, false}
 use Prim.Native.Nat.{ℕ, zero, suc, _+_, _*_, _≤_, _<_, min}
-use native.Mathlib.Nat.{le-refl, le-trans, le-dest, le-of-lt, lt-of-not-le, add-zero, add-suc, zero-add, add-assoc, add-comm, min-le-left, min-le-right, mul-le-mul-left, mul-le-mul-right}
+use native.Mathlib.Nat.{le-refl, le-trans, le-dest, le-of-lt, lt-of-not-le, add-zero, zero-add, add-assoc, add-comm, min-le-left, min-le-right, mul-le-mul-left, mul-le-mul-right}
 use native.Mathlib.Decide.{decLe}
 use native.Mathlib.Omega.{arith}
-use lib.Dec.{ltb}
-use Rattle.quantity.specs.Choice.{pick}
 use Rattle.quantity.specs.Sums.{total}
 use Rattle.quantity.specs.Rounding.{roundUp}
-use Rattle.quantity.proofs.Sums.{total-zero, total-suc, total-le}
-use Rattle.operator.specs.Held.{Held, keeps}
+use Rattle.quantity.proofs.Sums.{total-zero, total-le}
+use Rattle.operator.specs.Held.{keeps}
 use Rattle.operator.specs.Limiter.{limiterLeast, limiterAfter}
 use Rattle.operator.specs.Filter.{besideAfter, filterLeast, filterAfter}
-use Rattle.operator.specs.Delayer.{ofAge, staysOf, delayerAfter}
 use Rattle.operator.specs.Operators.{leastOutput, heldAfter, limiter, filter, delayer}
 use Rattle.flow.specs.Flows.{Flow, InTime, Behind, Envelope}
 use Rattle.operator.specs.OnFlows.{heldOn, outputOn, Fitting, none}
 use Rattle.operator.specs.FilterPart.{Slowest, unfiltered, filtered, slower, limited, Served}
 use Rattle.operator.specs.declared.Operator.{Operator}
-use Rattle.operator.proofs.Steps.{held-suc}
-use Rattle.operator.proofs.Conservation.{whole-on, none-fits, conserved, output-behind}
+use Rattle.operator.proofs.Conservation.{none-fits, conserved, output-behind}
+use Rattle.operator.proofs.Delayer.{delayer-in-time}
 use Rattle.operator.proofs.Limiter.{limiter-last-empty, limiter-held, limiter-in-time, limiter-uniform, total-rises}
 
 pub served-start : (r : Flow) → Served unfiltered 0 r r
@@ -29,42 +25,6 @@ unfolding limited
 served-start r n = rw add-zero (le-refl _)
 
 -- Delayer d.
-
--- what stays of an age is at most what was there of it
-past-after-le : (d : ℕ) (x : Held) (r s a : ℕ) → delayerAfter d x r s .past a ≤ ofAge x r a
-unfolding delayerAfter staysOf
-past-after-le d x r s a = kept (ltb a d)
-  where
-    kept : (t : Bool) → pick t (staysOf d x r s a) 0 ≤ ofAge x r a
-    kept true = omega arith
-    kept false = omega arith
-
-module _ (d : ℕ) (s c : Flow) where
-  -- of the units of slot k it never holds more than entered
-  past-le-input : (a k : ℕ) → heldOn (delayer d) s c (suc k + a) .past a ≤ s k
-  unfolding heldAfter ofAge
-  past-le-input zero k =
-      rw (add-zero, held-suc) (past-after-le d (heldOn (delayer d) s c k) (s k) (outputOn (delayer d) s c k) 0)
-  past-le-input (suc a) k =
-      rw (add-suc, held-suc)
-      (le-trans
-      (past-after-le d (heldOn (delayer d) s c (suc k + a)) (s (suc k + a)) (outputOn (delayer d) s c (suc k + a)) (suc a))
-      (past-le-input a k))
-
-  -- so what it holds of the ages below j entered in the last j slots
-  total-past-le : (j k n : ℕ) → k + j ≡ n → total s k + total (heldOn (delayer d) s c n .past) j ≤ total s n
-  total-past-le zero k n e =
-      let all : k ≡ n = omega arith in
-      rw (all, total-zero, add-zero) (le-refl _)
-  total-past-le (suc j) k n e =
-      let slots : suc k + j ≡ n = omega arith in
-      let here : heldOn (delayer d) s c n .past j ≤ s k = rw (← slots) (past-le-input j k) in
-      omega (arith, total-past-le j (suc k) n slots, total-suc s k, total-suc (heldOn (delayer d) s c n .past) j)
-
-  delayer-in-time : Fitting (delayer d) s c → InTime d s (outputOn (delayer d) s c)
-  delayer-in-time fits n =
-      let whole = whole-on (delayer d) s c fits (n + d) in
-      omega (arith, conserved (delayer d) s c fits (n + d), total-past-le d n (n + d) refl)
 
 pub served-delayer : (P : Slowest) (e d : ℕ) (r s c : Flow) → Served P e r s → Fitting (delayer d) s c → Served P (e + d) r (outputOn (delayer d) s c)
 served-delayer P e d r s c served fits n = rw (← add-assoc) (le-trans (served n) (delayer-in-time d s c fits (n + e)))
