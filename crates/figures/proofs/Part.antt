@@ -1,11 +1,12 @@
 -- The filter part's figures hold of its flows: each law by whether a filter has come, from the operators' laws of the part.
 use mathlib.Core.Path.{_≡_, refl}
 use mathlib.Core.Bool.{true}
-use Prim.Native.Nat.{ℕ, suc, _+_, _*_, _≤_, min}
+use Prim.Native.Nat.{ℕ, suc, _+_, _*_, _≤_, min, _-_}
 use native.Mathlib.Nat.{le-refl, le-trans, le-of-lt, lt-of-not-le, min-eq-left, min-eq-right, mul-le-mul-left}
 use native.Mathlib.Decide.{decLe}
 use native.Mathlib.Omega.{arith}
 use Rattle.quantity.specs.Rounding.{roundUp}
+use Rattle.quantity.specs.Sums.{total}
 use Rattle.quantity.proofs.Rounding.{round-up-enough, round-up-least}
 use Rattle.quantity.proofs.Sums.{total-next}
 use Rattle.flow.specs.Flows.{Flow, InTime, Behind}
@@ -15,7 +16,7 @@ use Rattle.operator.specs.FilterPart.{Slowest, unfiltered, filtered, slower, Se
 use Rattle.operator.specs.Operators.{filter}
 use Rattle.operator.specs.declared.Operator.{Operator}
 use Rattle.flow.proofs.Laws.{window, most-mono, delayed-window, late-window, envelope, burst-falls}
-use Rattle.operator.proofs.Laws.{filtered-in-time, unfiltered-in-time, filtered-held, unfiltered-held, filter-beside}
+use Rattle.operator.proofs.Laws.{filtered-in-time, unfiltered-in-time, filtered-held, unfiltered-held, filter-beside, filtered-entering, unfiltered-entering}
 use Rattle.figures.specs.Figures.{partHeld, partDelay}
 
 -- the slowest filter carries the class, as refusal 8 asks of each
@@ -79,3 +80,9 @@ module _ (c : Class) (g : Flow) (large : Positive c) (keeps : Keeps c g) where
     part-beside R unfiltered e carries served = filter-beside R R e (burstAt c R) unfiltered g f choices refl entered (envelope c g R large (carries .1) keeps) served
     part-beside R (filtered P) e carries served =
         filter-beside R (min P R) e (burstAt c (min P R)) (filtered P) g f choices refl entered (envelope c g (min P R) large (carries .1) keeps) served
+
+  -- what enters a delayer d in d slots, with e slots of delayers before it
+  pub part-entering : (f : Flow) → Behind g f → (P : Slowest) (e d : ℕ) → Carries P c → Served P e g f → (n : ℕ) → total f n ≤ total f (n - d) + partHeld c (e + d) P
+  unfolding partHeld
+  part-entering f entered unfiltered e d carries served = unfiltered-entering e d _ g f entered (λ a. delayed-window c g large keeps a (e + d)) served
+  part-entering f entered (filtered P) e d carries served = filtered-entering P e d (burstAt c P) g f entered (envelope c g P large (carries .1) keeps) served

@@ -39,6 +39,7 @@ promised path inside none r choices kept fits =
       beside-within = λ k less. stepped path inside none r choices kept fits k less .beside;
       arrives-within = λ k less. stepped path inside none r choices kept fits k less .arrives;
       fullest-within = λ k less. stepped path inside none r choices kept fits k less .fullest;
+      entering-within = λ k less. stepped path inside none r choices kept fits k less .entering;
       in-time = reached-end path r choices (reached path inside none r choices kept fits (length (path .operators)) (le-refl _));
     }
 

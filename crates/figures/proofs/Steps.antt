@@ -1,18 +1,19 @@
 -- What holds before an operator holds behind it, and it keeps its figures: one lemma for each kind of operator, from the operators' laws.
 use mathlib.Core.Path.{_≡_, refl, sym, ap, _∙_}
 use mathlib.Core.Bool.{Bool, true, false, true≢false}
-use Prim.Native.Nat.{ℕ, _+_, _≤_}
+use Prim.Native.Nat.{ℕ, _+_, _-_, _≤_}
 use native.Mathlib.Nat.{add-zero, le-refl, le-trans}
 use native.Mathlib.Omega.{arith}
 use lib.Dec.{leb}
 use borrow.Author.Tests.{leb-true, not-false, eqb-true}
 use Rattle.quantity.specs.Choice.{pick}
 use Rattle.quantity.specs.Ranges.{Range, inRange, intervalRange, rateRange}
+use Rattle.quantity.specs.Sums.{total}
 use Rattle.quantity.specs.declared.Interval.{Interval}
 use Rattle.quantity.specs.declared.Rate.{Rate}
 use Rattle.quantity.specs.declared.Delay.{Delay}
 use Rattle.quantity.proofs.Sums.{both-true}
-use Rattle.operator.specs.Operators.{numberInRange, expander}
+use Rattle.operator.specs.Operators.{numberInRange, expander, delayer}
 use Rattle.flow.specs.Flows.{Flow, Smooth, InTime, Behind, Envelope}
 use Rattle.operator.specs.OnFlows.{heldOn, outputOn, Fitting}
 use Rattle.flow.specs.Classes.{Class, smooth, uniform, Positive, Keeps, changedQuota, carries, burstAt}
@@ -23,7 +24,7 @@ use Rattle.flow.proofs.Laws as Flows
 use Rattle.operator.proofs.Laws as Laws
 use Rattle.figures.specs.Progress.{Progress, start, behind}
 use Rattle.figures.specs.Figures.{partDelay, delayOfPart, heldFigure, mostArriving, capacity, ownDelay, pairs, isFramed, framedAfterFilter, rateTooLow}
-use Rattle.figures.proofs.Part.{Carries, slower-carries, delay-le-slower, delay-le-longer, part-arrives, part-held, part-beside}
+use Rattle.figures.proofs.Part.{Carries, slower-carries, delay-le-slower, delay-le-longer, part-arrives, part-held, part-beside, part-entering}
 
 -- what is known before an operator, of the flow g that the class is of and the flow f into the operator
 pub record Known (p : Progress) (g f : Flow) : Type 0 where
@@ -54,6 +55,7 @@ pub record Step (p : Progress) (op : Operator) (g f c : Flow) : Type 0 where
   pub beside : (n : ℕ) → heldOn op f c n .h ≤ heldFigure p op
   pub arrives : (n : ℕ) → f n ≤ mostArriving p
   pub fullest : (n : ℕ) → heldOn op f c n .b + f n ≤ capacity p op
+  pub entering : (d : ℕ) → op ≡ delayer d → (n : ℕ) → total f n ≤ total f (n - d) + heldFigure p op
   pub timed : (r : Flow) (D : ℕ) (next : Operator) (pair : Bool) → (pair ≡ true → pairs op next ≡ true) → Timed r p op g f D
       → Timed r (behind p op) next (pick (isFramed op) (outputOn op f c) g) (outputOn op f c) (D + ownDelay p op pair)
 
@@ -116,6 +118,7 @@ module _ (p : Progress) (g f c : Flow) (known : Known p g f) where
         beside = λ n. omega (arith, Laws.beside-none (Limiter R) (λ R same. let z : _≡_ {A = ℕ} 0 1 = cc in omega arith) f c n);
         arrives = arrives-into;
         fullest = λ n. omega (arith, held n, arrives-into n);
+        entering = λ d same. absurd (let z : _≡_ {A = ℕ} 0 1 = cc in omega arith);
         timed = λ r D next pair makes timed. timed-start r (uniform 1 (R .0)) next output _
             (Flows.in-time-add D _ r f output (late-into before r D (timed-counted r p (Limiter R) g f D (λ n. refl) timed)) late);
       }
@@ -142,6 +145,7 @@ module _ (p : Progress) (g f c : Flow) (known : Known p g f) where
         beside = λ k. omega (arith, Laws.beside-none (Expander n) (λ R same. let z : _≡_ {A = ℕ} 0 1 = cc in omega arith) f c k);
         arrives = arrives-into;
         fullest = Laws.expander-fullest (n .0) Q f c large fits kept;
+        entering = λ d same. absurd (let z : _≡_ {A = ℕ} 0 1 = cc in omega arith);
         timed = λ r D next pair makes timed. timed-expander n _ large fits r D next (late-into before r D (timed-counted r p (Expander n) g f D (λ n. refl) timed)) pair makes;
       }
 
@@ -172,6 +176,7 @@ module _ (p : Progress) (g f c : Flow) (known : Known p g f) where
         beside = λ k. omega (arith, Laws.beside-none (Compactor n) (λ R same. let z : _≡_ {A = ℕ} 0 1 = cc in omega arith) f c k);
         arrives = arrives-into;
         fullest = λ n. omega (arith, held n, arrives-into n);
+        entering = λ d same. absurd (let z : _≡_ {A = ℕ} 0 1 = cc in omega arith);
         timed = λ r D next pair makes timed. timed-start r (uniform (n .0) Q) next output _ (late-compactor n before large fits r D timed);
       }
 
@@ -202,6 +207,7 @@ module _ (p : Progress) (g f c : Flow) (known : Known p g f) where
         beside = part-beside (p .class) g (known .large) (known .kept) f c (known .entered) (R .0) (p .slowest) (p .e) enough (known .served);
         arrives = arrives-into;
         fullest = λ n. omega (arith, held n, arrives-into n);
+        entering = λ d same. absurd (let z : _≡_ {A = ℕ} 0 1 = cc in omega arith);
         timed = λ r D next pair makes timed.
             let (E, sum, late) = timed-counted r p (Filter R) g f D (λ n. refl) timed in
             counted E (omega (arith, delay-le-slower (p .class) (p .e) (p .slowest) (R .0) (known .large) (above-least rateRange (R .0) (passed .inside)) (not-false (carries (p .class) (R .0)) (passed .rated)))) late;
@@ -219,6 +225,9 @@ module _ (p : Progress) (g f c : Flow) (known : Known p g f) where
         beside = λ n. omega (arith, Laws.beside-none (Delayer d) (λ R same. let z : _≡_ {A = ℕ} 0 1 = cc in omega arith) f c n);
         arrives = arrives-into;
         fullest = λ n. omega (arith, held n, arrives-into n);
+        entering = λ slots same.
+            let own : slots ≡ d .0 = cc in
+            rw own (part-entering (p .class) g (known .large) (known .kept) f (known .entered) (p .slowest) (p .e) (d .0) (known .carries) (known .served));
         timed = λ r D next pair makes timed.
             let (E, sum, late) = timed-counted r p (Delayer d) g f D (λ n. refl) timed in
             counted E (omega (arith, delay-le-longer (p .class) (p .e) (d .0) (p .slowest))) late;

@@ -1,8 +1,11 @@
 -- The flows along a path, and what the figures promise of them (sections 3 and 4): of all flows that keep the declaration and all choices that fit.
-use Prim.Native.Nat.{ℕ, zero, suc, _+_, _≤_, _<_}
+use Prim.Native.Nat.{ℕ, zero, suc, _+_, _≤_, _<_, _-_}
+use mathlib.Core.Path.{_≡_}
 use lib.ListN.{length}
 use Rattle.quantity.specs.Choice.{pick}
+use Rattle.quantity.specs.Sums.{total}
 use Rattle.flow.specs.Flows.{Flow, InTime}
+use Rattle.operator.specs.Operators.{delayer}
 use Rattle.operator.specs.OnFlows.{heldOn, outputOn, Fitting}
 use Rattle.flow.specs.Classes.{Keeps}
 use Rattle.operator.specs.declared.Operator.{Operator}
@@ -37,5 +40,8 @@ module _ (path : Path) (r : Flow) (choices : ℕ → Flow) where
     -- and before it sends in slot n, what it holds and what arrives are at most its capacity
     pub fullest-within : (k : ℕ) → k < length (path .operators) → (n : ℕ)
         → heldOn (operatorAt path k) (flowInto (operatorAt path) r choices k) (choices k) n .b + flowInto (operatorAt path) r choices k n ≤ capacityAt path k
+    -- what enters a delayer d in the d slots before any slot n, or in all before it where these are fewer, is at most its held figure too
+    pub entering-within : (k : ℕ) → k < length (path .operators) → (d : ℕ) → operatorAt path k ≡ delayer d
+        → (n : ℕ) → total (flowInto (operatorAt path) r choices k) n ≤ total (flowInto (operatorAt path) r choices k) (n - d) + heldAt path k
     -- what entered by the end of slot i has left the last operator by the end of slot i + delay
     pub in-time : InTime (pathDelay path) r (flowInto (operatorAt path) r choices (length (path .operators)))

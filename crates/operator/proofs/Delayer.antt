@@ -15,10 +15,10 @@ use Rattle.operator.specs.OnFlows.{heldOn, outputOn, Fitting}
 use Rattle.operator.proofs.Conservation.{total-ages, total-stays, total-past-after, delayer-whole-after}
 
 -- after n slots of r, with so much left: what is held of the ages below a, and what entered before them less what left, is all that is held
-record ByAge (d : ℕ) (r : Flow) (left n : ℕ) (x : Held) : Type 0 where
-  whole : x .b ≡ total (x .past) d
-  entered : left ≤ total r n
-  ages : (a : ℕ) → a ≤ d → total (x .past) a + (total r (n - a) - left) ≡ x .b
+pub record ByAge (d : ℕ) (r : Flow) (left n : ℕ) (x : Held) : Type 0 where
+  pub whole : x .b ≡ total (x .past) d
+  pub entered : left ≤ total r n
+  pub ages : (a : ℕ) → a ≤ d → total (x .past) a + (total r (n - a) - left) ≡ x .b
 
 by-age-nothing : (d : ℕ) (r : Flow) → ByAge d r 0 0 nothing
 by-age-nothing d r = record {
@@ -28,7 +28,7 @@ by-age-nothing d r = record {
 }
 
 module _ (d : ℕ) (r : Flow) (left n : ℕ) (x : Held) (before : ByAge d r left n x) where
-  held-all : x .b ≡ total r n - left
+  pub held-all : x .b ≡ total r n - left
   held-all =
       let all : total (x .past) 0 + (total r n - left) ≡ x .b = rw sub-zero at (before .ages 0 (omega arith)) in
       omega (arith, total-zero (x .past))
@@ -68,7 +68,7 @@ module _ (d : ℕ) (r c : Flow) where
   by-age-next left n before high = by-age-after d r left n (heldOn (delayer d) r c n) before (outputOn (delayer d) r c n) (omega arith) high
 
   module _ (fits : Fitting (delayer d) r c) where
-    by-age-on : (n : ℕ) → ByAge d r (total (outputOn (delayer d) r c) n) n (heldOn (delayer d) r c n)
+    pub by-age-on : (n : ℕ) → ByAge d r (total (outputOn (delayer d) r c) n) n (heldOn (delayer d) r c n)
     unfolding heldOn total greatestOutput delayerGreatest
     by-age-on zero = by-age-nothing d r
     by-age-on (suc n) = by-age-next (total (outputOn (delayer d) r c) n) n (by-age-on n) (fits n)

@@ -1,7 +1,7 @@
 -- Source document 000, Theorems 8 to 10: each operator of the filter part keeps the invariant that a limiter P's total on the part's input has left e slots later.
 -- A delayer has sent what entered d slots ago. A filter sends at least what the limiter beside it sends, and a limiter keeps the invariant by the moment it was last empty.
 use mathlib.Core.Path.{_≡_, refl}
-use Prim.Native.Nat.{ℕ, zero, suc, _+_, _*_, _≤_, _<_, min}
+use Prim.Native.Nat.{ℕ, zero, suc, _+_, _-_, _*_, _≤_, _<_, min}
 use native.Mathlib.Nat.{le-refl, le-trans, le-dest, le-of-lt, lt-of-not-le, add-zero, zero-add, add-assoc, add-comm, min-le-left, min-le-right, mul-le-mul-left, mul-le-mul-right}
 use native.Mathlib.Decide.{decLe}
 use native.Mathlib.Omega.{arith}
@@ -118,19 +118,20 @@ unfolding limited
 limited-le unfiltered r n m h = total-le r h
 limited-le (filtered P) r n m h = total-le (outputOn (limiter P) r none) h
 
--- where no e slots have more than M of what a limiter P sends, the invariant leaves at most M of it to send
-limited-le-sent : (P : Slowest) (e M : ℕ) (r u : Flow) → Served P e r u → ((a : ℕ) → limited P r (a + e) ≤ limited P r a + M) → (n : ℕ) → limited P r n ≤ total u n + M
-limited-le-sent P e M r u served window n = elim (decLe e n) [ yes later ↦ after later | no earlier ↦ before (lt-of-not-le earlier) ]
+-- where no e slots have more than M of what a limiter P sends, and all that it sent is there e slots later, at most M of it is not there yet
+limited-le-sent : (P : Slowest) (e M : ℕ) (r : Flow) (sent : ℕ → ℕ) → ((n : ℕ) → limited P r n ≤ sent (n + e)) → ((a : ℕ) → limited P r (a + e) ≤ limited P r a + M)
+    → (n : ℕ) → limited P r n ≤ sent n + M
+limited-le-sent P e M r sent served window n = elim (decLe e n) [ yes later ↦ after later | no earlier ↦ before (lt-of-not-le earlier) ]
   where
-    after : e ≤ n → limited P r n ≤ total u n + M
+    after : e ≤ n → limited P r n ≤ sent n + M
     after later =
         let (a, f) = le-dest later in
         let slots : a + e ≡ n = omega arith in
         let came : limited P r n ≤ limited P r a + M = rw slots at (window a) in
-        let left : limited P r a ≤ total u n = rw slots at (served a) in
+        let left : limited P r a ≤ sent n = rw slots at (served a) in
         omega arith
 
-    before : n < e → limited P r n ≤ total u n + M
+    before : n < e → limited P r n ≤ sent n + M
     before earlier =
         let first : limited P r e ≤ limited P r 0 + M = rw zero-add at (window 0) in
         omega (arith, limited-le P r n e (le-of-lt earlier), limited-zero P r)
@@ -145,17 +146,39 @@ filtered-held op P e B r s c fits entered bound served n =
       conserved op s c fits n,
       conserved (limiter P) r none (none-fits (limiter P) r) n,
       limiter-held P B r none (none-fits (limiter P) r) bound n,
-      limited-le-sent (filtered P) e (e * P) r (outputOn op s c) served (λ a. limiter-rises P r a e) n,
+      limited-le-sent (filtered P) e (e * P) r (total (outputOn op s c)) served (λ a. limiter-rises P r a e) n,
     )
 
 pub unfiltered-held : (op : Operator) (e M : ℕ) (r s c : Flow) → Fitting op s c → Behind r s → ((a : ℕ) → total r (a + e) ≤ total r a + M) → Served unfiltered e r (outputOn op s c)
     → (n : ℕ) → heldOn op s c n .b ≤ M
 unfolding limited
 unfiltered-held op e M r s c fits entered window served n =
-    omega (arith, entered n, conserved op s c fits n, limited-le-sent unfiltered e M r (outputOn op s c) served window n)
+    omega (arith, entered n, conserved op s c fits n, limited-le-sent unfiltered e M r (total (outputOn op s c)) served window n)
 
 pub filter-beside : (R P e B : ℕ) (Q : Slowest) (r s c : Flow) → slower Q R ≡ filtered P → Behind r s → Envelope B P r → Served Q e r s
     → (n : ℕ) → heldOn (filter R) s c n .h ≤ B + e * P
 filter-beside R P e B Q r s c rate entered bound served n =
     rw h-is-limiter-b
     (filtered-held (limiter R) P e B r s none (none-fits (limiter R) s) entered bound (rw rate at (served-limiter Q e R r s served)) n)
+
+-- What enters a delayer d in d slots: what a limiter P would have sent e + d slots ago had entered it before them, so what they add has the bound of what it holds.
+
+served-before : (P : Slowest) (e d : ℕ) (r s : Flow) → Served P e r s → (n : ℕ) → limited P r n ≤ total s (n + (e + d) - d)
+served-before P e d r s served n = let slots : n + (e + d) - d ≡ n + e = omega arith in rw slots (served n)
+
+pub filtered-entering : (P e d B : ℕ) (r s : Flow) → Behind r s → Envelope B P r → Served (filtered P) e r s → (n : ℕ) → total s n ≤ total s (n - d) + (B + (e + d) * P)
+unfolding limited
+filtered-entering P e d B r s entered bound served n =
+    omega (
+      arith,
+      entered n,
+      conserved (limiter P) r none (none-fits (limiter P) r) n,
+      limiter-held P B r none (none-fits (limiter P) r) bound n,
+      limited-le-sent (filtered P) (e + d) ((e + d) * P) r (λ n. total s (n - d)) (served-before (filtered P) e d r s served) (λ a. limiter-rises P r a (e + d)) n,
+    )
+
+pub unfiltered-entering : (e d M : ℕ) (r s : Flow) → Behind r s → ((a : ℕ) → total r (a + (e + d)) ≤ total r a + M) → Served unfiltered e r s
+    → (n : ℕ) → total s n ≤ total s (n - d) + M
+unfolding limited
+unfiltered-entering e d M r s entered window served n =
+    omega (arith, entered n, limited-le-sent unfiltered (e + d) M r (λ n. total s (n - d)) (served-before unfiltered e d r s served) window n)

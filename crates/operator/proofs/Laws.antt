@@ -1,25 +1,31 @@
--- The laws of flows, as a list: what the operators promise of every flow, with nothing of words or code.
+-- The laws of flows, as a list: what the operators promise of every flow, with nothing of words or code; at the end, what a delayer's words within a path say of it.
 -- A path's figures rest on these and on nothing inside the operators. Theorems are those of source document 000.
 use mathlib.Core.Path.{_≡_}
-use mathlib.Core.List.{[], _∷_}
-use Prim.Native.Nat.{ℕ, suc, _+_, _-_, _*_, _/_, _≤_}
+use mathlib.Core.Bool.{true}
+use mathlib.Core.List.{List, [], _∷_}
+use Prim.Native.Nat.{ℕ, suc, _+_, _-_, _*_, _/_, _%_, _≤_, _<_}
 use Rattle.quantity.specs.Sums.{total, listOf}
 use Rattle.quantity.specs.declared.Rate.{Rate}
 use Rattle.quantity.specs.Rounding.{roundUp}
 use Rattle.operator.specs.Held.{Held, nothing}
-use Rattle.operator.specs.Operators.{leastOutput, greatestOutput, heldAfter, limiter, compactor, expander, filter, delayer}
+use Rattle.operator.specs.Operators.{leastOutput, greatestOutput, heldAfter, numberInRange, limiter, compactor, expander, filter, delayer}
 use Rattle.operator.specs.Whole.{Whole}
 use Rattle.flow.specs.Flows.{Flow, flowOf, Smooth, Uniform, InTime, Behind, Envelope}
 use Rattle.operator.specs.OnFlows.{heldOn, outputOn, Fitting, none}
 use Rattle.operator.specs.FilterPart.{Slowest, unfiltered, filtered, slower, Served}
+use Rattle.operator.specs.Single.{wordCount}
+use Rattle.operator.specs.Ring.{wrap, totalLess, pathHolds, pathLeast, pathGreatest, pathStateKept, ringWordNext, pathNew, pathOn}
 use Rattle.operator.specs.declared.Operator.{Operator}
 use Rattle.operator.specs.declared.Operator.the-variants.{Filter}
+use Rattle.operator.specs.declared.ring.PathOperator.{PathOperator}
+use Rattle.operator.proofs.DelayerRing.{RingStands}
 use Rattle.operator.proofs.Steps as Steps
 use Rattle.operator.proofs.Conservation as Conservation
 use Rattle.operator.proofs.Limiter as Limiter
 use Rattle.operator.proofs.Compactor as Compactor
 use Rattle.operator.proofs.Expander as Expander
 use Rattle.operator.proofs.Delayer as Delayer
+use Rattle.operator.proofs.DelayerRing as DelayerRing
 use Rattle.operator.proofs.FilterPart as FilterPart
 use Rattle.operator.proofs.Misreadings as Misreadings
 
@@ -166,6 +172,14 @@ pub filter-beside : (R P e B : ℕ) (Q : Slowest) (r s c : Flow) → slower Q R 
     → (n : ℕ) → heldOn (filter R) s c n .h ≤ B + e * P
 filter-beside = FilterPart.filter-beside
 
+-- and what enters a delayer of the part in its d slots keeps the bound of what it holds
+pub filtered-entering : (P e d B : ℕ) (r s : Flow) → Behind r s → Envelope B P r → Served (filtered P) e r s → (n : ℕ) → total s n ≤ total s (n - d) + (B + (e + d) * P)
+filtered-entering = FilterPart.filtered-entering
+
+pub unfiltered-entering : (e d M : ℕ) (r s : Flow) → Behind r s → ((a : ℕ) → total r (a + (e + d)) ≤ total r a + M) → Served unfiltered e r s
+    → (n : ℕ) → total s n ≤ total s (n - d) + M
+unfiltered-entering = FilterPart.unfiltered-entering
+
 -- Section 9: a limiter does not keep smooth flows smooth, by the paper's own example.
 
 pub before-limiter : Smooth 4 4 (flowOf (0 ∷ 0 ∷ 0 ∷ 4 ∷ 4 ∷ 0 ∷ 0 ∷ 0 ∷ []))
@@ -176,3 +190,37 @@ behind-limiter = Misreadings.behind-limiter
 
 pub not-smooth-behind-limiter : Smooth 4 4 (outputOn (limiter 2) (flowOf (0 ∷ 0 ∷ 0 ∷ 4 ∷ 4 ∷ 0 ∷ 0 ∷ 0 ∷ [])) none) → ⊥
 not-smooth-behind-limiter = Misreadings.not-smooth-behind-limiter
+
+-- Document 02, item 10: a delayer's ring within a path.
+
+-- the wrapping difference of two totals is exact where less than 2^32 lies between them
+pub total-less-exact : (x y : ℕ) → y ≤ x → x < y + wrap → totalLess (x % wrap) (y % wrap) ≡ x - y
+total-less-exact = DelayerRing.total-less-exact
+
+-- a slot's least is section 3's on what the state and the words say of each age, whatever they are, so its interval is
+pub ring-least : (x : PathOperator) (words : List ℕ) (r : ℕ) → numberInRange (x .operator) ≡ true → pathLeast x words r ≡ leastOutput (x .operator) (x .slot .0) (pathHolds x words) r
+ring-least = DelayerRing.ring-least
+
+-- each word of the ring is the total after the latest slot that wrote it: so of a new delayer, and a slot keeps it
+pub ring-stands-new : (d : ℕ) (r s : Flow) → RingStands d r s 0 (pathNew (delayer d) .state) (pathNew (delayer d) .words)
+ring-stands-new = DelayerRing.ring-stands-new
+
+pub ring-stands-next : (d : ℕ) (r s : Flow) (n : ℕ) (x : PathOperator) (words : List ℕ) → 1 ≤ d → d ≤ wordCount → RingStands d r s n x words → (kept beside : ℕ) → beside ≡ 0
+    → RingStands d r s (suc n) (pathStateKept x (r n) (s n) kept beside) (listOf (ringWordNext x words (r n)) wordCount)
+ring-stands-next = DelayerRing.ring-stands-next
+
+-- where that is so, and what entered in d slots is below the wrap, state and words say of each age what the delayer holds
+pub ring-stands-holds : (d : ℕ) (r c : Flow) → Fitting (delayer d) r c → (n : ℕ) → total r n < total r (n - d) + wrap
+    → (x : PathOperator) (words : List ℕ) → RingStands d r (outputOn (delayer d) r c) n x words → pathHolds x words ≡ heldOn (delayer d) r c n
+ring-stands-holds = DelayerRing.ring-stands-holds
+
+-- so the slot has the interval that the delayer has by age
+pub ring-interval : (d : ℕ) (r c : Flow) → Fitting (delayer d) r c → (n : ℕ) → total r n < total r (n - d) + wrap → 1 ≤ d → d ≤ wordCount
+    → (x : PathOperator) (words : List ℕ) → RingStands d r (outputOn (delayer d) r c) n x words
+    → (pathLeast x words (r n) ≡ leastOutput (delayer d) n (heldOn (delayer d) r c n) (r n)) × (pathGreatest x words (r n) ≡ greatestOutput (delayer d) n (heldOn (delayer d) r c n) (r n))
+ring-interval = DelayerRing.ring-interval
+
+-- and from new on, slot after slot, the ring and the layout by age agree
+pub ring-on : (d : ℕ) (r c : Flow) → 1 ≤ d → d ≤ wordCount → Fitting (delayer d) r c → (n : ℕ) → total r n < total r (n - d) + wrap
+    → pathHolds (pathOn (delayer d) r (outputOn (delayer d) r c) n .state) (pathOn (delayer d) r (outputOn (delayer d) r c) n .words) ≡ heldOn (delayer d) r c n
+ring-on = DelayerRing.ring-on

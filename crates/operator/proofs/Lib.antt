@@ -5,10 +5,14 @@ mod Limiter
 mod Compactor
 mod Expander
 mod Delayer
+pub mod DelayerRing
 mod FilterPart
 mod Misreadings
 pub mod SingleLaws
-pub mod Stands
 pub mod PartsLaws
 mod StepAnswers
+pub mod HeldByAge
+pub mod RingLaws
+pub mod PathStands
 pub mod ReferenceUnits
+pub mod ReferenceRings

@@ -10,3 +10,4 @@ pub mod FilterPart
 pub mod Whole
 pub mod Single
 pub mod Parts
+pub mod Ring

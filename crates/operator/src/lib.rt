@@ -9,6 +9,7 @@ ghost use mathlib.Core.Path.{_≡_};
 ghost use Rattle.operator.specs.Operators.{numberInRange};
 
 pub mod parts;
+pub mod ring;
 pub mod single;
 
 // An operator with its number (section 3).

@@ -1,5 +1,5 @@
-// Parts of a slot, for the crate that runs a path. They are no calls: who builds boxes calls single::bounds_alone and single::step_alone (document 01, sections 3, 6 and 7).
-// What is lent and stored is tested, then all is decided on numbers, then what stays is written.
+// The steps of a single operator's slot, of which `single` makes its calls: what is lent and stored is tested, then all is decided on numbers, then what stays is written (document 01, sections 3, 6 and 7).
+// A delayer's words are by age here; within a path they are a ring, and `ring` has these steps. `stored_in` is a part, for a program that shows what a single operator holds.
 
 use crate::Operator;
 use crate::SingleOperator;
@@ -81,7 +81,7 @@ pub fn stored_in(state: SingleOperator, words: &[u32]) -> Stored
 }
 
 // Decide, on numbers: the output, what stays and a filter's h then, whatever they are. `held` is what stored_in answered; no word is tested.
-pub fn decide(
+pub(crate) fn decide(
     state: SingleOperator,
     words: &[u32],
     held: Units,
@@ -118,7 +118,7 @@ pub fn decide(
 }
 
 // Keep: the next state; every unit in the words is a slot older, the input is new and the newest stay, `kept` of them in all.
-pub fn keep(
+pub(crate) fn keep(
     state: SingleOperator,
     words: &mut [u32],
     input: Units,
@@ -144,7 +144,13 @@ pub fn keep(
 }
 
 // Whether the words have a wrong length, no slot number is left, or an amount is above its limit.
-fn undecidable(state: SingleOperator, words: &[u32], held: u64, input: u64, choice: u64) -> bool
+pub(crate) fn undecidable(
+    state: SingleOperator,
+    words: &[u32],
+    held: u64,
+    input: u64,
+    choice: u64,
+) -> bool
     ensures { λ r. ⌜ r ≡ undecidable state (now (words .entry)) held input choice ⌝ }
 {
     if words::unfit(words.len(), WORDS, state.slot.0, held, state.beside.0) {
@@ -232,7 +238,7 @@ fn at_multiple(slot: u32, interval: u32, units: u64) -> u64
 }
 
 // A filter's h after a slot; no other operator has one.
-fn beside_after(operator: Operator, beside: u64, input: u64) -> u64
+pub(crate) fn beside_after(operator: Operator, beside: u64, input: u64) -> u64
     requires { ⌜ (beside ≤ largestAmount) × (input ≤ mostOnTheWay) ⌝ }
     ensures { λ r. ⌜ ((x : Held) → x .h ≡ beside → (s : ℕ) → r ≡ heldAfter operator x input s .h) ⌝ }
 {
@@ -266,20 +272,20 @@ fn smaller(a: u64, b: u64) -> u64
 }
 
 // One number less another, 0 if negative.
-fn less(a: u64, b: u64) -> u64
+pub(crate) fn less(a: u64, b: u64) -> u64
     ensures { λ r. ⌜ r ≡ a - b ⌝ }
 {
     if a < b { 0 } else { a - b }
 }
 
 // What the state's field has of the units kept.
-fn held_apart(operator: Operator, kept: u64) -> u64
+pub(crate) fn held_apart(operator: Operator, kept: u64) -> u64
     ensures { λ r. ⌜ r ≡ pick (usesHeld operator) kept 0 ⌝ }
 {
     if uses_held(operator) { kept } else { 0 }
 }
 
-fn words_used(operator: Operator) -> usize
+pub(crate) fn words_used(operator: Operator) -> usize
     ensures { λ r. ⌜ r ≡ wordsUsed operator ⌝ }
 {
     match operator {
@@ -291,7 +297,7 @@ fn words_used(operator: Operator) -> usize
     }
 }
 
-fn uses_held(operator: Operator) -> bool
+pub(crate) fn uses_held(operator: Operator) -> bool
     ensures { λ r. ⌜ r ≡ usesHeld operator ⌝ }
 {
     match operator {
@@ -303,7 +309,7 @@ fn uses_held(operator: Operator) -> bool
     }
 }
 
-fn uses_beside(operator: Operator) -> bool
+pub(crate) fn uses_beside(operator: Operator) -> bool
     ensures { λ r. ⌜ r ≡ usesBeside operator ⌝ }
 {
     match operator {

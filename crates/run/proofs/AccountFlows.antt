@@ -9,6 +9,7 @@ use native.Mathlib.Numerals.{add-one}
 use native.Mathlib.Omega.{arith}
 use lib.ListN.{length}
 use borrow.Author.Tests.{ltb-false, not-false}
+use Rattle.quantity.specs.Limits.{largestAmount}
 use Rattle.quantity.specs.Sums.{total, every}
 use Rattle.quantity.proofs.Sums.{total-same}
 use Rattle.quantity.proofs.Refusals.{NoneStands}
@@ -21,22 +22,26 @@ use Rattle.flow.specs.Classes.{Keeps}
 use Rattle.flow.specs.Declarations.{classOf}
 use Rattle.flow.specs.Keeping.{keepsClass}
 use Rattle.flow.proofs.Laws.{keeps-decided}
+use Rattle.operator.specs.Ring.{pathHolds}
+use Rattle.operator.specs.declared.ring.PathOperator.{PathOperator}
 use Rattle.operator.proofs.Laws.{least-le-greatest, whole-on, none-fits}
+use Rattle.operator.proofs.PathStands.{PathStands, path-stands-same, path-stands-holds}
 use Rattle.sheet.specs.Paths.{Path}
 use Rattle.sheet.specs.Sheets.{pathInRange}
 use Rattle.figures.specs.Answers.{operatorAt, heldAt, capacityAt, pathDelay, pathCases}
 use Rattle.figures.specs.Along.{flowInto, AllFit, Promised}
-use Rattle.figures.proofs.Promise.{promised, declared-positive}
+use Rattle.figures.proofs.Promise.{promised, declared-positive, operator-held-le}
 use Rattle.run.specs.Calls.{Call, choiceFor}
 use Rattle.run.specs.Account.{Account, newAccount, arriving, breaksDeclaration, choiceTooLarge, accountCases, accountNext}
-use Rattle.run.specs.Lists.{accountAll}
-use Rattle.run.proofs.AccountCalls.{choice-small, all-holds}
+use Rattle.run.specs.Lists.{arrivedAll, accountAll}
+use Rattle.run.proofs.AccountCalls.{arrivedNext, choice-small, all-holds}
 use Rattle.run.proofs.FlowsAgree.{Agree, held-agrees, output-agrees, into-agrees, longer-agrees, longer-last, longer-length, none-after, fits-for-ever}
 
 -- what the account of any calls promises
-pub record AccountKept (path : Path) (account : Account) : Type 0 where
-  -- as many inputs as slots
+pub record AccountKept (path : Path) (account : Account) (arrived : ℕ → List ℕ) : Type 0 where
+  -- as many inputs as slots, and as many that arrived at each operator
   pub counted : length (account .entered) ≡ account .slot
+  pub counted-arrived : (k : ℕ) → length (arrived k) ≡ account .slot
   -- what entered keeps the declaration
   pub keeps : Keeps (classOf (path .declaration)) (flowOf (account .entered))
   -- what entered by the end of slot i has left by the end of slot i + delay, wherever that slot was taken
@@ -46,24 +51,29 @@ pub record AccountKept (path : Path) (account : Account) : Type 0 where
   pub beside-within : (k : ℕ) → k < length (path .operators) → account .held k .h ≤ heldAt path k
   -- a delayer's b is the sum of its past
   pub whole : (k : ℕ) → k < length (path .operators) → Whole (operatorAt path k) (account .held k)
+  -- state and words that stand for what arrived at an operator and behind it have the account's b, h and past: less than the wrap arrives at a delayer in its d slots
+  pub reads : (k : ℕ) → k < length (path .operators) → (x : PathOperator) (words : List ℕ) → x .operator ≡ operatorAt path k
+      → PathStands (flowOf (arrived k)) (flowOf (arrived (suc k))) (account .slot) x words (account .held k) → pathHolds x words ≡ account .held k
 
 -- the flow into operator k, of the inputs and each operator's choices so far
 abbrev into : Path → List ℕ → (ℕ → List ℕ) → ℕ → Flow
 into path entered chosen = flowInto (operatorAt path) (flowOf entered) (λ k. flowOf (chosen k))
 
--- What holds of the account after any calls: it has what the flows of the taken inputs and choices give, and these fit and keep the declaration.
-record Follows (path : Path) (account : Account) : Type 0 where
+-- What holds of the account and of what arrived after any calls: they have what the flows of the taken inputs and choices give, and these fit and keep the declaration.
+record Follows (path : Path) (account : Account) (arrived : ℕ → List ℕ) : Type 0 where
   chosen : ℕ → List ℕ
   counted : length (account .entered) ≡ account .slot
   counted-left : length (account .left) ≡ account .slot
   counted-chosen : (k : ℕ) → length (chosen k) ≡ account .slot
+  counted-arrived : (k : ℕ) → length (arrived k) ≡ account .slot
   held : (k : ℕ) → account .held k ≡ heldOn (operatorAt path k) (into path (account .entered) chosen k) (flowOf (chosen k)) (account .slot)
   left : Agree (account .slot) (flowOf (account .left)) (into path (account .entered) chosen (length (path .operators)))
+  arrives : (k : ℕ) → Agree (account .slot) (flowOf (arrived k)) (into path (account .entered) chosen k)
   fits : AllFit path (flowOf (account .entered)) (λ k. flowOf (chosen k))
   keeps : Keeps (classOf (path .declaration)) (flowOf (account .entered))
 
 -- The account follows flows, and takes a call.
-module _ (path : Path) (account : Account) (call : Call) (follows : Follows path account) where
+module _ (path : Path) (account : Account) (arrived : ℕ → List ℕ) (call : Call) (follows : Follows path account arrived) where
   abbrev chosenNext : ℕ → List ℕ
   chosenNext k = follows .chosen k ++ (choiceFor call k ∷ [])
 
@@ -99,23 +109,22 @@ module _ (path : Path) (account : Account) (call : Call) (follows : Follows path
   held-before k = follows .held k ∙ held-agrees (operatorAt path k) (were k) (now k) (choicesWere k) (choicesNow k) (account .slot) (flows-agree k) (choices-agree k)
 
   -- what arrives in the slot is what the flows have
-  arrives : (k : ℕ) → arriving path account call k ≡ now k (account .slot)
+  arrives-now : (k : ℕ) → arriving path account call k ≡ now k (account .slot)
   unfolding arriving flowInto outputOn
-  arrives zero = sym (longer-last (account .entered) (call .input) (account .slot) (follows .counted))
-  arrives (suc k) = rw (held-before k, arrives k, chosen-last k)
+  arrives-now zero = sym (longer-last (account .entered) (call .input) (account .slot) (follows .counted))
+  arrives-now (suc k) = rw (held-before k, arrives-now k, chosen-last k)
 
   held-after : (k : ℕ) → accountNext path account call .held k ≡ heldNow k (suc (account .slot))
   unfolding accountNext heldOn arriving
-  held-after k = rw (held-before k, arrives k, chosen-last k)
+  held-after k = rw (held-before k, arrives-now k, chosen-last k)
 
-  leaves : Agree (suc (account .slot)) (flowOf (accountNext path account call .left)) (now (length (path .operators)))
-  unfolding accountNext
-  leaves t less =
-      let last = length (path .operators) in
-      let out = arriving path account call last in
+  -- so units that agree with what goes into an operator, and what arrives there now, agree with it again
+  agrees-next : (k : ℕ) (units : List ℕ) → length units ≡ account .slot → Agree (account .slot) (flowOf units) (were k) → Agree (suc (account .slot)) (flowOf (units ++ (arriving path account call k ∷ []))) (now k)
+  agrees-next k units size same t less =
+      let unit = arriving path account call k in
       ⊎-elim
-      (λ here. rw here (longer-last (account .left) out (account .slot) (follows .counted-left) ∙ arrives last))
-      (λ sooner. sym (longer-agrees (account .left) out (account .slot) (follows .counted-left) t sooner) ∙ follows .left t sooner ∙ flows-agree last t sooner)
+      (λ here. rw here (longer-last units unit (account .slot) size ∙ arrives-now k))
+      (λ sooner. sym (longer-agrees units unit (account .slot) size t sooner) ∙ same t sooner ∙ flows-agree k t sooner)
       (eq-or-lt-of-le (le-of-suc-le-suc less))
 
   -- operator k's output of slot t fits
@@ -137,7 +146,7 @@ module _ (path : Path) (account : Account) (call : Call) (follows : Follows path
     fits-here small =
         let op = operatorAt path k in
         let whole : Whole op (account .held k) = rw (follows .held k) (whole-on op (were k) (choicesWere k) (follows .fits k less) (account .slot)) in
-        rw (← held-before k, ← arrives k, chosen-last k)
+        rw (← held-before k, ← arrives-now k, chosen-last k)
         (omega (arith, ltb-false, least-le-greatest op (account .slot) (account .held k) (arriving path account call k) whole))
 
     fits-next : choiceTooLarge path account call k ≡ false → Fitting (operatorAt path k) (now k) (choicesNow k)
@@ -147,29 +156,48 @@ module _ (path : Path) (account : Account) (call : Call) (follows : Follows path
         (none-after (chosenNext k) (suc (account .slot)) (longer-length (follows .chosen k) (choiceFor call k) (account .slot) (follows .counted-chosen k)))
 
 -- what the flows are promised, at the account's slot
-follows-kept : (path : Path) (account : Account) (follows : Follows path account)
-    → Promised path (flowOf (account .entered)) (λ k. flowOf (follows .chosen k)) → AccountKept path account
-follows-kept path account follows kept =
-    record {
-      counted = follows .counted;
-      keeps = follows .keeps;
-      in-time =
-          λ i less.
-          let left = total-same (flowOf (account .left)) (into path (account .entered) (follows .chosen) (length (path .operators))) (suc (i + pathDelay path)) (λ t sooner. follows .left t (omega arith)) in
-          rw (left, ← suc-add) (kept .in-time (suc i));
-      held-within = λ k less. rw (follows .held k) (kept .held-within k less (account .slot));
-      beside-within = λ k less. rw (follows .held k) (kept .beside-within k less (account .slot));
-      whole =
-          λ k less.
-          rw (follows .held k)
-          (whole-on (operatorAt path k) (into path (account .entered) (follows .chosen) k) (flowOf (follows .chosen k)) (follows .fits k less) (account .slot));
-    }
+module _ (path : Path) (account : Account) (arrived : ℕ → List ℕ) (follows : Follows path account arrived)
+    (kept : Promised path (flowOf (account .entered)) (λ k. flowOf (follows .chosen k)))
+    (small : (k : ℕ) → k < length (path .operators) → heldAt path k ≤ largestAmount) where
+  abbrev flow : ℕ → Flow
+  flow = into path (account .entered) (follows .chosen)
+
+  abbrev choices : ℕ → Flow
+  choices k = flowOf (follows .chosen k)
+
+  follows-reads : (k : ℕ) → k < length (path .operators) → (x : PathOperator) (words : List ℕ) → x .operator ≡ operatorAt path k
+      → PathStands (flowOf (arrived k)) (flowOf (arrived (suc k))) (account .slot) x words (account .held k) → pathHolds x words ≡ account .held k
+  unfolding flowInto
+  follows-reads k less x words same stands =
+      let op = operatorAt path k in
+      let output = outputOn op (flow k) (choices k) in
+      let on-flows : PathStands (flow k) output (account .slot) x words (account .held k) =
+      path-stands-same (flowOf (arrived k)) (flowOf (arrived (suc k))) (flow k) output (account .slot) (follows .arrives k) (follows .arrives (suc k)) x words (account .held k) stands in
+      rw (follows .held k)
+      (path-stands-holds op (flow k) (choices k) (follows .fits k less) (account .slot)
+      (λ d delays. omega (arith, kept .entering-within k less d delays (account .slot), small k less)) x words same (rw (follows .held k) at on-flows))
+
+  follows-kept : AccountKept path account arrived
+  follows-kept =
+      record {
+        counted = follows .counted;
+        counted-arrived = follows .counted-arrived;
+        keeps = follows .keeps;
+        in-time =
+            λ i less.
+            let left = total-same (flowOf (account .left)) (flow (length (path .operators))) (suc (i + pathDelay path)) (λ t sooner. follows .left t (omega arith)) in
+            rw (left, ← suc-add) (kept .in-time (suc i));
+        held-within = λ k less. rw (follows .held k) (kept .held-within k less (account .slot));
+        beside-within = λ k less. rw (follows .held k) (kept .beside-within k less (account .slot));
+        whole = λ k less. rw (follows .held k) (whole-on (operatorAt path k) (flow k) (choices k) (follows .fits k less) (account .slot));
+        reads = follows-reads;
+      }
 
 module _ (path : Path) (inside : pathInRange path ≡ true) where
   declaration-kept : (units : List ℕ) → keepsClass (classOf (path .declaration)) units ≡ true → Keeps (classOf (path .declaration)) (flowOf units)
   declaration-kept units = keeps-decided (classOf (path .declaration)) units (declared-positive path inside) .0
 
-  follows-new : Follows path newAccount
+  follows-new : Follows path newAccount (λ k. [])
   unfolding heldOn keepsClass every
   follows-new =
       record {
@@ -177,46 +205,55 @@ module _ (path : Path) (inside : pathInRange path ≡ true) where
         counted = refl;
         counted-left = refl;
         counted-chosen = λ k. refl;
+        counted-arrived = λ k. refl;
         held = λ k. refl;
         left = λ t less. absurd (not-suc-le-zero less);
+        arrives = λ k t less. absurd (not-suc-le-zero less);
         fits = λ k less. none-fits (operatorAt path k) (into path [] (λ k. []) k);
         keeps = declaration-kept [] refl;
       }
 
-  follows-next : (account : Account) (call : Call) → NoneStands (accountCases path account call) → Follows path account → Follows path (accountNext path account call)
+  follows-next : (account : Account) (arrived : ℕ → List ℕ) (call : Call) → NoneStands (accountCases path account call) → Follows path account arrived
+      → Follows path (accountNext path account call) (arrivedNext path account call arrived)
   unfolding accountNext breaksDeclaration
-  follows-next account call none follows =
+  follows-next account arrived call none follows =
       record {
-        chosen = chosenNext path account call follows;
+        chosen = chosenNext path account arrived call follows;
         counted = rw add-one (longer-length (account .entered) (call .input) (account .slot) (follows .counted));
         counted-left = rw add-one (longer-length (account .left) (arriving path account call (length (path .operators))) (account .slot) (follows .counted-left));
         counted-chosen = λ k. rw add-one (longer-length (follows .chosen k) (choiceFor call k) (account .slot) (follows .counted-chosen k));
-        held = rw add-one (held-after path account call follows);
-        left = rw add-one (leaves path account call follows);
-        fits = λ k less. fits-next path account call follows k less (choice-small path account call (length (path .operators)) (none .1 .1 .1 .1) k less);
+        counted-arrived = λ k. rw add-one (longer-length (arrived k) (arriving path account call k) (account .slot) (follows .counted-arrived k));
+        held = rw add-one (held-after path account arrived call follows);
+        left = rw add-one (agrees-next path account arrived call follows (length (path .operators)) (account .left) (follows .counted-left) (follows .left));
+        arrives = λ k. rw add-one (agrees-next path account arrived call follows k (arrived k) (follows .counted-arrived k) (follows .arrives k));
+        fits = λ k less. fits-next path account arrived call follows k less (choice-small path account call (length (path .operators)) (none .1 .1 .1 .1) k less);
         keeps = declaration-kept (account .entered ++ (call .input ∷ [])) (not-false _ (none .1 .1 .1 .0));
       }
 
 -- The account of every list of calls, on a path of numbers in their ranges that refusals 6 to 9 let pass.
 module _ (path : Path) (inside : pathInRange path ≡ true) (none : NoneStands (pathCases path)) where
-  follows-promised : (account : Account) (follows : Follows path account) → Promised path (flowOf (account .entered)) (λ k. flowOf (follows .chosen k))
-  follows-promised account follows = promised path inside none (flowOf (account .entered)) (λ k. flowOf (follows .chosen k)) (follows .keeps) (follows .fits)
+  follows-promised : (account : Account) (arrived : ℕ → List ℕ) (follows : Follows path account arrived) → Promised path (flowOf (account .entered)) (λ k. flowOf (follows .chosen k))
+  follows-promised account arrived follows = promised path inside none (flowOf (account .entered)) (λ k. flowOf (follows .chosen k)) (follows .keeps) (follows .fits)
 
-  follows-all : (calls : List Call) → Follows path (accountAll path newAccount calls)
-  follows-all calls = all-holds path (Follows path) (follows-next path inside) newAccount calls (follows-new path inside)
+  follows-all : (calls : List Call) → Follows path (accountAll path newAccount calls) (arrivedAll path newAccount calls)
+  follows-all calls = all-holds path (Follows path) (follows-next path inside) newAccount (λ k. []) calls (follows-new path inside)
 
-  pub account-kept : (calls : List Call) → AccountKept path (accountAll path newAccount calls)
-  account-kept calls = let follows = follows-all calls in follows-kept path (accountAll path newAccount calls) follows (follows-promised (accountAll path newAccount calls) follows)
+  pub account-kept : (calls : List Call) → AccountKept path (accountAll path newAccount calls) (arrivedAll path newAccount calls)
+  account-kept calls =
+      let account = accountAll path newAccount calls in
+      let arrived = arrivedAll path newAccount calls in
+      let follows = follows-all calls in
+      follows-kept path account arrived follows (follows-promised account arrived follows) (operator-held-le path inside none)
 
   -- the fullest moment is one of the flows with the call
-  follows-fullest : (account : Account) (call : Call) → NoneStands (accountCases path account call) → Follows path account
+  follows-fullest : (account : Account) (arrived : ℕ → List ℕ) (call : Call) → NoneStands (accountCases path account call) → Follows path account arrived
       → (k : ℕ) → k < length (path .operators) → account .held k .b + arriving path account call k ≤ capacityAt path k
   unfolding accountNext follows-next
-  follows-fullest account call taken follows k less =
-      let with-call = follows-promised (accountNext path account call) (follows-next path inside account call taken follows) in
-      rw (held-before path account call follows k, arrives path account call follows k) (with-call .fullest-within k less (account .slot))
+  follows-fullest account arrived call taken follows k less =
+      let with-call = follows-promised (accountNext path account call) (arrivedNext path account call arrived) (follows-next path inside account arrived call taken follows) in
+      rw (held-before path account arrived call follows k, arrives-now path account arrived call follows k) (with-call .fullest-within k less (account .slot))
 
   -- in a slot that is taken no operator has more than its capacity before it sends: what the slot before left, and what arrives
   pub account-fullest : (calls : List Call) (call : Call) → NoneStands (accountCases path (accountAll path newAccount calls) call)
       → (k : ℕ) → k < length (path .operators) → accountAll path newAccount calls .held k .b + arriving path (accountAll path newAccount calls) call k ≤ capacityAt path k
-  account-fullest calls call taken = follows-fullest (accountAll path newAccount calls) call taken (follows-all calls)
+  account-fullest calls call taken = follows-fullest (accountAll path newAccount calls) (arrivedAll path newAccount calls) call taken (follows-all calls)

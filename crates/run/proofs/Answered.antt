@@ -1,8 +1,8 @@
--- Where run and words are joined to the account, a slot call answers what the account answers, and leaves them joined again.
+-- Where run and words are joined to the account and to what arrived, a slot call answers what the account answers, and leaves them joined again.
 use mathlib.Core.Path.{_≡_, refl, ap, ap₂, sym, subst, _∙_}
 use mathlib.Core.Bool.{Bool, true, false, not}
 use mathlib.Core.List.{List, [], _∷_, _++_}
-use mathlib.Core.Logic.{_⊎_, _↔_, ⊎-elim}
+use mathlib.Core.Logic.{_↔_, ⊎-elim}
 use Prim.Native.Nat.{ℕ, zero, suc, _+_, _-_, _≤_, _<_}
 use native.Mathlib.Nat.{lt-of-not-le, le-refl}
 use native.Mathlib.Decide.{decLe}
@@ -20,16 +20,16 @@ use Rattle.quantity.proofs.Laws.{either-first, either-second}
 use Rattle.quantity.proofs.Sums.{every-holds}
 use Rattle.quantity.proofs.Refusals.{NoneStands, none-of-both, firstOf-none, FirstIs, none-or-first, first-answered, first-of-more}
 use Rattle.operator.specs.Held.{nothing}
-use Rattle.operator.specs.Operators.{greatestOutput, heldAfter, numberInRange}
+use Rattle.operator.specs.Operators.{numberInRange}
 use Rattle.flow.specs.Declarations.{declarationInRange, rowsInOrder, unusedClear, classOf}
 use Rattle.flow.specs.Classes.{Positive, Keeps}
 use Rattle.flow.specs.Flows.{flowOf}
-use Rattle.operator.specs.Single.{holds, holdsNext, choiceAbove, leavesTooMuch}
+use Rattle.operator.specs.Single.{usesHeld}
+use Rattle.operator.specs.Ring.{pathChoiceAbove}
 use Rattle.meter.specs.Meter.{meterWordCount, meterUnusable}
-use Rattle.operator.proofs.Laws.{least-le-greatest}
 use Rattle.meter.proofs.Metering.{sound-usable, sound-keeps}
-use Rattle.operator.proofs.SingleLaws.{stored-usable}
-use Rattle.operator.proofs.Stands.{stands-new, stands-usable}
+use Rattle.operator.proofs.RingLaws.{path-stored-usable}
+use Rattle.operator.proofs.PathStands.{fields-new, fields-usable, path-stands-usable}
 use Rattle.sheet.specs.Paths.{Path}
 use Rattle.figures.specs.Answers.{operatorAt, heldAt}
 use Rattle.run.specs.declared.Run.{Run}
@@ -37,13 +37,15 @@ use Rattle.run.specs.declared.slot.Outcome.{Outcome}
 use Rattle.run.specs.declared.slot.Slotted.{Slotted}
 use Rattle.run.specs.Calls.{Call, choiceFor, choicesMiscounted}
 use Rattle.run.specs.Account.{Account, arriving, slotsUsedUp, breaksDeclaration, choiceTooLarge, choicesTooLarge, accountCases, accountAnswer, accountNext, accountAfter}
-use Rattle.run.specs.Runs.{runWordCount, meterWords, operatorWords, noStage, noOperator, meterIn, singleIn, stageMisplaced, stageUnusable, stageFits, runUnusable}
+use Rattle.run.specs.Runs.{runWordCount, meterWords, operatorWords, noStage, noOperator, meterIn, operatorOf, operatorIn, stageMisplaced, stageUnusable, stageFits, runUnusable}
 use Rattle.run.specs.Slots.{inputInto, slotBreaks, choiceAboveAt, choiceCases, leavesTooMuchAt, slotLeavesTooMuch, slotCases, refusedSlot, takenSlot, slottedOf, wordsSlotted}
+use Rattle.run.specs.Lists.{arrivedIn}
 use Rattle.run.proofs.UsableRun.{run-usable}
 use Rattle.run.proofs.SlotAnswers.{slot-taken, words-taken, slot-refused, words-refused}
-use Rattle.run.proofs.AccountCalls.{choice-small, declaration-tested}
+use Rattle.run.proofs.AccountCalls.{arrivedNext, account-taken, arrives-taken, account-refused, arrives-refused, declaration-tested}
 use Rattle.run.proofs.AccountFlows.{AccountKept}
-use Rattle.run.proofs.Joined.{Joined, meterFed, length-operatorWords, held-same, operator-same, slot-same, least-same, greatest-same, into-same, joined-next}
+use Rattle.run.proofs.Parts.{length-operatorWords}
+use Rattle.run.proofs.Joined.{Joined, meterFed, slot-same, least-same, greatest-same, into-same, next-same, joined-next}
 
 -- two tests that fail just where the same holds
 same-test : {P : Type 0} (a b : Bool) → (a ≡ false) ↔ P → (b ≡ false) ↔ P → a ≡ b
@@ -63,7 +65,7 @@ pub record Passes (path : Path) : Type 0 where
   pub number : (k : ℕ) → k < length (path .operators) → numberInRange (operatorAt path k) ≡ true
   pub held : (k : ℕ) → k < length (path .operators) → heldAt path k ≤ largestAmount
 
-module _ (path : Path) (passes : Passes path) (run : Run) (words : List ℕ) (account : Account) (joined : Joined path run words account) (kept : AccountKept path account) where
+module _ (path : Path) (passes : Passes path) (run : Run) (words : List ℕ) (account : Account) (arrived : ℕ → List ℕ) (joined : Joined path run words account arrived) (kept : AccountKept path account arrived) where
   -- a stage of the path is usable: what it stands for is within its held figure
   stage-usable : account .slot ≤ lastSlot → (k : ℕ) → k < length (path .operators) → stageFits run words k ≡ true
   unfolding stageFits stageMisplaced stageUnusable
@@ -73,21 +75,22 @@ module _ (path : Path) (passes : Passes path) (run : Run) (words : List ℕ) (ac
         lt-ltb k (run .count) (rw (joined .counted) less),
         joined .operator k less,
         passes .number k less,
-        stored-usable (singleIn run k) (operatorWords words k)
-            (stands-usable (singleIn run k) (operatorWords words k) (account .held k) (joined .stands k less) (rw (slot-same path run words account joined k less) left)
+        path-stored-usable (operatorIn run k) (operatorWords words k)
+            (path-stands-usable (flowOf (arrived k)) (flowOf (arrived (suc k))) (account .slot) (operatorIn run k) (operatorWords words k) (account .held k) (joined .stands k less) (joined .holds k less)
+            (rw (slot-same path run words account arrived joined (passes .number) k less) left)
             (let within = kept .held-within k less in omega arith) (let within = kept .beside-within k less in omega arith)),
       )
 
   -- and one behind them: it is empty, and its words are 0
   empty-usable : account .slot ≤ lastSlot → (k : ℕ) → length (path .operators) ≤ k → k < mostOperators → stageFits run words k ≡ true
-  unfolding stageFits stageMisplaced stageUnusable singleIn noOperator
+  unfolding stageFits stageMisplaced stageUnusable operatorIn noOperator usesHeld
   empty-usable left k behind less =
       rw (
         le-ltb k (run .count) (rw (joined .counted) behind),
         joined .empty k behind less,
-        stored-usable (record { operator = noStage .operator; slot = run .slot; held = record { 0 = 0 }; beside = record { 0 = 0 } }) (operatorWords words k)
-            (stands-usable (record { operator = noStage .operator; slot = run .slot; held = record { 0 = 0 }; beside = record { 0 = 0 } }) (operatorWords words k) nothing
-            (stands-new (noStage .operator) (run .slot) (operatorWords words k) (length-operatorWords words (joined .sized) k less) (joined .clear k behind less))
+        path-stored-usable (operatorOf noStage (run .slot)) (operatorWords words k)
+            (fields-usable (operatorOf noStage (run .slot)) (operatorWords words k) refl nothing
+            (fields-new (noStage .operator) (run .slot) (operatorWords words k) refl (length-operatorWords words (joined .sized) k less) (joined .clear k behind less))
             (rw (joined .slot) left) (omega arith) (omega arith)),
       )
 
@@ -147,11 +150,12 @@ module _ (path : Path) (passes : Passes path) (run : Run) (words : List ℕ) (ac
 
     -- 14: so do the tests of a choice
     choice-same : (k : ℕ) → k < length (path .operators) → choiceAboveAt run words call k ≡ choiceTooLarge path account call k
-    unfolding choiceAboveAt choiceTooLarge choiceAbove
+    unfolding choiceAboveAt choiceTooLarge pathChoiceAbove
     choice-same k less =
-        let r = into-same path run words account joined call k (omega arith) in
+        let r = into-same path run words account arrived joined (passes .number) call k (omega arith) in
         rw r
-        (ap₂ (λ (low high : ℕ). ltb (high - low) (choiceFor call k)) (least-same path run words account joined k less (arriving path account call k)) (greatest-same path run words account joined k less (arriving path account call k)))
+        (ap₂ (λ (low high : ℕ). ltb (high - low) (choiceFor call k)) (least-same path run words account arrived joined (passes .number) k less (arriving path account call k))
+        (greatest-same path run words account arrived joined (passes .number) k less (arriving path account call k)))
 
     choices-same : (n : ℕ) → n ≤ length (path .operators) → choiceCases run words call n ≡ choicesTooLarge path account call n
     unfolding choiceCases choicesTooLarge
@@ -168,28 +172,16 @@ module _ (path : Path) (passes : Passes path) (run : Run) (words : List ℕ) (ac
           ap (choiceCases run words call) (joined .counted) ∙ choices-same (length (path .operators)) (le-refl _),
         )
 
-    module _ (next : NoneStands (accountCases path account call) → AccountKept path (accountNext path account call)) where
-      next-held : (k : ℕ) → k < length (path .operators)
-          → heldAfter (singleIn run k .operator) (holds (singleIn run k) (operatorWords words k)) (inputInto run words call k) (inputInto run words call (suc k))
-          ≡ accountNext path account call .held k
-      unfolding accountNext
-      next-held k less =
-          rw (
-            held-same path run words account joined k less,
-            operator-same path run words account joined k less,
-            into-same path run words account joined call k (omega arith),
-            into-same path run words account joined call (suc k) less,
-          )
-
+    module _ (next : NoneStands (accountCases path account call) → AccountKept path (accountNext path account call) (arrivedNext path account call arrived)) where
       -- a call that the account takes leaves nothing above the limit
       leaves-none : NoneStands (accountCases path account call) → slotLeavesTooMuch run words call ≡ false
-      unfolding slotLeavesTooMuch leavesTooMuchAt leavesTooMuch holdsNext
+      unfolding slotLeavesTooMuch leavesTooMuchAt
       leaves-none taken =
           ap not
           (every-holds (λ k. not (leavesTooMuchAt run words call k)) (run .count)
           (λ k counts.
           let less : k < length (path .operators) = rw (joined .counted) at counts in
-          let held = next-held k less in
+          let held = next-same path run words account arrived joined (passes .number) call k less in
           let small = passes .held k less in
           let within = next taken .held-within k less in
           let beside = next taken .beside-within k less in
@@ -201,47 +193,37 @@ module _ (path : Path) (passes : Passes path) (run : Run) (words : List ℕ) (ac
       first-stands : (why : Refusal) → FirstIs (accountCases path account call) why → FirstIs (slotCases run words call) why
       first-stands why first = subst (λ (cs : List Case). FirstIs cs why) (sym cases-same) (first-of-more why (accountCases path account call) _ first)
 
-      -- where the account takes the call each output lies in its interval
-      outputs-fit : NoneStands (accountCases path account call) → (k : ℕ) → k < length (path .operators)
-          → arriving path account call (suc k) ≤ greatestOutput (operatorAt path k) (account .slot) (account .held k) (arriving path account call k)
-      unfolding arriving choiceTooLarge
-      outputs-fit taken k less =
-          let small = choice-small path account call (length (path .operators)) (taken .1 .1 .1 .1) k less in
-          omega (
-            arith,
-            ltb-false,
-            least-le-greatest (operatorAt path k) (account .slot) (account .held k) (arriving path account call k) (kept .whole k less),
-          )
-
       pub answer-same : slottedOf run words call .outcome ≡ accountAnswer path account call
       unfolding accountAnswer takenSlot refusedSlot
       answer-same =
           ⊎-elim
           (λ taken.
           ap (λ (slotted : Slotted). slotted .outcome) (slot-taken run words call (none-stands taken))
-          ∙ ap (λ (s : ℕ). Outcome.Sent (record { 0 = s })) (ap (inputInto run words call) (joined .counted) ∙ into-same path run words account joined call (length (path .operators)) (le-refl _))
+          ∙ ap (λ (s : ℕ). Outcome.Sent (record { 0 = s })) (ap (inputInto run words call) (joined .counted) ∙ into-same path run words account arrived joined (passes .number) call (length (path .operators)) (le-refl _))
           ∙ sym (firstOf-none Outcome.Refused _ (accountCases path account call) taken))
           (λ (why, first).
           ap (λ (slotted : Slotted). slotted .outcome) (slot-refused run words call why (first-stands why first))
           ∙ sym (first-answered Outcome.Refused _ why (accountCases path account call) first))
           (none-or-first (accountCases path account call))
 
-      pub joined-after : Joined path (slottedOf run words call .run) (wordsSlotted run words call) (accountAfter path account call)
-      unfolding accountAfter takenSlot refusedSlot
+      pub joined-after : Joined path (slottedOf run words call .run) (wordsSlotted run words call) (accountAfter path account call) (λ k. arrived k ++ arrivedIn path account call k)
+      unfolding takenSlot refusedSlot
       joined-after =
           ⊎-elim
           (λ taken.
           rw (
             slot-taken run words call (none-stands taken),
             words-taken run words call (none-stands taken),
-            firstOf-none (λ why. account) (accountNext path account call) (accountCases path account call) taken,
+            account-taken path account call taken,
+            arrives-taken path account call taken arrived,
           )
-          (joined-next path run words account joined call (passes .few) (breaks-same ∙ taken .1 .1 .1 .0) (passes .number) (kept .whole) (outputs-fit taken)))
+          (joined-next path run words account arrived joined (passes .number) call (passes .few) (breaks-same ∙ taken .1 .1 .1 .0) kept (next taken)))
           (λ (why, first).
           rw (
             slot-refused run words call why (first-stands why first),
             words-refused run words call why (first-stands why first),
-            first-answered (λ why. account) (accountNext path account call) why (accountCases path account call) first,
+            account-refused path account call why first,
+            arrives-refused path account call why first arrived,
           )
           joined)
           (none-or-first (accountCases path account call))

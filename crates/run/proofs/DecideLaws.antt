@@ -7,38 +7,37 @@ use mathlib.Core.Logic.{inl, inr, ⊎-elim}
 use native.Mathlib.Nat.{not-suc-le-zero, le-of-suc-le-suc, eq-or-lt-of-le}
 use native.Mathlib.Numerals.{add-one}
 use native.Mathlib.Omega.{arith}
-use borrow.Author.Tests.{ltb-true, ltb-false, lt-ltb, le-leb, lt-leb, leb-true, eqb-true, eqb-false, not-false}
+use borrow.Author.Tests.{ltb-true, ltb-false, le-leb, lt-leb, leb-true, eqb-true, eqb-false, not-false}
 use lib.Dec.{leb, ltb, eqb}
 use lib.ListN.{length, getD, set, replicate, take, drop, length-set}
 use lib.Seq.{getD-set-same, getD-set-other}
 use Rattle.quantity.specs.Choice.{pick, both, either}
 use Rattle.quantity.specs.Limits.{largestAmount, mostOperators}
-use Rattle.quantity.specs.Sums.{every, listOf}
+use Rattle.quantity.specs.Sums.{every}
 use Rattle.quantity.specs.Refusals.{Case, _⇒_}
 use Rattle.quantity.specs.declared.Slots.{Slots}
 use Rattle.quantity.specs.declared.Units.{Units}
 use Rattle.quantity.specs.declared.refusal.Refusal.{Refusal}
 use Rattle.quantity.specs.declared.refusal.Refusal.the-variants.{Unusable, ChoiceAboveGreatest}
-use Rattle.quantity.proofs.Laws.{pick-true, picked-true, either-false}
-use Rattle.quantity.proofs.Sums.{every-at, every-next, getD-listOf}
+use Rattle.quantity.proofs.Laws.{picked-true, either-false}
+use Rattle.quantity.proofs.Sums.{every-at, every-next}
 use Rattle.quantity.proofs.Refusals.{NoneStands, none-of-both, firstOf-none, FirstIs, first-answered, first-of-more}
 use Rattle.operator.specs.Operators.{numberInRange}
-use Rattle.operator.specs.Single.{wordCount, holds, leavesTooMuch}
-use Rattle.operator.specs.Parts.{decidedOf}
-use Rattle.operator.specs.declared.SingleOperator.{SingleOperator}
+use Rattle.operator.specs.Single.{wordCount}
+use Rattle.operator.specs.Ring.{pathHolds, pathDecidedOf}
+use Rattle.operator.specs.declared.ring.PathOperator.{PathOperator}
 use Rattle.operator.specs.declared.parts.Decided.{Decided}
-use Rattle.operator.proofs.SingleLaws.{Usable, b-le}
-use Rattle.operator.proofs.PartsLaws.{sent-fits, decided-next}
+use Rattle.operator.proofs.RingLaws.{PathUsable}
 use Rattle.sheet.specs.Bodies.{part}
 use Rattle.run.specs.declared.Stage.{Stage}
 use Rattle.run.specs.declared.Run.{Run}
 use Rattle.run.specs.declared.slot.Outcome.{Outcome}
 use Rattle.run.specs.declared.decide.Move.{Move}
 use Rattle.run.specs.Calls.{Call, choiceFor, choicesMiscounted, amountTooLarge, callOf}
-use Rattle.run.specs.Runs.{operatorAtWord, operatorWords, noStage, stageAt, singleOf, singleIn, runUnusable}
-use Rattle.run.specs.Slots.{inputInto, choiceAboveAt, choiceCases, leavesTooMuchAt, slotLeavesTooMuch, slotOutput}
-use Rattle.run.specs.Steps.{noMove, runHoldsNext, moveOf, storable, planOf}
-use Rattle.run.specs.Watching.{runHolds, unitsHeld}
+use Rattle.run.specs.Runs.{operatorAtWord, operatorWords, noStage, stageAt, operatorOf, operatorIn, runUnusable}
+use Rattle.run.specs.Slots.{inputInto, choiceAboveAt, choiceCases, runHoldsNext, leavesTooMuchAt, slotLeavesTooMuch, slotOutput}
+use Rattle.run.specs.Steps.{noMove, moveOf, storable, planOf}
+use Rattle.run.proofs.PathAnswers.{path-sent-fits, path-b-le, path-decided-next}
 use Rattle.run.proofs.UsableRun.{UsableRun, usable-run, stage-usable, stage-number, fits-at}
 
 -- an operator's words as the code lends them
@@ -49,8 +48,8 @@ lent-words : (words : List ℕ) (k : ℕ) → lent words k ≡ operatorWords wor
 unfolding operatorWords part
 lent-words words k = let width : operatorAtWord k + wordCount - operatorAtWord k ≡ wordCount = omega arith in ap (λ (n : ℕ). take n (drop (operatorAtWord k) words)) width
 
-pub decided-lent : (words : List ℕ) (k b input choice : ℕ) {x y : SingleOperator} {decided : Decided} → x ≡ y → decided ≡ decidedOf x (lent words k) b input choice → decided ≡ decidedOf y (operatorWords words k) b input choice
-decided-lent words k b input choice same e = e ∙ ap₂ (λ (x : SingleOperator) (ws : List ℕ). decidedOf x ws b input choice) same (lent-words words k)
+pub decided-lent : (words : List ℕ) (k input choice : ℕ) {x y : PathOperator} {decided : Decided} → x ≡ y → decided ≡ pathDecidedOf x (lent words k) input choice → decided ≡ pathDecidedOf y (operatorWords words k) input choice
+decided-lent words k input choice same e = e ∙ ap₂ (λ (x : PathOperator) (ws : List ℕ). pathDecidedOf x ws input choice) same (lent-words words k)
 
 -- The test of what is stored.
 
@@ -71,7 +70,7 @@ both-not true t = refl
 both-not false t = refl
 
 storable-same : (run : Run) (words : List ℕ) (call : Call) (k : ℕ) → storable (runHoldsNext run words call k .b) (runHoldsNext run words call k .h) ≡ not (leavesTooMuchAt run words call k)
-unfolding storable leavesTooMuchAt leavesTooMuch runHoldsNext
+unfolding storable leavesTooMuchAt
 storable-same run words call k =
     let held = runHoldsNext run words call k in
     ap₂ both (leb-not (held .b) _ refl) (leb-not (held .h) _ refl) ∙ both-not (ltb largestAmount (held .b)) (ltb largestAmount (held .h))
@@ -84,23 +83,22 @@ pub both-none : (t s : Bool) → t ≡ false → t ≡ both t s
 both-none t s left = left ∙ sym (ap (λ (x : Bool). both x s) left)
 
 -- what the loop has of the run and of the call, and what is known of them
-pub record Given (words choices : List ℕ) (held : List Units) (stages : List Stage) (slot : Slots) (count : ℕ) (input : Units) (run : Run) : Type 0 where
+pub record Given (words choices : List ℕ) (stages : List Stage) (slot : Slots) (count : ℕ) (input : Units) (run : Run) : Type 0 where
   pub usable : UsableRun run words
   pub stages-same : stages ≡ run .stages
   pub slot-same : slot ≡ run .slot
   pub count-same : count ≡ run .count
-  pub held-same : held ≡ listOf (unitsHeld run words) mostOperators
   pub counted : length choices ≡ count
   pub input-le : input .0 ≤ largestAmount
   pub choice-le : (k : ℕ) → k < count → getD choices k 0 ≤ largestAmount
 
 -- so at the call
-pub given : (run : Run) (words : List ℕ) (held : List Units) (input : Units) (choices : List ℕ)
-    → runUnusable run words ≡ false → held ≡ listOf (unitsHeld run words) mostOperators
+pub given : (run : Run) (words : List ℕ) (input : Units) (choices : List ℕ)
+    → runUnusable run words ≡ false
     → choicesMiscounted (run .count) (callOf input choices) ≡ false → amountTooLarge (callOf input choices) ≡ false
-    → Given words choices held (run .stages) (run .slot) (run .count) input run
+    → Given words choices (run .stages) (run .slot) (run .count) input run
 unfolding choicesMiscounted amountTooLarge
-given run words held input choices passed same miscounted large =
+given run words input choices passed miscounted large =
     let counted : length choices ≡ run .count = eqb-true (length choices) (run .count) (not-false _ miscounted) in
     let (first, rest) = either-false (ltb largestAmount (input .0)) _ large in
     let each = every-at (λ k. leb (choiceFor (callOf input choices) k) largestAmount) (length choices) (not-false _ rest) in
@@ -109,7 +107,6 @@ given run words held input choices passed same miscounted large =
       stages-same = refl;
       slot-same = refl;
       count-same = refl;
-      held-same = same;
       counted = counted;
       input-le = ltb-false largestAmount (input .0) first;
       choice-le = λ k less. leb-true (getD choices k 0) largestAmount (each k (rw counted less));
@@ -214,7 +211,7 @@ module _ (run : Run) (words : List ℕ) (call : Call) where
         ∙ sym (firstOf-none Outcome.Refused output cases (none-of-both (choiceCases run words call (run .count)) last (deciding .passed) (ap not (sym (deciding .stored) ∙ fit), tt)))
 
 -- one operator on
-module _ {words choices : List ℕ} {held : List Units} {stages : List Stage} {slot : Slots} {count : ℕ} {input : Units} {run : Run} (known : Given words choices held stages slot count input run)
+module _ {words choices : List ℕ} {stages : List Stage} {slot : Slots} {count : ℕ} {input : Units} {run : Run} (known : Given words choices stages slot count input run)
     {k : ℕ} {arriving : Units} {fits : Bool} {moves : List Move} (deciding : Deciding run words (callOf input choices) k arriving fits moves) (here : k < count) where
   abbrev call : Call
   call = callOf input choices
@@ -225,34 +222,26 @@ module _ {words choices : List ℕ} {held : List Units} {stages : List Stage} {s
   below : k < mostOperators
   below = let few = known .usable .few in omega (arith, inside)
 
-  stored : Usable (singleIn run k) (operatorWords words k)
+  stored : PathUsable (operatorIn run k) (operatorWords words k)
   stored = stage-usable run words k (fits-at run words (known .usable) k below)
 
-  number : numberInRange (singleIn run k .operator) ≡ true
+  number : numberInRange (operatorIn run k .operator) ≡ true
   number = stage-number run words k (fits-at run words (known .usable) k below) inside
 
-  single-same : singleOf (getD stages k noStage) slot ≡ singleIn run k
-  unfolding singleIn stageAt
-  single-same = rw (known .stages-same, known .slot-same)
-
-  units-same : (d : Units) → getD held k d .0 ≡ holds (singleIn run k) (operatorWords words k) .b
-  unfolding unitsHeld runHolds
-  units-same d =
-      ap (λ (list : List Units). getD list k d .0) (known .held-same)
-      ∙ ap (λ (u : Units). u .0) (getD-listOf d (unitsHeld run words) mostOperators k below)
-      ∙ pick-true _ _ _ (lt-ltb k (run .count) inside)
+  operator-same : operatorOf (getD stages k noStage) slot ≡ operatorIn run k
+  unfolding operatorIn stageAt
+  operator-same = rw (known .stages-same, known .slot-same)
 
   -- what stage k with its words decides is operator k's decision
-  pub decided-here : {decided : Decided} (d : Units) → decided ≡ decidedOf (singleOf (getD stages k noStage) slot) (operatorWords words k) (getD held k d .0) (arriving .0) (getD choices k 0)
+  pub decided-here : {decided : Decided} → decided ≡ pathDecidedOf (operatorOf (getD stages k noStage) slot) (operatorWords words k) (arriving .0) (getD choices k 0)
       → decided ≡ decidedAt run words call k
   unfolding choiceAboveAt inputInto runHoldsNext
-  decided-here {decided} d e =
-      let x = singleIn run k in
+  decided-here {decided} e =
+      let x = operatorIn run k in
       let ws = operatorWords words k in
       e
-      ∙ ap (λ (x : SingleOperator). decidedOf x ws (getD held k d .0) (arriving .0) (getD choices k 0)) single-same
-      ∙ ap₂ (λ (b r : ℕ). decidedOf x ws b r (getD choices k 0)) (units-same d) (deciding .arrives)
-      ∙ decided-next x ws stored number (inputInto run words call k) (getD choices k 0)
+      ∙ ap₂ (λ (x : PathOperator) (r : ℕ). pathDecidedOf x ws r (getD choices k 0)) operator-same (deciding .arrives)
+      ∙ path-decided-next x ws stored number (inputInto run words call k) (getD choices k 0)
       (omega (arith, deciding .arrives, deciding .small, below)) (known .choice-le k here)
 
   move-next : {next : Move} → next ≡ moveOf run words call k → (j : ℕ) → j < k + 1 → (t : Bool) → eqb j k ≡ t → getD (set moves k next) j noMove ≡ moveOf run words call j
@@ -270,13 +259,13 @@ module _ {words choices : List ℕ} {held : List Units} {stages : List Stage} {s
     output-same : output .0 ≡ inputInto run words call (suc k)
     output-same = ap (λ (u : Units). u .0) (sending .out)
 
-    into-le : inputInto run words call (suc k) ≤ holds (singleIn run k) (operatorWords words k) .b + inputInto run words call k
+    into-le : inputInto run words call (suc k) ≤ pathHolds (operatorIn run k) (operatorWords words k) .b + inputInto run words call k
     unfolding inputInto choiceAboveAt
-    into-le = sent-fits (singleIn run k) (operatorWords words k) stored number (inputInto run words call k) (choiceFor call k) (sending .below)
+    into-le = path-sent-fits (operatorIn run k) (operatorWords words k) (inputInto run words call k) (choiceFor call k) (sending .below)
 
-    move-same : record { input = arriving; kept = kept; beside = beside } ≡ moveOf run words call k
+    move-same : record { input = arriving; output = output; kept = kept; beside = beside } ≡ moveOf run words call k
     unfolding moveOf
-    move-same = let into : arriving ≡ record { 0 = inputInto run words call k } = ap (λ (n : ℕ). record { 0 = n }) (deciding .arrives) in rw (into, sending .keeps, sending .holds)
+    move-same = let into : arriving ≡ record { 0 = inputInto run words call k } = ap (λ (n : ℕ). record { 0 = n }) (deciding .arrives) in rw (into, sending .out, sending .keeps, sending .holds)
 
     stored-next : {fits-too : Bool} → fits-too ≡ both fits (storable (kept .0) (beside .0)) → fits-too ≡ every (λ j. not (leavesTooMuchAt run words call j)) (k + 1)
     stored-next e =
@@ -289,11 +278,11 @@ module _ {words choices : List ℕ} {held : List Units} {stages : List Stage} {s
     passed-next = rw add-one (none-of-both (choiceCases run words call k) _ (deciding .passed) (sending .below, tt))
 
     pub deciding-next : {fits-too : Bool} → fits-too ≡ both fits (storable (kept .0) (beside .0))
-        → Deciding run words call (k + 1) output fits-too (set moves k (record { input = arriving; kept = kept; beside = beside }))
+        → Deciding run words call (k + 1) output fits-too (set moves k (record { input = arriving; output = output; kept = kept; beside = beside }))
     deciding-next e =
         record {
           arrives = rw add-one output-same;
-          small = omega (arith, output-same, into-le, deciding .arrives, deciding .small, b-le (singleIn run k) (operatorWords words k) stored);
+          small = omega (arith, output-same, into-le, deciding .arrives, deciding .small, path-b-le (operatorIn run k) (operatorWords words k) stored);
           passed = passed-next;
           stored = stored-next e;
           long = length-set moves k _ ∙ deciding .long;

@@ -1,4 +1,5 @@
 mod Parts
+mod PathAnswers
 mod FlowsAgree
 mod AccountCalls
 mod AccountFlows
@@ -8,6 +9,7 @@ mod SlotAnswers
 mod Answered
 mod Words
 pub mod NeverLate
+pub mod ByAge
 pub mod Taking
 mod Writing
 mod DecideLaws

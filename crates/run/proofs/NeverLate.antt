@@ -1,4 +1,4 @@
--- Demand 3: by induction over the calls run and words stay joined to the account, and of the account the figures' promise holds.
+-- Demand 3: by induction over the calls run and words stay joined to the account and to what arrived at each operator, and of the account the figures' promise holds.
 use mathlib.Core.Path.{_≡_, refl, ap, sym, subst, _∙_}
 use mathlib.Core.Bool.{true}
 use mathlib.Core.List.{List, [], _∷_, _++_}
@@ -27,16 +27,16 @@ use Rattle.figures.proofs.Promise.{accepted-figures, declared-positive, operato
 use Rattle.run.specs.declared.opening.Opened.{Opened}
 use Rattle.run.specs.declared.slot.Outcome.{Outcome}
 use Rattle.run.specs.Calls.{Call, choicesMiscounted, amountTooLarge}
-use Rattle.run.specs.Account.{Account, newAccount, arriving, slotsUsedUp, choicesTooLarge, accountCases, leaving, accountAnswer, accountNext, accountAfter}
+use Rattle.run.specs.Account.{Account, newAccount, arriving, slotsUsedUp, choicesTooLarge, accountCases, leaving, accountAnswer, accountNext}
 use Rattle.run.specs.Runs.{runWordCount}
 use Rattle.run.specs.Opening.{newRun, openCases, refusedOpening, openedOf, wordsOpened}
 use Rattle.run.specs.Slots.{slottedOf}
 use Rattle.run.specs.Watching.{runHolds}
-use Rattle.run.specs.Lists.{Running, opened, slotted, slottedAll, accountAll}
-use Rattle.run.specs.Taking.{Took}
+use Rattle.run.specs.Lists.{Running, opened, slotted, slottedAll, arrivedAll, accountAll}
 use Rattle.run.specs.NeverLate.{callAt, NeverLate}
-use Rattle.run.proofs.AccountCalls.{declaration-tested}
+use Rattle.run.proofs.AccountCalls.{arrivedNext, account-taken, arrives-taken, account-last, arrived-last, declaration-tested}
 use Rattle.run.proofs.AccountFlows.{AccountKept, account-kept, account-fullest}
+use Rattle.run.specs.Taking.{Took}
 use Rattle.run.proofs.Joined.{Joined, joined-new}
 use Rattle.run.proofs.Words.{joined-word}
 use Rattle.run.proofs.Answered.{Passes, answer-same, joined-after}
@@ -47,11 +47,6 @@ slotted-last : (now : Running) (calls : List Call) (call : Call) → slottedAll 
 unfolding slottedAll
 slotted-last now [] call = refl
 slotted-last now (first ∷ calls) call = slotted-last (slotted now first) calls call
-
-account-last : (path : Path) (account : Account) (calls : List Call) (call : Call) → accountAll path account (calls ++ (call ∷ [])) ≡ accountAfter path (accountAll path account calls) call
-unfolding accountAll
-account-last path account [] call = refl
-account-last path account (first ∷ calls) call = account-last path (accountAfter path account first) calls call
 
 -- Where the account refuses by 1, an argument is wrong or no slot number is left.
 
@@ -105,7 +100,7 @@ module _ (sheet words : List ℕ) (accepted : openedOf sheet words .verdict ≡ 
   unfolding figuresOf refusedFigures acceptedFigures
   figures-accept = ap (λ (answer : PathFigures). answer .verdict) (firstOf-none refusedFigures (acceptedFigures (valueIn sheet) value) (sheetCases sheet ++ pathCases value) (opening-stands .1))
 
-  passes : Passes value
+  pub passes : Passes value
   unfolding pathInRange
   passes =
       record {
@@ -127,25 +122,33 @@ module _ (sheet words : List ℕ) (accepted : openedOf sheet words .verdict ≡ 
       ap (λ (figures : List Figure). getD figures k noFigure .capacity .0) (accepted-figures sheet figures-accept .2)
       ∙ ap (λ (figure : Figure). figure .capacity .0) (getD-listOf noFigure (figureIn value) 16 k (omega arith) ∙ pick-true _ _ _ (lt-ltb k (length (value .operators)) less))
 
-  joined-opened : Joined value (opened sheet words .run) (opened sheet words .words) newAccount
+  -- The account of every list of calls, and of one more call that it takes.
+  pub account-within : (calls : List Call) → AccountKept value (accountAll value newAccount calls) (arrivedAll value newAccount calls)
+  account-within calls = account-kept value path-inside path-stands calls
+
+  account-new : AccountKept value newAccount (λ k. [])
+  unfolding accountAll arrivedAll
+  account-new = account-within []
+
+  module _ (calls : List Call) (call : Call) (none : NoneStands (accountCases value (accountAll value newAccount calls) call)) where
+    account-more : AccountKept value (accountNext value (accountAll value newAccount calls) call) (arrivedNext value (accountAll value newAccount calls) call (arrivedAll value newAccount calls))
+    account-more =
+        rw (
+          account-last value newAccount calls call,
+          arrived-last value newAccount calls call,
+          account-taken value (accountAll value newAccount calls) call none,
+          arrives-taken value (accountAll value newAccount calls) call none (arrivedAll value newAccount calls),
+        )
+        at (account-within (calls ++ (call ∷ [])))
+
+  joined-opened : Joined value (opened sheet words .run) (opened sheet words .words) newAccount (λ k. [])
   unfolding opened openedOf wordsOpened refusedOpening
   joined-opened =
       rw (
         firstOf-none refusedOpening (record { verdict = Verdict.Accepted; run = newRun value }) (openCases sheet words) opening-stands,
         firstOf-none (λ why. words) (listOf (λ j. 0) runWordCount) (openCases sheet words) opening-stands,
       )
-      (joined-new value (passes .few) (passes .unused) (passes .declared) (passes .ordered))
-
-  -- The account of every list of calls, and of one more call that it takes.
-  account-within : (calls : List Call) → AccountKept value (accountAll value newAccount calls)
-  account-within calls = account-kept value path-inside path-stands calls
-
-  account-taken : (calls : List Call) (call : Call) → NoneStands (accountCases value (accountAll value newAccount calls) call)
-      → AccountKept value (accountNext value (accountAll value newAccount calls) call)
-  unfolding accountAfter
-  account-taken calls call none =
-      rw (account-last value newAccount calls call, firstOf-none (λ why. accountAll value newAccount calls) (accountNext value (accountAll value newAccount calls) call) (accountCases value (accountAll value newAccount calls) call) none)
-      at (account-within (calls ++ (call ∷ [])))
+      (joined-new value (passes .few) (passes .unused) (passes .declared) (passes .ordered) account-new)
 
   module _ (calls : List Call) where
     abbrev running : ℕ → Running
@@ -154,18 +157,26 @@ module _ (sheet words : List ℕ) (accepted : openedOf sheet words .verdict ≡ 
     abbrev account : ℕ → Account
     account n = accountAll value newAccount (take n calls)
 
-    joined-at : (n : ℕ) → n ≤ length calls → Joined value (running n .run) (running n .words) (account n)
-    unfolding slottedAll accountAll slotted
+    abbrev arrived : ℕ → ℕ → List ℕ
+    arrived n = arrivedAll value newAccount (take n calls)
+
+    pub joined-at : (n : ℕ) → n ≤ length calls → Joined value (running n .run) (running n .words) (account n) (arrived n)
+    unfolding slottedAll accountAll arrivedAll slotted
     joined-at zero h = joined-opened
     joined-at (suc n) h =
         let before = joined-at n (omega arith) in
         let call = callAt calls n in
-        rw (take-suc calls n (record { input = 0; choices = [] }) h, slotted-last (opened sheet words) (take n calls) call, account-last value newAccount (take n calls) call)
-        (joined-after value passes (running n .run) (running n .words) (account n) before (account-within (take n calls)) call (account-taken (take n calls) call))
+        rw (
+          take-suc calls n (record { input = 0; choices = [] }) h,
+          slotted-last (opened sheet words) (take n calls) call,
+          account-last value newAccount (take n calls) call,
+          arrived-last value newAccount (take n calls) call,
+        )
+        (joined-after value passes (running n .run) (running n .words) (account n) (arrived n) before (account-within (take n calls)) call (account-more (take n calls) call))
 
     answered-at : (n : ℕ) → n < length calls → slottedOf (running n .run) (running n .words) (callAt calls n) .outcome ≡ accountAnswer value (account n) (callAt calls n)
     answered-at n less =
-        answer-same value passes (running n .run) (running n .words) (account n) (joined-at n (omega arith)) (account-within (take n calls)) (callAt calls n) (account-taken (take n calls) (callAt calls n))
+        answer-same value passes (running n .run) (running n .words) (account n) (arrived n) (joined-at n (omega arith)) (account-within (take n calls)) (callAt calls n) (account-more (take n calls) (callAt calls n))
 
     -- a call that took a slot is one that the account takes, so of it the figures' promise for the fullest moment holds
     fullest-at : (n : ℕ) → n < length calls → Took (slottedOf (running n .run) (running n .words) (callAt calls n) .outcome) → (k : ℕ) → k < length (value .operators)
@@ -184,11 +195,12 @@ never-late sheet words accepted calls =
     record {
       answers = answered-at sheet words accepted calls;
       declared = λ n less. declaration-tested (pathIn sheet) (accountAll (pathIn sheet) newAccount (take n calls)) (callAt calls n) (passes sheet words accepted .large);
-      holds = λ n h k less. joined-at sheet words accepted calls n h .stands k less .same;
+      holds = λ n h k less. joined-at sheet words accepted calls n h .holds k less;
       sized = λ n h. joined-at sheet words accepted calls n h .sized;
       words =
           λ n h.
-          joined-word (pathIn sheet) (running sheet words accepted calls n .run) (running sheet words accepted calls n .words) (account sheet words accepted calls n) (joined-at sheet words accepted calls n h);
+          joined-word (pathIn sheet) (running sheet words accepted calls n .run) (running sheet words accepted calls n .words) (account sheet words accepted calls n) (arrived sheet words accepted calls n)
+          (joined-at sheet words accepted calls n h) (account-within sheet words accepted (take n calls) .counted-arrived);
       in-time = rw delay (account-within sheet words accepted calls .in-time);
       within = λ n less took k here. rw (capacity-answered sheet words accepted k here) (fullest-at sheet words accepted calls n less took k here);
       unusable-only = λ n less refused. unusable-tested (pathIn sheet) (accountAll (pathIn sheet) newAccount (take n calls)) (callAt calls n) (sym (answered-at sheet words accepted calls n less) ∙ refused);

@@ -36,7 +36,7 @@ use Rattle.run.specs.Opening.{newStage, newRun, refusedOpening, openedOf
 
 -- a place's operator with nothing held
 abbrev pub stageOf : LinkedOperator → Stage
-stageOf linked = record { operator = linked .operator; held = record { 0 = 0 }; beside = record { 0 = 0 } }
+stageOf linked = record { operator = linked .operator; held = record { 0 = 0 }; beside = record { 0 = 0 }; entered = 0; left = 0 }
 
 -- the first k stages are those of the places
 pub record Staged (operators : List LinkedOperator) (stages : List Stage) (k : ℕ) : Type 0 where

@@ -13,7 +13,7 @@ use Rattle.operator.specs.Single.{wordCount}
 use Rattle.words.specs.Stored.{wordAt}
 use Rattle.meter.specs.Meter.{meterWordCount}
 use Rattle.sheet.specs.Bodies.{part}
-use Rattle.run.specs.Runs.{runWordCount, operatorAtWord}
+use Rattle.run.specs.Runs.{runWordCount, operatorAtWord, operatorWords}
 
 -- a part's length and its elements
 module _ (at width : ℕ) (words : List ℕ) (within : at + width ≤ length words) where
@@ -32,6 +32,19 @@ module _ (at width : ℕ) (words : List ℕ) (within : at + width ≤ length wor
 -- operator k's words are within the run's
 pub operator-within : (k : ℕ) → k < mostOperators → operatorAtWord k + wordCount ≤ runWordCount
 operator-within k less = omega arith
+
+-- the words of operator k
+module _ (words : List ℕ) (sized : length words ≡ runWordCount) (k : ℕ) (less : k < mostOperators) where
+  pub operator-fits : operatorAtWord k + wordCount ≤ length words
+  operator-fits = omega (arith, operator-within k less)
+
+  pub length-operatorWords : length (operatorWords words k) ≡ wordCount
+  unfolding operatorWords
+  length-operatorWords = length-part (operatorAtWord k) wordCount words operator-fits
+
+  pub operator-word : (a : ℕ) → a < wordCount → wordAt (operatorWords words k) a ≡ wordAt words (operatorAtWord k + a)
+  unfolding operatorWords
+  operator-word a = part-at (operatorAtWord k) wordCount words operator-fits a
 
 -- word a of operator k is that of k and a again
 module _ (k a : ℕ) (less : a < wordCount) where

@@ -94,14 +94,14 @@ module _ (run : Run) (words : List ℕ) where
         by-test true same = refl
         by-test false same = absurd (never (sym (ap (λ (t : Tested). t .usable) same) ∙ unfit))
 
-    pub stored-passes : tested .usable ≡ true → (runUnusable run words ≡ false) × (tested .below .0 ≡ belowIn run words) × (tested .held ≡ listOf (unitsHeld run words) mostOperators)
+    pub stored-passes : tested .usable ≡ true → (runUnusable run words ≡ false) × (tested .below .0 ≡ belowIn run words)
     unfolding testedOf
     stored-passes fit = by-test (runUnusable run words) refl found
       where
         by-test : (t : Bool) → runUnusable run words ≡ t → tested ≡ pick t notTested passing
-            → (runUnusable run words ≡ false) × (tested .below .0 ≡ belowIn run words) × (tested .held ≡ listOf (unitsHeld run words) mostOperators)
+            → (runUnusable run words ≡ false) × (tested .below .0 ≡ belowIn run words)
         by-test true e same = absurd (never (sym fit ∙ ap (λ (t : Tested). t .usable) same))
-        by-test false e same = (e, ap (λ (t : Tested). t .below .0) same, ap (λ (t : Tested). t .held) same)
+        by-test false e same = (e, ap (λ (t : Tested). t .below .0) same)
 
 -- The ways out.
 

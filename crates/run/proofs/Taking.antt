@@ -1,29 +1,29 @@
 -- Demand 2: in any run that refusal 1 lets pass, a slot is taken if and only if its input keeps the declaration as the run has it and every choice lies in its operator's interval.
 use mathlib.Core.Path.{_≡_, ap}
-use mathlib.Core.Bool.{false, not}
+use mathlib.Core.Bool.{true, false, not}
 use mathlib.Core.List.{List}
 use mathlib.Core.Logic.{_↔_, ⊎-elim}
-use Prim.Native.Nat.{ℕ, zero, suc, _-_, _≤_, _<_}
+use Prim.Native.Nat.{ℕ, zero, suc, _≤_, _<_}
 use native.Mathlib.Nat.{not-suc-le-zero, le-of-suc-le-suc, eq-or-lt-of-le}
 use native.Mathlib.Omega.{arith}
 use borrow.Author.Tests.{leb-true, le-leb, not-false, ltb-false, le-ltb}
 use Rattle.quantity.proofs.Sums.{every-at, every-holds}
 use Rattle.flow.specs.Declarations.{rowCount}
 use Rattle.quantity.proofs.Refusals.{NoneStands, none-of-both, none-of-each, none-where-result}
-use Rattle.operator.specs.Operators.{leastOutput, greatestOutput}
-use Rattle.operator.specs.Single.{sent, choiceAbove}
+use Rattle.operator.specs.Operators.{leastOutput, greatestOutput, numberInRange}
+use Rattle.operator.specs.Ring.{pathLeast, pathGreatest, pathSent, pathChoiceAbove}
 use Rattle.meter.specs.Meter.{inputBreaks}
-use Rattle.operator.proofs.Laws.{least-le-greatest}
-use Rattle.operator.proofs.SingleLaws.{whole-stored}
+use Rattle.operator.proofs.Laws.{ring-least}
+use Rattle.operator.proofs.PathStands.{path-interval}
 use Rattle.run.specs.declared.Run.{Run}
 use Rattle.run.specs.declared.slot.Slotted.{Slotted}
 use Rattle.run.specs.Calls.{Call, choiceFor}
-use Rattle.run.specs.Runs.{operatorWords, stageAt, meterIn, singleIn}
+use Rattle.run.specs.Runs.{operatorWords, stageAt, meterIn, operatorIn}
 use Rattle.run.specs.Slots.{inputInto, slotBreaks, choiceAboveAt, choiceCases, slotCases, refusedSlot, takenSlot, slottedOf}
 use Rattle.run.specs.Watching.{runHolds}
 use Rattle.run.specs.Taking.{Took, LetPass, KeepsDeclared, InInterval}
 use Rattle.run.proofs.SlotAnswers.{slot-taken}
-use Rattle.run.proofs.UsableRun.{UsableRun, usable-run, stage-usable, stage-number, fits-at}
+use Rattle.run.proofs.UsableRun.{UsableRun, usable-run, stage-number, fits-at}
 
 module _ (run : Run) (words : List ℕ) (call : Call) where
   -- no choice is above where no such case stands, and the other way round
@@ -40,22 +40,28 @@ module _ (run : Run) (words : List ℕ) (call : Call) where
   below-choices (suc n) each = none-of-both (choiceCases run words call n) _ (below-choices n (λ k less. each k (omega arith))) (each n (omega arith), tt)
 
   module _ (passed : UsableRun run words) (k : ℕ) (less : k < run .count) where
+    abbrev into : ℕ
+    into = inputInto run words call k
+
+    number : numberInRange (operatorIn run k .operator) ≡ true
+    number = let few = passed .few in stage-number run words k (fits-at run words passed k (omega arith)) less
+
     -- the interval is never empty, so the test of a choice is that of the output
-    interval-some : leastOutput (stageAt run k .operator) (run .slot .0) (runHolds run words k) (inputInto run words call k)
-        ≤ greatestOutput (stageAt run k .operator) (run .slot .0) (runHolds run words k) (inputInto run words call k)
-    unfolding runHolds singleIn
-    interval-some =
-        let few = passed .few in
-        let fits = fits-at run words passed k (omega arith) in
-        least-le-greatest (stageAt run k .operator) (run .slot .0) (runHolds run words k) (inputInto run words call k)
-        (whole-stored (singleIn run k) (operatorWords words k) (stage-usable run words k fits) (stage-number run words k fits less))
+    interval-some : leastOutput (stageAt run k .operator) (run .slot .0) (runHolds run words k) into ≤ greatestOutput (stageAt run k .operator) (run .slot .0) (runHolds run words k) into
+    unfolding runHolds operatorIn
+    interval-some = path-interval (operatorIn run k) (operatorWords words k) into number
+
+    -- the least that run and words give is section 3's on what they hold
+    least-held : pathLeast (operatorIn run k) (operatorWords words k) into ≡ leastOutput (stageAt run k .operator) (run .slot .0) (runHolds run words k) into
+    unfolding runHolds operatorIn
+    least-held = ring-least (operatorIn run k) (operatorWords words k) into number
 
     pub within-interval : choiceAboveAt run words call k ≡ false → InInterval run words call k
-    unfolding choiceAboveAt choiceAbove runHolds singleIn inputInto sent
-    within-interval below = let some = interval-some in (omega arith, omega (arith, ltb-false))
+    unfolding choiceAboveAt pathChoiceAbove pathGreatest runHolds operatorIn inputInto pathSent
+    within-interval below = let some = interval-some in let least = least-held in (omega arith, omega (arith, ltb-false))
 
     interval-within : InInterval run words call k → choiceAboveAt run words call k ≡ false
-    unfolding choiceAboveAt choiceAbove runHolds singleIn inputInto sent
+    unfolding choiceAboveAt pathChoiceAbove pathGreatest runHolds operatorIn inputInto pathSent
     interval-within within = le-ltb _ (choiceFor call k) (omega (arith, within .1))
 
   took-stands : Took (slottedOf run words call .outcome) → NoneStands (slotCases run words call)

@@ -17,29 +17,29 @@ use Rattle.quantity.specs.declared.Units.{Units}
 use Rattle.quantity.specs.declared.refusal.Refusal.the-variants.{Unusable}
 use Rattle.quantity.proofs.Laws.{pick-true, pick-false}
 use Rattle.quantity.proofs.Sums.{both-true, every-next, length-listOf, getD-listOf, listOf-ext, every-fails, every-same}
-use Rattle.operator.specs.Single.{usesHeld, holds, storedUnusable}
-use Rattle.operator.specs.Parts.{storedOf}
+use Rattle.operator.specs.Single.{usesHeld}
+use Rattle.operator.specs.Ring.{pathHolds, pathUnusable, pathStoredOf}
 use Rattle.operator.specs.Operators.{numberInRange}
 use Rattle.flow.specs.Declarations.{declarationInRange, rowsInOrder}
 use Rattle.meter.specs.Meter.{meterUnusable}
 use Rattle.meter.specs.Parts.{countedOf}
 use Rattle.operator.specs.declared.Operator.{Operator}
 use Rattle.operator.specs.declared.Operator.the-variants.{Limiter, Compactor, Expander, Filter, Delayer}
-use Rattle.operator.specs.declared.SingleOperator.{SingleOperator}
+use Rattle.operator.specs.declared.ring.PathOperator.{PathOperator}
 use Rattle.operator.specs.declared.parts.Stored.{Stored}
 use Rattle.meter.specs.declared.SourceMeter.{SourceMeter}
 use Rattle.meter.specs.declared.parts.Counted.{Counted}
 use Rattle.meter.specs.declared.parts.Counted.the-variants.{Below}
-use Rattle.operator.proofs.SingleLaws.{stored-usable, stored-holds, stored-is-unusable}
 use Rattle.meter.proofs.PartsLaws.{counted-unusable, counted-outside, counted-unordered, counted-next}
 use Rattle.sheet.specs.declared.read.Verdict.{Verdict}
 use Rattle.run.specs.declared.Stage.{Stage}
 use Rattle.run.specs.declared.Run.{Run}
 use Rattle.run.specs.declared.test.Tested.{Tested}
 use Rattle.run.specs.declared.watch.Watched.{Watched}
-use Rattle.run.specs.Runs.{meterIn, meterWords, operatorWords, noStage, noOperator, stageAt, singleOf, singleIn, stageMisplaced, stageUnusable, stageFits, runUnusable}
+use Rattle.run.specs.Runs.{meterIn, meterWords, operatorWords, noStage, noOperator, stageAt, operatorOf, operatorIn, stageMisplaced, stageUnusable, stageFits, runUnusable}
 use Rattle.run.specs.Watching.{runHolds, unitsHeld, watchedOf}
 use Rattle.run.specs.Steps.{notTested, belowIn, testedOf}
+use Rattle.run.proofs.PathAnswers.{path-stored-holds, path-stored-not}
 use Rattle.run.proofs.UsableRun.{UsableRun, run-usable, run-unusable}
 
 abbrev none : Units
@@ -70,14 +70,14 @@ module _ (stage : Stage) {named : Bool} where
 
 module _ (stage : Stage) (slot : Slots) (words : List ℕ) where
   -- a stage in its place behind the path's operators holds nothing
-  behind-nothing : stageMisplaced stage false ≡ false → holds (singleOf stage slot) words .b ≡ 0
-  unfolding stageMisplaced holds
+  behind-nothing : stageMisplaced stage false ≡ false → pathHolds (operatorOf stage slot) words .b ≡ 0
+  unfolding stageMisplaced pathHolds
   behind-nothing e =
       let (empty, nothing) = both-true (noOperator (stage .operator)) (eqb (stage .held .0) 0) (not-false _ e) in
       pick-true (usesHeld (stage .operator)) _ _ (none-uses (stage .operator) empty) ∙ eqb-true (stage .held .0) 0 nothing
 
   -- so what a stage in its place holds is the answer of all sixteen
-  placed-units : (named : Bool) → stageMisplaced stage named ≡ false → holds (singleOf stage slot) words .b ≡ pick named (holds (singleOf stage slot) words .b) 0
+  placed-units : (named : Bool) → stageMisplaced stage named ≡ false → pathHolds (operatorOf stage slot) words .b ≡ pick named (pathHolds (operatorOf stage slot) words .b) 0
   placed-units true e = refl
   placed-units false e = behind-nothing e
 
@@ -85,16 +85,16 @@ module _ (stages : List Stage) (slot : Slots) (count : ℕ) (words : List ℕ) w
   abbrev at : ℕ → Stage
   at k = getD stages k noStage
 
-  abbrev single : ℕ → SingleOperator
-  single k = singleOf (at k) slot
+  abbrev operator : ℕ → PathOperator
+  operator k = operatorOf (at k) slot
 
   -- stage k fits
   unfoldable pub fitsIn : ℕ → Bool
-  fitsIn k = both (not (stageMisplaced (at k) (ltb k count))) (not (storedUnusable (single k) (operatorWords words k)))
+  fitsIn k = both (not (stageMisplaced (at k) (ltb k count))) (not (pathUnusable (operator k) (operatorWords words k)))
 
   -- and what it holds
   unfoldable pub unitsIn : ℕ → Units
-  unitsIn k = record { 0 = pick (ltb k count) (holds (single k) (operatorWords words k) .b) 0 }
+  unitsIn k = record { 0 = pick (ltb k count) (pathHolds (operator k) (operatorWords words k) .b) 0 }
 
   -- the first k stages fit, and what each holds is found
   pub record Found (held : List Units) (k : ℕ) : Type 0 where
@@ -120,21 +120,21 @@ module _ (stages : List Stage) (slot : Slots) (count : ℕ) (words : List ℕ) w
     misplaced-fails e = fails (rw e)
 
     module _ (placed : stageMisplaced (at k) (ltb k count) ≡ false) where
-      pub unusable-fails : Stored.Unusable ≡ storedOf (single k) (operatorWords words k) → false ≡ every fitsIn mostOperators
+      pub unusable-fails : Stored.Unusable ≡ pathStoredOf (operator k) (operatorWords words k) → false ≡ every fitsIn mostOperators
       unfolding fitsIn
-      unusable-fails e = fails (rw (placed, stored-is-unusable (single k) (operatorWords words k) e))
+      unusable-fails e = fails (rw (placed, path-stored-not (operator k) (operatorWords words k) e))
 
       -- and one that fits goes to those found
-      module _ {b : Units} (holds : Stored.Holds b ≡ storedOf (single k) (operatorWords words k)) where
+      module _ {b : Units} (holds : Stored.Holds b ≡ pathStoredOf (operator k) (operatorWords words k)) where
         fit-here : fitsIn k ≡ true
         unfolding fitsIn
-        fit-here = rw (placed, stored-usable (single k) (operatorWords words k) (stored-holds (single k) (operatorWords words k) holds .0))
+        fit-here = rw (placed, path-stored-holds (operator k) (operatorWords words k) holds .0)
 
         units-here : b ≡ unitsIn k
         unfolding unitsIn
         units-here =
             ap (λ (n : ℕ). record { 0 = n })
-            (stored-holds (single k) (operatorWords words k) holds .1 ∙ placed-units (at k) slot (operatorWords words k) (ltb k count) placed)
+            (path-stored-holds (operator k) (operatorWords words k) holds .1 ∙ placed-units (at k) slot (operatorWords words k) (ltb k count) placed)
 
         pub found-next : {held : List Units} → Found held k → Found (set held k b) (k + 1)
         found-next {held} found =
@@ -157,11 +157,11 @@ module _ (run : Run) (words : List ℕ) where
   unitsOf = unitsIn (run .stages) (run .slot) (run .count) words
 
   fits-at : (k : ℕ) → fitsOf k ≡ stageFits run words k
-  unfolding fitsIn stageFits stageUnusable singleIn stageAt
+  unfolding fitsIn stageFits stageUnusable operatorIn stageAt
   fits-at k = refl
 
   units-at : (k : ℕ) → unitsOf k ≡ unitsHeld run words k
-  unfolding unitsIn unitsHeld runHolds singleIn stageAt
+  unfolding unitsIn unitsHeld runHolds operatorIn stageAt
   units-at k = refl
 
   pub fits-run : every fitsOf mostOperators ≡ every (stageFits run words) mostOperators

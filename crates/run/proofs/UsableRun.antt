@@ -14,9 +14,9 @@ use Rattle.quantity.proofs.Sums.{both-true, every-at}
 use Rattle.flow.specs.Declarations.{declarationInRange, rowsInOrder}
 use Rattle.operator.specs.Operators.{numberInRange}
 use Rattle.meter.specs.Meter.{meterWordCount, meterUnusable}
-use Rattle.operator.proofs.SingleLaws.{Usable, usable}
+use Rattle.operator.proofs.RingLaws.{PathUsable, path-usable}
 use Rattle.run.specs.declared.Run.{Run}
-use Rattle.run.specs.Runs.{runWordCount, meterWords, operatorWords, noOperator, stageAt, meterIn, singleIn, stageMisplaced, stageUnusable, stageFits, runUnusable}
+use Rattle.run.specs.Runs.{runWordCount, meterWords, operatorWords, noOperator, stageAt, meterIn, operatorIn, stageMisplaced, stageUnusable, stageFits, runUnusable}
 
 pub record UsableRun (run : Run) (words : List ℕ) : Type 0 where
   pub sized : length words ≡ runWordCount
@@ -68,9 +68,9 @@ run-unusable run words fails = by-test (runUnusable run words) refl
 
 -- a stage that fits
 module _ (run : Run) (words : List ℕ) (k : ℕ) (fits : stageFits run words k ≡ true) where
-  pub stage-usable : Usable (singleIn run k) (operatorWords words k)
+  pub stage-usable : PathUsable (operatorIn run k) (operatorWords words k)
   unfolding stageFits stageUnusable
-  stage-usable = usable (singleIn run k) (operatorWords words k) (not-true _ (both-true (not (stageMisplaced (stageAt run k) (ltb k (run .count)))) (not (stageUnusable run words k)) fits .1))
+  stage-usable = path-usable (operatorIn run k) (operatorWords words k) (not-true _ (both-true (not (stageMisplaced (stageAt run k) (ltb k (run .count)))) (not (stageUnusable run words k)) fits .1))
 
   placed : pick (ltb k (run .count)) (numberInRange (stageAt run k .operator)) (both (noOperator (stageAt run k .operator)) (eqb (stageAt run k .held .0) 0)) ≡ true
   unfolding stageFits stageMisplaced
@@ -81,8 +81,8 @@ module _ (run : Run) (words : List ℕ) (k : ℕ) (fits : stageFits run words k 
       not-not false e = e
 
   -- one of the path has its number in its range
-  pub stage-number : k < run .count → numberInRange (singleIn run k .operator) ≡ true
-  unfolding singleIn
+  pub stage-number : k < run .count → numberInRange (operatorIn run k .operator) ≡ true
+  unfolding operatorIn
   stage-number less = sym (pick-true _ _ _ (lt-ltb k (run .count) less)) ∙ placed
 
   -- one behind the path's holds nothing

@@ -21,22 +21,21 @@ use Rattle.quantity.proofs.Sums.{length-listOf, listOf-ext}
 use Rattle.words.specs.Stored.{wordAt}
 use Rattle.operator.specs.Operators.{numberInRange}
 use Rattle.operator.specs.Single.{wordCount}
-use Rattle.operator.specs.Parts.{keepUnfit, keptOf, wordKept, wordsKept}
+use Rattle.operator.specs.Ring.{pathKeepUnfit, ringWordNext, pathKeptOf, ringKept}
 use Rattle.flow.specs.Declarations.{declarationInRange, rowsInOrder}
 use Rattle.meter.specs.Meter.{meterWordCount, meterWordNext}
 use Rattle.meter.specs.Parts.{noteUnfit, notedOf, wordsNoted}
-use Rattle.operator.specs.declared.SingleOperator.{SingleOperator}
 use Rattle.meter.specs.declared.SourceMeter.{SourceMeter}
-use Rattle.operator.specs.declared.parts.Kept.{Kept}
+use Rattle.operator.specs.declared.ring.PathOperator.{PathOperator}
+use Rattle.operator.specs.declared.ring.PathKept.{PathKept}
 use Rattle.meter.specs.declared.parts.Noted.{Noted}
 use Rattle.sheet.specs.Bodies.{part}
 use Rattle.run.specs.declared.Stage.{Stage}
 use Rattle.run.specs.declared.Run.{Run}
 use Rattle.run.specs.declared.decide.Move.{Move}
-use Rattle.run.specs.Runs.{runWordCount, meterWords, operatorAtWord, operatorWords, noStage, stageAt, meterIn, singleOf}
+use Rattle.run.specs.Runs.{runWordCount, meterWords, operatorAtWord, operatorWords, noStage, stageAt, meterIn, operatorOf}
 use Rattle.run.specs.Steps.{noMove, withPart, blockWritten, stageWritten, stageWords, runWritten, stageWord, wordWritten}
-use Rattle.run.proofs.Parts.{length-part, part-at}
-use Rattle.run.proofs.Joined.{length-operatorWords, operator-word}
+use Rattle.run.proofs.Parts.{length-part, part-at, length-operatorWords, operator-word}
 use Rattle.run.proofs.WithPart.{put-back, meter-sized, meter-replaced, meter-beside, operator-sized, operator-replaced, meter-before, operator-before, operator-behind}
 
 -- Whether written or not, as many words are left as were lent.
@@ -53,11 +52,11 @@ length-noted x words input size =
     (length-either meterWordCount (not (rowsInOrder (x .declaration))) words _ size (length-listOf (meterWordNext x words input) meterWordCount)))
 
 length-stage : (stage : Stage) (slot : Slots) (words : List ℕ) (moved : Move) → length words ≡ wordCount → length (stageWords stage slot words moved) ≡ wordCount
-unfolding stageWords wordsKept
+unfolding stageWords ringKept
 length-stage stage slot words moved size =
-    let x = singleOf stage slot in
-    length-either wordCount (keepUnfit x words (moved .kept .0) (moved .beside .0)) words _ size
-    (length-either wordCount (not (numberInRange (x .operator))) words _ size (length-listOf (wordKept x words (moved .input .0) (moved .kept .0)) wordCount))
+    let x = operatorOf stage slot in
+    length-either wordCount (pathKeepUnfit x words (moved .kept .0) (moved .beside .0)) words _ size
+    (length-either wordCount (not (numberInRange (x .operator))) words _ size (length-listOf (ringWordNext x words (moved .input .0)) wordCount))
 
 length-meterWords : (words : List ℕ) → length words ≡ runWordCount → length (meterWords words) ≡ meterWordCount
 unfolding meterWords
@@ -104,33 +103,33 @@ module _ (run : Run) (words : List ℕ) (input : ℕ) where
 
 -- A stage.
 
-abbrev pub stageThen : Stage → Kept → Stage
-stageThen stage (Kept.Next next) = record { operator = next .operator; held = next .held; beside = next .beside }
-stageThen stage Kept.Unfit = stage
-stageThen stage Kept.OutOfRange = stage
+abbrev pub stageThen : Stage → PathKept → Stage
+stageThen stage (PathKept.Next next) = record { operator = next .operator; held = next .held; beside = next .beside; entered = next .entered; left = next .left }
+stageThen stage PathKept.Unfit = stage
+stageThen stage PathKept.OutOfRange = stage
 
-pub stage-stays : (stage : Stage) (answer : Kept) → ((next : SingleOperator) → answer ≡ Kept.Next next → ⊥) → stage ≡ stageThen stage answer
-stage-stays stage (Kept.Next next) never = absurd (never next refl)
-stage-stays stage Kept.Unfit never = refl
-stage-stays stage Kept.OutOfRange never = refl
+pub stage-stays : (stage : Stage) (answer : PathKept) → ((next : PathOperator) → answer ≡ PathKept.Next next → ⊥) → stage ≡ stageThen stage answer
+stage-stays stage (PathKept.Next next) never = absurd (never next refl)
+stage-stays stage PathKept.Unfit never = refl
+stage-stays stage PathKept.OutOfRange never = refl
 
 module _ (stage : Stage) (slot : Slots) (words : List ℕ) (k : ℕ) (moved : Move) where
   abbrev kept : List ℕ
   kept = stageWords stage slot (operatorWords words k) moved
 
-  stage-taken : (answer : Kept) → answer ≡ keptOf (singleOf stage slot) (operatorWords words k) (moved .kept .0) (moved .beside .0)
+  stage-taken : (answer : PathKept) → answer ≡ pathKeptOf (operatorOf stage slot) (operatorWords words k) (moved .input .0) (moved .output .0) (moved .kept .0) (moved .beside .0)
       → stageThen stage answer ≡ stageWritten stage slot (operatorWords words k) moved
   unfolding stageWritten
-  stage-taken (Kept.Next next) e = rw (← e)
-  stage-taken Kept.Unfit e = rw (← e)
-  stage-taken Kept.OutOfRange e = rw (← e)
+  stage-taken (PathKept.Next next) e = rw (← e)
+  stage-taken PathKept.Unfit e = rw (← e)
+  stage-taken PathKept.OutOfRange e = rw (← e)
 
   abbrev lent : ℕ
   lent = operatorAtWord k + wordCount - operatorAtWord k
 
-  pub stage-written : length words ≡ runWordCount → k < mostOperators → {single : SingleOperator} → single ≡ singleOf stage slot
-      → {answer : Kept} → answer ≡ keptOf single (take lent (drop (operatorAtWord k) words)) (moved .kept .0) (moved .beside .0)
-      → {new : List ℕ} → new ≡ wordsKept single (take lent (drop (operatorAtWord k) words)) (moved .input .0) (moved .kept .0) (moved .beside .0)
+  pub stage-written : length words ≡ runWordCount → k < mostOperators → {x : PathOperator} → x ≡ operatorOf stage slot
+      → {answer : PathKept} → answer ≡ pathKeptOf x (take lent (drop (operatorAtWord k) words)) (moved .input .0) (moved .output .0) (moved .kept .0) (moved .beside .0)
+      → {new : List ℕ} → new ≡ ringKept x (take lent (drop (operatorAtWord k) words)) (moved .input .0) (moved .kept .0) (moved .beside .0)
       → (stageThen stage answer ≡ stageWritten stage slot (operatorWords words k) moved)
       × (take (operatorAtWord k) words ++ (new ++ drop lent (drop (operatorAtWord k) words)) ≡ withPart (operatorAtWord k) kept words)
   unfolding operatorWords part stageWords

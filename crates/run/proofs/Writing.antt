@@ -3,6 +3,7 @@ use mathlib.Core.Path.{_≡_, refl, ap, fun-ext}
 use mathlib.Core.Bool.{Bool, true, false, not}
 use mathlib.Core.List.{List}
 use Prim.Native.Nat.{ℕ, suc, _+_, _-_, _/_, _%_, _≤_, _<_}
+use native.Mathlib.Nat.{mod-lt}
 use native.Mathlib.Omega.{arith}
 use lib.Dec.{ltb}
 use lib.ListN.{getD}
@@ -14,33 +15,30 @@ use Rattle.quantity.proofs.Laws.{either-false}
 use Rattle.quantity.proofs.Sums.{every-at, getD-listOf}
 use Rattle.quantity.proofs.Refusals.{NoneStands, none-of-each}
 use Rattle.words.specs.Stored.{wordAt}
-use Rattle.operator.specs.Single.{wordCount, holds, holdsNext, leavesTooMuch, stateNext, wordsNext}
-use Rattle.operator.specs.Parts.{keptOf, wordsKept}
+use Rattle.operator.specs.Single.{wordCount}
+use Rattle.operator.specs.Ring.{pathStateKept, ringWordNext, pathKeptOf, ringKept}
 use Rattle.meter.specs.Meter.{meterWordCount, blockNext, meterNext, meterWordNext}
 use Rattle.meter.specs.Parts.{notedOf, wordsNoted}
-use Rattle.operator.specs.declared.SingleOperator.{SingleOperator}
-use Rattle.operator.specs.declared.parts.Kept.{Kept}
+use Rattle.operator.specs.declared.ring.PathOperator.{PathOperator}
+use Rattle.operator.specs.declared.ring.PathKept.{PathKept}
 use Rattle.meter.specs.declared.parts.Noted.{Noted}
-use Rattle.operator.proofs.Laws.{greatest-le-there}
-use Rattle.operator.proofs.PartsLaws.{kept-next}
 use Rattle.meter.proofs.PartsLaws.{noted-next}
 use Rattle.run.specs.declared.Stage.{Stage}
 use Rattle.run.specs.declared.Run.{Run}
 use Rattle.run.specs.declared.decide.Move.{Move}
 use Rattle.run.specs.Calls.{Call, amountTooLarge}
-use Rattle.run.specs.Runs.{meterWords, operatorWords, stageAt, meterIn, singleIn}
-use Rattle.run.specs.Slots.{inputInto, choiceCases, leavesTooMuchAt, slotLeavesTooMuch, slotCases, singleNext, stageNext, runNext, operatorWordNext, wordNext}
-use Rattle.run.specs.Watching.{runHolds}
-use Rattle.run.specs.Steps.{noMove, runHoldsNext, moveOf, blockWritten, stageWritten, stageWords, runWritten, stageWord, wordWritten}
+use Rattle.run.specs.Runs.{meterWords, operatorWords, stageAt, meterIn, operatorIn}
+use Rattle.run.specs.Slots.{inputInto, choiceCases, runHoldsNext, leavesTooMuchAt, slotLeavesTooMuch, slotCases, operatorNext, stageNext, runNext, operatorWordNext, wordNext}
+use Rattle.run.specs.Steps.{noMove, moveOf, blockWritten, stageWritten, stageWords, runWritten, stageWord, wordWritten}
+use Rattle.run.proofs.PathAnswers.{path-kept-next}
 use Rattle.run.proofs.UsableRun.{UsableRun, usable-run, stage-usable, stage-number, fits-at}
-use Rattle.run.proofs.Taking.{choices-below, within-interval}
 
 module _ (run : Run) (words : List ℕ) (call : Call) (none : NoneStands (slotCases run words call)) where
   passed : UsableRun run words
   passed = usable-run run words (none .1 .1 .0)
 
-  below-and-stored : NoneStands (choiceCases run words call (run .count)) × (slotLeavesTooMuch run words call ≡ false)
-  below-and-stored = let (below, stored) = none-of-each (choiceCases run words call (run .count)) _ (none .1 .1 .1 .1) in (below, stored .0)
+  leaves-little : slotLeavesTooMuch run words call ≡ false
+  leaves-little = none-of-each (choiceCases run words call (run .count)) _ (none .1 .1 .1 .1) .1 .0
 
   -- the input is within the limit
   input-small : call .input ≤ largestAmount
@@ -53,8 +51,8 @@ module _ (run : Run) (words : List ℕ) (call : Call) (none : NoneStands (slotCa
   meter-noted = noted-next (meterIn run) (meterWords words) (call .input) (passed .meter) (passed .declared) (passed .ordered) input-small
 
   module _ (k : ℕ) (less : k < run .count) where
-    abbrev x : SingleOperator
-    x = singleIn run k
+    abbrev x : PathOperator
+    x = operatorIn run k
 
     abbrev xs : List ℕ
     xs = operatorWords words k
@@ -65,33 +63,32 @@ module _ (run : Run) (words : List ℕ) (call : Call) (none : NoneStands (slotCa
     abbrev out : ℕ
     out = inputInto run words call (suc k)
 
+    abbrev b-next : ℕ
+    b-next = runHoldsNext run words call k .b
+
+    abbrev h-next : ℕ
+    h-next = runHoldsNext run words call k .h
+
     -- nothing above the limit is left
-    left-small : (holdsNext x xs into out .b ≤ largestAmount) × (holdsNext x xs into out .h ≤ largestAmount)
-    unfolding slotLeavesTooMuch leavesTooMuchAt leavesTooMuch
+    left-small : (b-next ≤ largestAmount) × (h-next ≤ largestAmount)
+    unfolding slotLeavesTooMuch leavesTooMuchAt
     left-small =
-        let each = every-at (λ k. not (leavesTooMuchAt run words call k)) (run .count) (not-false _ (below-and-stored .1)) k less in
-        let (b, h) = either-false (ltb largestAmount (holdsNext x xs into out .b)) (ltb largestAmount (holdsNext x xs into out .h)) (not-true _ each) in
+        let each = every-at (λ k. not (leavesTooMuchAt run words call k)) (run .count) (not-false _ leaves-little) k less in
+        let (b, h) = either-false (ltb largestAmount b-next) (ltb largestAmount h-next) (not-true _ each) in
         (ltb-false largestAmount _ b, ltb-false largestAmount _ h)
 
-    sent-there : out ≤ holds x xs .b + into
-    unfolding runHolds
-    sent-there =
-        let within = within-interval run words call passed k less (choices-below run words call (run .count) (below-and-stored .0) k less) in
-        omega (arith, within .1, greatest-le-there (stageAt run k .operator) (run .slot .0) (runHolds run words k) into)
-
-    move-kept : (keptOf x xs (holdsNext x xs into out .b) (holdsNext x xs into out .h) ≡ Kept.Next (stateNext x xs into out))
-        × (wordsKept x xs into (holdsNext x xs into out .b) (holdsNext x xs into out .h) ≡ wordsNext x xs into out)
+    move-kept : (pathKeptOf x xs into out b-next h-next ≡ PathKept.Next (pathStateKept x into out b-next h-next)) × (ringKept x xs into b-next h-next ≡ listOf (ringWordNext x xs into) wordCount)
     move-kept =
         let few = passed .few in
         let fits = fits-at run words passed k (omega arith) in
-        kept-next x xs (stage-usable run words k fits) (stage-number run words k fits less) into out sent-there (left-small .0) (left-small .1)
+        path-kept-next x xs (stage-usable run words k fits) (stage-number run words k fits less) into out b-next h-next (left-small .0) (left-small .1)
 
     stage-written : stageWritten (stageAt run k) (run .slot) xs (moveOf run words call k) ≡ stageNext run words call k
-    unfolding stageWritten moveOf runHoldsNext stageNext singleNext stateNext singleIn
+    unfolding stageWritten moveOf stageNext operatorNext pathStateKept operatorIn
     stage-written = rw (move-kept .0)
 
-    words-written : stageWords (stageAt run k) (run .slot) xs (moveOf run words call k) ≡ wordsNext x xs into out
-    unfolding stageWords moveOf runHoldsNext singleIn
+    words-written : stageWords (stageAt run k) (run .slot) xs (moveOf run words call k) ≡ listOf (ringWordNext x xs into) wordCount
+    unfolding stageWords moveOf operatorIn
     words-written = move-kept .1
 
   module _ (moves : List Move) (moved : (k : ℕ) → k < run .count → getD moves k noMove ≡ moveOf run words call k) where
@@ -111,11 +108,13 @@ module _ (run : Run) (words : List ℕ) (call : Call) (none : NoneStands (slotCa
         (ap (λ (stages : ℕ → Stage). record { declaration = run .declaration; slot = record { 0 = run .slot .0 + 1 }; block = record { 0 = blockNext (meterIn run) (call .input) }; count = run .count; stages = listOf stages mostOperators })
         (fun-ext (λ k. stage-next k (ltb k (run .count)) refl)))
 
-    word-next : (k a : ℕ) (t : Bool) → ltb k (run .count) ≡ t
+    word-next : (k a : ℕ) → a < wordCount → (t : Bool) → ltb k (run .count) ≡ t
         → pick t (wordAt (stageWords (stageAt run k) (run .slot) (operatorWords words k) (getD moves k noMove)) a) (wordAt (operatorWords words k) a)
-        ≡ pick t (wordAt (wordsNext (singleIn run k) (operatorWords words k) (inputInto run words call k) (inputInto run words call (suc k))) a) (wordAt (operatorWords words k) a)
-    word-next k a true e = let less = ltb-true k (run .count) e in rw (moved k less, words-written k less)
-    word-next k a false e = refl
+        ≡ pick t (ringWordNext (operatorIn run k) (operatorWords words k) (inputInto run words call k) a) (wordAt (operatorWords words k) a)
+    word-next k a inside true e =
+        let less = ltb-true k (run .count) e in
+        rw (moved k less, words-written k less) (getD-listOf 0 (ringWordNext (operatorIn run k) (operatorWords words k) (inputInto run words call k)) wordCount a inside)
+    word-next k a inside false e = refl
 
     pub word-written : (j : ℕ) → wordWritten run words (call .input) moves j ≡ wordNext run words call j
     unfolding wordWritten wordNext stageWord operatorWordNext
@@ -125,4 +124,4 @@ module _ (run : Run) (words : List ℕ) (call : Call) (none : NoneStands (slotCa
             → pick t (wordAt (wordsNoted (meterIn run) (meterWords words) (call .input)) j) (stageWord run words moves ((j - meterWordCount) / wordCount) ((j - meterWordCount) % wordCount))
             ≡ pick t (meterWordNext (meterIn run) (meterWords words) (call .input) j) (operatorWordNext run words call ((j - meterWordCount) / wordCount) ((j - meterWordCount) % wordCount))
         by-part true e = rw (meter-noted .1) (getD-listOf 0 (meterWordNext (meterIn run) (meterWords words) (call .input)) meterWordCount j (ltb-true j meterWordCount e))
-        by-part false e = word-next ((j - meterWordCount) / wordCount) ((j - meterWordCount) % wordCount) (ltb ((j - meterWordCount) / wordCount) (run .count)) refl
+        by-part false e = word-next ((j - meterWordCount) / wordCount) ((j - meterWordCount) % wordCount) (mod-lt (j - meterWordCount) {m = wordCount} (omega arith)) (ltb ((j - meterWordCount) / wordCount) (run .count)) refl

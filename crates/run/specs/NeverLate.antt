@@ -21,7 +21,7 @@ use Rattle.run.specs.Slots.{slottedOf}
 use Rattle.run.specs.Watching.{runHolds}
 use Rattle.run.specs.Words.{runWord}
 use Rattle.run.specs.Taking.{Took}
-use Rattle.run.specs.Lists.{Running, opened, slottedAll, accountAll}
+use Rattle.run.specs.Lists.{Running, opened, slottedAll, accountAll, arrivedAll}
 use Rattle.run.specs.declared.slot.Outcome.{Outcome}
 
 -- call n of a list
@@ -46,6 +46,10 @@ module _ (sheet lent : List ℕ) (calls : List Call) where
   abbrev pub accountAfterCalls : ℕ → Account
   accountAfterCalls n = accountAll path newAccount (take n calls)
 
+  -- what arrived at each operator in the slots that these took
+  abbrev pub arrivedAfter : ℕ → ℕ → List ℕ
+  arrivedAfter n = arrivedAll path newAccount (take n calls)
+
   -- what call n answers
   abbrev pub answerTo : ℕ → Outcome
   answerTo n = slottedOf (runningAfter n .run) (runningAfter n .words) (callAt calls n) .outcome
@@ -64,8 +68,8 @@ module _ (sheet lent : List ℕ) (calls : List Call) where
     pub holds : (n : ℕ) → n ≤ length calls → (k : ℕ) → k < length (path .operators) → runHolds (runningAfter n .run) (runningAfter n .words) k ≡ accountAfterCalls n .held k
     -- before and after every call the run has 2,048 words
     pub sized : (n : ℕ) → n ≤ length calls → length (runningAfter n .words) ≡ runWordCount
-    -- and word j is section 6's: under a uniform declaration the input of the latest slot whose number leaves j; what a delayer holds of a slots ago; other words are 0
-    pub words : (n : ℕ) → n ≤ length calls → (j : ℕ) → j < runWordCount → wordAt (runningAfter n .words) j ≡ runWord path (accountAfterCalls n) j
+    -- and word j is section 6's: under a uniform declaration the input of the latest slot whose number leaves j; of a delayer the total that arrived by the end of the latest slot whose number leaves j; other words are 0
+    pub words : (n : ℕ) → n ≤ length calls → (j : ℕ) → j < runWordCount → wordAt (runningAfter n .words) j ≡ runWord path (accountAfterCalls n) (arrivedAfter n) j
     -- if the list took slot i + delay, all that entered by the end of slot i had left the last operator by the end of slot i + delay
     pub in-time : (i : ℕ) → i + delay < final .slot → total (flowOf (final .entered)) (suc i) ≤ total (flowOf (final .left)) (suc (i + delay))
     -- in each slot taken each operator's b + r, b as the slot before left it and r what the account says arrives, is at most its capacity

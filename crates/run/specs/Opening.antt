@@ -22,7 +22,7 @@ use Rattle.run.specs.declared.opening.Opened.{Opened}
 
 -- operator k with nothing held; behind the path's operators the empty stage
 unfoldable pub newStage : Path → ℕ → Stage
-newStage path k = record { operator = operatorAt path k; held = record { 0 = 0 }; beside = record { 0 = 0 } }
+newStage path k = record { operator = operatorAt path k; held = record { 0 = 0 }; beside = record { 0 = 0 }; entered = 0; left = 0 }
 
 -- a path's run before its first slot
 unfoldable pub newRun : Path → Run

@@ -1,4 +1,4 @@
--- Section 6: what a run and its 2,048 words hold, as a meter and single operators; and refusal 1 of what is lent and stored.
+-- Section 6, with document 02, item 10: what a run and its 2,048 words hold, as a meter and operators within a path; and refusal 1 of what is lent and stored.
 use Prim.Native.Nat.{ℕ, _+_, _*_}
 use mathlib.Core.Bool.{Bool, false, not}
 use mathlib.Core.List.{List, [], _∷_}
@@ -10,11 +10,12 @@ use Rattle.quantity.specs.Sums.{every}
 use Rattle.quantity.specs.declared.Slots.{Slots}
 use Rattle.operator.specs.Operators.{numberInRange}
 use Rattle.flow.specs.Declarations.{declarationInRange, rowsInOrder}
-use Rattle.operator.specs.Single.{wordCount, storedUnusable}
+use Rattle.operator.specs.Single.{wordCount}
+use Rattle.operator.specs.Ring.{pathUnusable}
 use Rattle.meter.specs.Meter.{meterWordCount, meterUnusable}
 use Rattle.operator.specs.declared.Operator.{Operator}
 use Rattle.operator.specs.declared.Operator.the-variants.{Limiter, Compactor, Expander, Filter, Delayer}
-use Rattle.operator.specs.declared.SingleOperator.{SingleOperator}
+use Rattle.operator.specs.declared.ring.PathOperator.{PathOperator}
 use Rattle.meter.specs.declared.SourceMeter.{SourceMeter}
 use Rattle.sheet.specs.Bodies.{part}
 use Rattle.run.specs.declared.Stage.{Stage}
@@ -36,7 +37,7 @@ operatorWords words k = part (operatorAtWord k) wordCount words
 
 -- a stage behind the path's operators: a limiter 0 that holds nothing
 abbrev pub noStage : Stage
-noStage = record { operator = Limiter (record { 0 = 0 }); held = record { 0 = 0 }; beside = record { 0 = 0 } }
+noStage = record { operator = Limiter (record { 0 = 0 }); held = record { 0 = 0 }; beside = record { 0 = 0 }; entered = 0; left = 0 }
 
 unfoldable pub noOperator : Operator → Bool
 noOperator (Limiter R) = eqb (R .0) 0
@@ -52,21 +53,21 @@ stageAt run k = getD (run .stages) k noStage
 unfoldable pub meterIn : Run → SourceMeter
 meterIn run = record { declaration = run .declaration; slot = run .slot; block = run .block }
 
--- a stage at a slot, as a single operator
-abbrev pub singleOf : Stage → Slots → SingleOperator
-singleOf stage slot = record { operator = stage .operator; slot = slot; held = stage .held; beside = stage .beside }
+-- a stage at a slot, as an operator within a path
+abbrev pub operatorOf : Stage → Slots → PathOperator
+operatorOf stage slot = record { operator = stage .operator; slot = slot; held = stage .held; beside = stage .beside; entered = stage .entered; left = stage .left }
 
 -- operator k of the run
-unfoldable pub singleIn : Run → ℕ → SingleOperator
-singleIn run k = singleOf (stageAt run k) (run .slot)
+unfoldable pub operatorIn : Run → ℕ → PathOperator
+operatorIn run k = operatorOf (stageAt run k) (run .slot)
 
 -- 1: the number of an operator of the path is out of its range, or a stage behind them is not the empty one
 unfoldable pub stageMisplaced : Stage → Bool → Bool
 stageMisplaced stage named = not (pick named (numberInRange (stage .operator)) (both (noOperator (stage .operator)) (eqb (stage .held .0) 0)))
 
--- 1: what stage k and its words store cannot be used: an amount is above the limit, or something that should be 0 is not
+-- 1: what stage k and its words store cannot be used: an amount is above the limit, of a delayer what its totals leave, or something that should be 0 is not
 unfoldable pub stageUnusable : Run → List ℕ → ℕ → Bool
-stageUnusable run words k = storedUnusable (singleIn run k) (operatorWords words k)
+stageUnusable run words k = pathUnusable (operatorIn run k) (operatorWords words k)
 
 unfoldable pub stageFits : Run → List ℕ → ℕ → Bool
 stageFits run words k = both (not (stageMisplaced (stageAt run k) (ltb k (run .count)))) (not (stageUnusable run words k))

@@ -3,18 +3,20 @@ use Prim.Native.Nat.{ℕ, zero, suc, _+_, _-_, _/_, _%_}
 use mathlib.Core.Bool.{Bool, not}
 use mathlib.Core.List.{List, [], _∷_, _++_}
 use lib.Dec.{ltb}
-use Rattle.quantity.specs.Limits.{mostOperators}
-use Rattle.quantity.specs.Choice.{pick}
+use Rattle.quantity.specs.Limits.{mostOperators, largestAmount}
+use Rattle.quantity.specs.Choice.{pick, either}
 use Rattle.quantity.specs.Sums.{every, listOf}
 use Rattle.quantity.specs.Refusals.{Case, _⇒_, firstOf}
 use Rattle.quantity.specs.declared.refusal.Refusal.{Refusal}
 use Rattle.quantity.specs.declared.refusal.Refusal.the-variants.{Unusable, InputBreaksDeclaration, ChoiceAboveGreatest}
 use Rattle.words.specs.Stored.{wordAt}
-use Rattle.operator.specs.Single.{wordCount, sent, choiceAbove, leavesTooMuch, stateNext, wordsNext}
+use Rattle.operator.specs.Single.{wordCount}
+use Rattle.operator.specs.Ring.{pathSent, pathChoiceAbove, pathHoldsNext, pathStateKept, ringWordNext}
 use Rattle.meter.specs.Meter.{meterWordCount, inputBreaks, meterNext, meterWordNext}
-use Rattle.operator.specs.declared.SingleOperator.{SingleOperator}
+use Rattle.operator.specs.declared.ring.PathOperator.{PathOperator}
+use Rattle.operator.specs.Held.{Held}
 use Rattle.run.specs.Calls.{Call, choiceFor, choicesMiscounted, amountTooLarge}
-use Rattle.run.specs.Runs.{runWordCount, meterWords, operatorWords, stageAt, meterIn, singleIn, runUnusable}
+use Rattle.run.specs.Runs.{runWordCount, meterWords, operatorWords, stageAt, meterIn, operatorIn, runUnusable}
 use Rattle.run.specs.declared.Stage.{Stage}
 use Rattle.run.specs.declared.Run.{Run}
 use Rattle.run.specs.declared.slot.Outcome.{Outcome}
@@ -23,7 +25,7 @@ use Rattle.run.specs.declared.slot.Slotted.{Slotted}
 -- what goes into operator k: the input, or what the operator before it sends in the same slot
 unfoldable pub inputInto : Run → List ℕ → Call → ℕ → ℕ
 inputInto run words call zero = call .input
-inputInto run words call (suc k) = sent (singleIn run k) (operatorWords words k) (inputInto run words call k) (choiceFor call k)
+inputInto run words call (suc k) = pathSent (operatorIn run k) (operatorWords words k) (inputInto run words call k) (choiceFor call k)
 
 -- 13: the input breaks the declaration
 unfoldable pub slotBreaks : Run → List ℕ → Call → Bool
@@ -31,16 +33,20 @@ slotBreaks run words call = inputBreaks (meterIn run) (meterWords words) (call .
 
 -- 14: the choice for operator k is above its greatest minus least
 unfoldable pub choiceAboveAt : Run → List ℕ → Call → ℕ → Bool
-choiceAboveAt run words call k = choiceAbove (singleIn run k) (operatorWords words k) (inputInto run words call k) (choiceFor call k)
+choiceAboveAt run words call k = pathChoiceAbove (operatorIn run k) (operatorWords words k) (inputInto run words call k) (choiceFor call k)
 
 -- so of the first n operators, left to right
 unfoldable pub choiceCases : Run → List ℕ → Call → ℕ → List Case
 choiceCases run words call zero = []
 choiceCases run words call (suc n) = choiceCases run words call n ++ ((choiceAboveAt run words call n ⇒ ChoiceAboveGreatest n) ∷ [])
 
--- 1, tested last: operator k would store too much
+-- what operator k has once it has sent
+unfoldable pub runHoldsNext : Run → List ℕ → Call → ℕ → Held
+runHoldsNext run words call k = pathHoldsNext (operatorIn run k) (operatorWords words k) (inputInto run words call k) (inputInto run words call (suc k))
+
+-- 1, tested last: operator k would hold too much, or a filter's h be too much
 unfoldable pub leavesTooMuchAt : Run → List ℕ → Call → ℕ → Bool
-leavesTooMuchAt run words call k = leavesTooMuch (singleIn run k) (operatorWords words k) (inputInto run words call k) (inputInto run words call (suc k))
+leavesTooMuchAt run words call k = either (ltb largestAmount (runHoldsNext run words call k .b)) (ltb largestAmount (runHoldsNext run words call k .h))
 
 unfoldable pub slotLeavesTooMuch : Run → List ℕ → Call → Bool
 slotLeavesTooMuch run words call = not (every (λ k. not (leavesTooMuchAt run words call k)) (run .count))
@@ -55,12 +61,19 @@ slotCases run words call =
     ++ ((slotLeavesTooMuch run words call ⇒ Unusable) ∷ [])
 
 -- operator k once it has sent
-unfoldable pub singleNext : Run → List ℕ → Call → ℕ → SingleOperator
-singleNext run words call k = stateNext (singleIn run k) (operatorWords words k) (inputInto run words call k) (inputInto run words call (suc k))
+unfoldable pub operatorNext : Run → List ℕ → Call → ℕ → PathOperator
+operatorNext run words call k =
+    pathStateKept (operatorIn run k) (inputInto run words call k) (inputInto run words call (suc k)) (runHoldsNext run words call k .b) (runHoldsNext run words call k .h)
 
 unfoldable pub stageNext : Run → List ℕ → Call → ℕ → Stage
 stageNext run words call k =
-    record { operator = stageAt run k .operator; held = singleNext run words call k .held; beside = singleNext run words call k .beside }
+    record {
+      operator = stageAt run k .operator;
+      held = operatorNext run words call k .held;
+      beside = operatorNext run words call k .beside;
+      entered = operatorNext run words call k .entered;
+      left = operatorNext run words call k .left;
+    }
 
 -- the run of the slot after
 unfoldable pub runNext : Run → List ℕ → Call → Run
@@ -77,7 +90,7 @@ runNext run words call =
 unfoldable pub operatorWordNext : Run → List ℕ → Call → ℕ → ℕ → ℕ
 operatorWordNext run words call k a =
     pick (ltb k (run .count))
-    (wordAt (wordsNext (singleIn run k) (operatorWords words k) (inputInto run words call k) (inputInto run words call (suc k))) a)
+    (ringWordNext (operatorIn run k) (operatorWords words k) (inputInto run words call k) a)
     (wordAt (operatorWords words k) a)
 
 -- and word j of all

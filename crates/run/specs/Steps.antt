@@ -12,17 +12,16 @@ use Rattle.quantity.specs.Refusals.{_⇒_, firstOf}
 use Rattle.quantity.specs.declared.Slots.{Slots}
 use Rattle.quantity.specs.declared.Units.{Units}
 use Rattle.quantity.specs.declared.refusal.Refusal.the-variants.{Unusable}
-use Rattle.operator.specs.Held.{Held}
-use Rattle.operator.specs.Single.{wordCount, holdsNext}
-use Rattle.operator.specs.Parts.{keptOf, wordsKept}
+use Rattle.operator.specs.Single.{wordCount}
+use Rattle.operator.specs.Ring.{pathKeptOf, ringKept}
 use Rattle.meter.specs.Meter.{meterWordCount}
 use Rattle.meter.specs.Parts.{inputsBelow, notedOf, wordsNoted}
 use Rattle.words.specs.Stored.{wordAt}
-use Rattle.operator.specs.declared.parts.Kept.{Kept}
+use Rattle.operator.specs.declared.ring.PathKept.{PathKept}
 use Rattle.meter.specs.declared.parts.Noted.{Noted}
 use Rattle.run.specs.Calls.{Call}
-use Rattle.run.specs.Runs.{meterWords, operatorWords, stageAt, meterIn, singleOf, singleIn, runUnusable}
-use Rattle.run.specs.Slots.{inputInto, choiceCases, slotLeavesTooMuch, slotOutput}
+use Rattle.run.specs.Runs.{meterWords, operatorWords, stageAt, meterIn, operatorOf, runUnusable}
+use Rattle.run.specs.Slots.{inputInto, runHoldsNext, choiceCases, slotLeavesTooMuch, slotOutput}
 use Rattle.run.specs.Watching.{unitsHeld}
 use Rattle.run.specs.declared.Stage.{Stage}
 use Rattle.run.specs.declared.Run.{Run}
@@ -46,16 +45,17 @@ testedOf run words =
 -- Decide.
 
 abbrev pub noMove : Move
-noMove = record { input = record { 0 = 0 }; kept = record { 0 = 0 }; beside = record { 0 = 0 } }
+noMove = record { input = record { 0 = 0 }; output = record { 0 = 0 }; kept = record { 0 = 0 }; beside = record { 0 = 0 } }
 
--- what operator k has once it has sent
-unfoldable pub runHoldsNext : Run → List ℕ → Call → ℕ → Held
-runHoldsNext run words call k = holdsNext (singleIn run k) (operatorWords words k) (inputInto run words call k) (inputInto run words call (suc k))
-
--- what it gets, and has then
+-- what operator k gets and sends, and has then
 unfoldable pub moveOf : Run → List ℕ → Call → ℕ → Move
 moveOf run words call k =
-    record { input = record { 0 = inputInto run words call k }; kept = record { 0 = runHoldsNext run words call k .b }; beside = record { 0 = runHoldsNext run words call k .h } }
+    record {
+      input = record { 0 = inputInto run words call k };
+      output = record { 0 = inputInto run words call (suc k) };
+      kept = record { 0 = runHoldsNext run words call k .b };
+      beside = record { 0 = runHoldsNext run words call k .h };
+    }
 
 -- what an operator would store is within the limit
 unfoldable pub storable : ℕ → ℕ → Bool
@@ -83,18 +83,18 @@ unfoldable pub blockWritten : Run → List ℕ → ℕ → Units
 unfolding blockNamed
 blockWritten run words input = blockNamed (run .block) (notedOf (meterIn run) (meterWords words) input)
 
-stageNamed : Stage → Kept → Stage
-stageNamed stage (Kept.Next next) = record { operator = next .operator; held = next .held; beside = next .beside }
-stageNamed stage Kept.Unfit = stage
-stageNamed stage Kept.OutOfRange = stage
+stageNamed : Stage → PathKept → Stage
+stageNamed stage (PathKept.Next next) = record { operator = next .operator; held = next .held; beside = next .beside; entered = next .entered; left = next .left }
+stageNamed stage PathKept.Unfit = stage
+stageNamed stage PathKept.OutOfRange = stage
 
 -- a stage once its move is kept, and its words
 unfoldable pub stageWritten : Stage → Slots → List ℕ → Move → Stage
 unfolding stageNamed
-stageWritten stage slot words moved = stageNamed stage (keptOf (singleOf stage slot) words (moved .kept .0) (moved .beside .0))
+stageWritten stage slot words moved = stageNamed stage (pathKeptOf (operatorOf stage slot) words (moved .input .0) (moved .output .0) (moved .kept .0) (moved .beside .0))
 
 unfoldable pub stageWords : Stage → Slots → List ℕ → Move → List ℕ
-stageWords stage slot words moved = wordsKept (singleOf stage slot) words (moved .input .0) (moved .kept .0) (moved .beside .0)
+stageWords stage slot words moved = ringKept (operatorOf stage slot) words (moved .input .0) (moved .kept .0) (moved .beside .0)
 
 -- the run, and word j of all, once meter and stages are written
 unfoldable pub runWritten : Run → List ℕ → ℕ → List Move → Run

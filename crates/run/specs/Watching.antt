@@ -11,15 +11,15 @@ use Rattle.quantity.specs.declared.Units.{Units}
 use Rattle.quantity.specs.declared.refusal.Refusal.{Refusal}
 use Rattle.quantity.specs.declared.refusal.Refusal.the-variants.{Unusable}
 use Rattle.operator.specs.Held.{Held}
-use Rattle.operator.specs.Single.{holds}
+use Rattle.operator.specs.Ring.{pathHolds}
 use Rattle.sheet.specs.declared.read.Verdict.{Verdict}
-use Rattle.run.specs.Runs.{operatorWords, singleIn, runUnusable}
+use Rattle.run.specs.Runs.{operatorWords, operatorIn, runUnusable}
 use Rattle.run.specs.declared.Run.{Run}
 use Rattle.run.specs.declared.watch.Watched.{Watched}
 
--- section 3's b, h and past of operator k, as run and words have them
+-- section 3's b, h and past of operator k, as run and words have them: a delayer's are read off its totals and its ring
 unfoldable pub runHolds : Run → List ℕ → ℕ → Held
-runHolds run words k = holds (singleIn run k) (operatorWords words k)
+runHolds run words k = pathHolds (operatorIn run k) (operatorWords words k)
 
 -- its b, and 0 behind the path's operators
 unfoldable pub unitsHeld : Run → List ℕ → ℕ → Units

@@ -2,10 +2,10 @@
 
 use crate::Run;
 use crate::Stage;
-use crate::single_of;
+use crate::operator_of;
 use crate::slot::Outcome;
 use operator::parts::Decided;
-use operator::parts::decide;
+use operator::ring::decide;
 use quantity::Slots;
 use quantity::Units;
 use quantity::refusal::Refusal;
@@ -14,17 +14,16 @@ ghost use mathlib.Core.Bool.{false};
 ghost use Prim.Native.Nat.{ℕ, _<_};
 ghost use lib.ListN.{length, getD};
 ghost use Rattle.quantity.specs.Limits.{mostOperators};
-ghost use Rattle.quantity.specs.Sums.{listOf};
-ghost use Rattle.operator.specs.Parts.{decidedOf};
+ghost use Rattle.operator.specs.Ring.{pathDecidedOf};
 ghost use Rattle.run.specs.Calls.{choicesMiscounted, amountTooLarge, callOf};
-ghost use Rattle.run.specs.Runs.{runWordCount, operatorWords, singleOf, runUnusable};
-ghost use Rattle.run.specs.Watching.{unitsHeld};
+ghost use Rattle.run.specs.Runs.{runWordCount, operatorWords, operatorOf, runUnusable};
 ghost use Rattle.run.specs.Steps.{noMove, moveOf, storable, planOf};
 ghost use Rattle.run.specs.Taking.{Took};
 
 // What an operator of the path gets in a slot, and has once it has sent.
 pub struct Move {
     pub input: Units,
+    pub output: Units,
     pub kept: Units,
     pub beside: Units,
 }
@@ -35,14 +34,8 @@ pub struct Plan {
     pub moves: [Move; 16],
 }
 
-pub(crate) fn decide_all(
-    run: Run,
-    words: &[u32],
-    held: [Units; 16],
-    input: Units,
-    choices: &[u64],
-) -> Plan
-    requires { ⌜ (runUnusable run (now words) ≡ false) × (held ≡ listOf (unitsHeld run (now words)) mostOperators) ⌝ }
+pub(crate) fn decide_all(run: Run, words: &[u32], input: Units, choices: &[u64]) -> Plan
+    requires { ⌜ runUnusable run (now words) ≡ false ⌝ }
     requires { ⌜ (choicesMiscounted (run .count) (callOf input (now choices)) ≡ false) × (amountTooLarge (callOf input (now choices)) ≡ false) ⌝ }
     ensures { λ r. ⌜ r .outcome ≡ planOf run (now (words .entry)) (callOf input (now (choices .entry))) ⌝ }
     ensures { λ r. ⌜ (Took (r .outcome) → (k : ℕ) → k < run .count → getD (r .moves) k noMove ≡ moveOf run (now (words .entry)) (callOf input (now (choices .entry))) k) ⌝ }
@@ -57,12 +50,11 @@ pub(crate) fn decide_all(
     let mut k = 0;
     while k < count {
         let stage = stages[k];
-        let units = held[k];
         let Decided::Sends {
             output,
             kept,
             beside,
-        } = decide_stage(stage, slot, words, k, units, arriving, Units(choices[k]))
+        } = decide_stage(stage, slot, words, k, arriving, Units(choices[k]))
         else {
             // all but the choice is tested before
             return Plan {
@@ -73,6 +65,7 @@ pub(crate) fn decide_all(
         fits = fits && within(kept, beside);
         moves[k] = Move {
             input: arriving,
+            output,
             kept,
             beside,
         };
@@ -97,6 +90,7 @@ fn no_move() -> Move
 {
     Move {
         input: Units(0),
+        output: Units(0),
         kept: Units(0),
         beside: Units(0),
     }
@@ -115,20 +109,13 @@ fn decide_stage(
     slot: Slots,
     words: &[u32],
     k: usize,
-    held: Units,
     input: Units,
     choice: Units,
 ) -> Decided
     requires { ⌜ (length (now words) ≡ runWordCount) × (k < mostOperators) ⌝ }
-    ensures { λ r. ⌜ r ≡ decidedOf (singleOf stage slot) (operatorWords (now (words .entry)) k) (held .0) (input .0) (choice .0) ⌝ }
+    ensures { λ r. ⌜ r ≡ pathDecidedOf (operatorOf stage slot) (operatorWords (now (words .entry)) k) (input .0) (choice .0) ⌝ }
 {
     let start = crate::METER_WORDS + crate::OPERATOR_WORDS * k;
     let end = start + crate::OPERATOR_WORDS;
-    decide(
-        single_of(stage, slot),
-        &words[start..end],
-        held,
-        input,
-        choice,
-    )
+    decide(operator_of(stage, slot), &words[start..end], input, choice)
 }

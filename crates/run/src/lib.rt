@@ -3,12 +3,12 @@
 use flow::Declaration;
 use meter::SourceMeter;
 use operator::Operator;
-use operator::SingleOperator;
+use operator::ring::PathOperator;
 use quantity::Rate;
 use quantity::Slots;
 use quantity::Units;
 ghost use mathlib.Core.Path.{_≡_};
-ghost use Rattle.run.specs.Runs.{noStage, meterIn, singleOf};
+ghost use Rattle.run.specs.Runs.{noStage, meterIn, operatorOf};
 
 mod decide;
 pub mod opening;
@@ -27,11 +27,14 @@ const OPERATOR_WORDS: usize = 64;
 // The most operators of a path.
 const OPERATORS: usize = 16;
 
-// An operator of the path with section 3's b and a filter's h. A delayer's b is in its words alone.
+// An operator of the path with section 3's b, a filter's h, and a delayer's totals of what entered and of what left, 32 bits wide and wrapping.
+// A delayer's b is the difference of its totals; what an operator does not use is 0.
 pub struct Stage {
     pub operator: Operator,
     pub held: Units,
     pub beside: Units,
+    pub entered: u32,
+    pub left: u32,
 }
 
 // What a slot uses: the declaration, the next slot's number, the block's total under a smooth declaration,
@@ -52,6 +55,8 @@ fn no_stage() -> Stage
         operator: Operator::Limiter(Rate(0)),
         held: Units(0),
         beside: Units(0),
+        entered: 0,
+        left: 0,
     }
 }
 
@@ -69,17 +74,19 @@ fn meter_of(run: Run) -> SourceMeter
     }
 }
 
-// A stage at a slot, as a single operator.
-fn single_of(stage: Stage, slot: Slots) -> SingleOperator
-    ensures { λ r. ⌜ r ≡ singleOf stage slot ⌝ }
+// A stage at a slot, as an operator within a path.
+fn operator_of(stage: Stage, slot: Slots) -> PathOperator
+    ensures { λ r. ⌜ r ≡ operatorOf stage slot ⌝ }
 {
     let operator = stage.operator;
     let held = stage.held;
     let beside = stage.beside;
-    SingleOperator {
+    PathOperator {
         operator,
         slot,
         held,
         beside,
+        entered: stage.entered,
+        left: stage.left,
     }
 }

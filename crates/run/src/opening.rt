@@ -75,6 +75,8 @@ fn new_run(path: PathValue) -> Run
             operator,
             held: Units(0),
             beside: Units(0),
+            entered: 0,
+            left: 0,
         };
         k += 1;
     }

@@ -42,8 +42,7 @@ pub fn slot(run: Run, words: &mut [u32], input: Units, choices: &[u64]) -> Slott
     if tested.below.0 <= input.0 {
         return refused(run, Refusal::InputBreaksDeclaration);
     }
-    let held = tested.held;
-    let planned = decide_all(run, &words[..], held, input, choices);
+    let planned = decide_all(run, &words[..], input, choices);
     let outcome = planned.outcome;
     match outcome {
         Outcome::Refused(why) => refused(run, why),

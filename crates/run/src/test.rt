@@ -3,12 +3,12 @@
 use crate::Run;
 use crate::Stage;
 use crate::meter_of;
-use crate::single_of;
+use crate::operator_of;
 use meter::parts::Counted;
 use meter::parts::counted_before;
 use operator::Operator;
 use operator::parts::Stored;
-use operator::parts::stored_in;
+use operator::ring::stored_in;
 use quantity::Slots;
 use quantity::Units;
 ghost use mathlib.Core.Path.{_≡_};
@@ -17,8 +17,8 @@ ghost use Prim.Native.Nat.{_<_};
 ghost use lib.ListN.{length};
 ghost use Rattle.quantity.specs.Limits.{mostOperators};
 ghost use Rattle.quantity.specs.Sums.{every, listOf};
-ghost use Rattle.operator.specs.Parts.{storedOf};
-ghost use Rattle.run.specs.Runs.{runWordCount, operatorWords, noOperator, singleOf, stageMisplaced, stageFits};
+ghost use Rattle.operator.specs.Ring.{pathStoredOf};
+ghost use Rattle.run.specs.Runs.{runWordCount, operatorWords, noOperator, operatorOf, stageMisplaced, stageFits};
 ghost use Rattle.run.specs.Watching.{unitsHeld};
 ghost use Rattle.run.specs.Steps.{notTested, testedOf};
 
@@ -130,9 +130,9 @@ fn no_operator(operator: Operator) -> bool
 // Stage k and its words.
 fn test_stage(stage: Stage, slot: Slots, words: &[u32], k: usize) -> Stored
     requires { ⌜ (length (now words) ≡ runWordCount) × (k < mostOperators) ⌝ }
-    ensures { λ r. ⌜ r ≡ storedOf (singleOf stage slot) (operatorWords (now (words .entry)) k) ⌝ }
+    ensures { λ r. ⌜ r ≡ pathStoredOf (operatorOf stage slot) (operatorWords (now (words .entry)) k) ⌝ }
 {
     let start = crate::METER_WORDS + crate::OPERATOR_WORDS * k;
     let end = start + crate::OPERATOR_WORDS;
-    stored_in(single_of(stage, slot), &words[start..end])
+    stored_in(operator_of(stage, slot), &words[start..end])
 }

@@ -4,11 +4,11 @@ use crate::Run;
 use crate::Stage;
 use crate::decide::Move;
 use crate::meter_of;
-use crate::single_of;
+use crate::operator_of;
 use meter::parts::Noted;
 use meter::parts::note;
-use operator::parts::Kept;
-use operator::parts::keep;
+use operator::ring::PathKept;
+use operator::ring::keep;
 use quantity::Slots;
 use quantity::Units;
 ghost use mathlib.Core.Path.{_≡_};
@@ -67,12 +67,14 @@ fn write_stage(stage: Stage, slot: Slots, words: &mut [u32], k: usize, moved: Mo
     let start = crate::METER_WORDS + crate::OPERATOR_WORDS * k;
     let end = start + crate::OPERATOR_WORDS;
     let input = moved.input;
+    let output = moved.output;
     let kept = moved.kept;
     let beside = moved.beside;
-    let Kept::Next(next) = keep(
-        single_of(stage, slot),
+    let PathKept::Next(next) = keep(
+        operator_of(stage, slot),
         &mut words[start..end],
         input,
+        output,
         kept,
         beside,
     ) else {
@@ -85,5 +87,7 @@ fn write_stage(stage: Stage, slot: Slots, words: &mut [u32], k: usize, moved: Mo
         operator,
         held,
         beside,
+        entered: next.entered,
+        left: next.left,
     }
 }

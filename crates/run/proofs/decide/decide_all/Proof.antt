@@ -16,30 +16,30 @@ use Rattle.run.proofs.decide.decide_all.Statement.{statement}
 use Rattle.run.proofs.decide.decide_all.Tie as tie
 
 abbrev Inv-loop : tie.InvT-loop
-Inv-loop words choices held stages slot count moves₀ arriving₀ fits₀ k₀ moves arriving fits k =
-    (k ≤ count) × ((run : Run) → Given words choices held stages slot count arriving₀ run → Deciding run words (callOf arriving₀ choices) k arriving fits moves)
+Inv-loop words choices stages slot count moves₀ arriving₀ fits₀ k₀ moves arriving fits k =
+    (k ≤ count) × ((run : Run) → Given words choices stages slot count arriving₀ run → Deciding run words (callOf arriving₀ choices) k arriving fits moves)
 
 abbrev μ-loop : tie.MeasureT-loop
-μ-loop words choices held stages slot count moves₀ arriving₀ fits₀ k₀ moves arriving fits k = count - k
+μ-loop words choices stages slot count moves₀ arriving₀ fits₀ k₀ moves arriving fits k = count - k
 
 -- what the call is given, of its own run too
 abbrev Known : tie.Start Inv-loop μ-loop → Run → Type 0
-Known s run = Given (s .args .words .now) (s .args .choices .now) (s .args .t3) (s .args .run .stages) (s .args .run .slot) (s .args .run .count) (s .args .input) run
+Known s run = Given (s .args .words .now) (s .args .choices .now) (s .args .run .stages) (s .args .run .slot) (s .args .run .count) (s .args .input) run
 
 known : (s : tie.Start Inv-loop μ-loop) → Known s (s .args .run)
-known s = given (s .args .run) (s .args .words .now) (s .args .t3) (s .args .input) (s .args .choices .now) (s .pre .0 .0) (s .pre .0 .1) (s .pre .1 .0) (s .pre .1 .1)
+known s = given (s .args .run) (s .args .words .now) (s .args .input) (s .args .choices .now) (s .pre .0) (s .pre .1 .0) (s .pre .1 .1)
 
 few : (s : tie.Start Inv-loop μ-loop) → s .args .run .count ≤ 16
 few s = known s .usable .few
 
 -- what was decided of operator k
-decided-at : (c : tie.After-decide-stage Inv-loop μ-loop) (run : Run) → let s = c .before .before .before .before .before .before .before .before .before .before .before in
-    Known s run → c .decide-stage .result ≡ decidedAt run (s .args .words .now) (callOf (s .args .input) (s .args .choices .now)) (c .before .before .before .before .before .loop .k)
-decided-at c run known = decided-here known (c .before .before .before .before .before .loop .inv .1 run known) (c .before .before .before .before .loop-test .taken) _ (c .decide-stage .ensures)
+decided-at : (c : tie.After-decide-stage Inv-loop μ-loop) (run : Run) → let s = c .before .before .before .before .before .before .before .before .before .before in
+    Known s run → c .decide-stage .result ≡ decidedAt run (s .args .words .now) (callOf (s .args .input) (s .args .choices .now)) (c .before .before .before .before .loop .k)
+decided-at c run known = decided-here known (c .before .before .before .before .loop .inv .1 run known) (c .before .before .before .loop-test .taken) (c .decide-stage .ensures)
 
 -- the test of what is stored, with operator k
 fits-too : (c : tie.Joined1 Inv-loop μ-loop) → let (output, (kept, (beside, rest))) = c .before .before .output .given .0 in
-    c .if1 .fits ≡ both (c .before .before .before .before .before .before .before .before .before .loop .fits) (storable (kept .0) (beside .0))
+    c .if1 .fits ≡ both (c .before .before .before .before .before .before .before .before .loop .fits) (storable (kept .0) (beside .0))
 fits-too c = ⊎-elim (λ w. w .2 ∙ both-first _ (w .0 .taken) (w .1 .ensures)) (λ w. w .1 ∙ both-none _ _ (w .0 .left)) (c .if1 .came)
 
 -- behind the last operator
@@ -66,20 +66,14 @@ mul-stage c = omega (arith, few (c .before .before .before .before .before .befo
 array-copy-out-stage : tie.Need-array-copy-out-stage Inv-loop μ-loop
 array-copy-out-stage c = omega (arith, few (c .before .before .before .before .before .before .before))
 
-mul-units : tie.Need-mul-units Inv-loop μ-loop
-mul-units c = omega (arith, few (c .before .before .before .before .before .before .before .before))
+mul-t18 : tie.Need-mul-t18 Inv-loop μ-loop
+mul-t18 c = omega (arith, few (c .before .before .before .before .before .before .before .before))
 
-array-copy-out-units : tie.Need-array-copy-out-units Inv-loop μ-loop
-array-copy-out-units c = omega (arith, few (c .before .before .before .before .before .before .before .before))
-
-mul-t21 : tie.Need-mul-t21 Inv-loop μ-loop
-mul-t21 c = omega (arith, few (c .before .before .before .before .before .before .before .before .before))
-
-shared-slice-read-t30 : tie.Need-shared-slice-read-t30 Inv-loop μ-loop
-shared-slice-read-t30 c = omega (arith, known (c .before .before .before .before .before .before .before .before .before .before) .counted)
+shared-slice-read-t24 : tie.Need-shared-slice-read-t24 Inv-loop μ-loop
+shared-slice-read-t24 c = omega (arith, known (c .before .before .before .before .before .before .before .before .before) .counted)
 
 decide-stage-requires : tie.Need-decide-stage-requires Inv-loop μ-loop
-decide-stage-requires c κs = (known (c .before .before .before .before .before .before .before .before .before .before) .usable .sized, omega (arith, few (c .before .before .before .before .before .before .before .before .before .before)))
+decide-stage-requires c κs = (known (c .before .before .before .before .before .before .before .before .before) .usable .sized, omega (arith, few (c .before .before .before .before .before .before .before .before .before)))
 
 enum-known-output : tie.Need-enum-known-output Inv-loop μ-loop
 enum-known-output c = search needs
@@ -87,11 +81,11 @@ enum-known-output c = search needs
 returns : tie.Need-returns Inv-loop μ-loop
 returns c =
     let told = c .before in
-    let s = told .before .before .before .before .before .before .before .before .before .before .before in
-    let deciding = told .before .before .before .before .before .loop .inv .1 (s .args .run) (known s) in (
+    let s = told .before .before .before .before .before .before .before .before .before .before in
+    let deciding = told .before .before .before .before .loop .inv .1 (s .args .run) (known s) in (
       refused-plan (s .args .run) _ _ _ (deciding .passed)
           (choice-above (s .args .run) _ _ _ (decided-at told (s .args .run) (known s)) (λ output kept beside sends. never (rw sends at (c .match .keys2))))
-          (told .before .before .before .before .loop-test .taken),
+          (told .before .before .before .loop-test .taken),
       λ took. absurd took,
     )
 
@@ -99,23 +93,23 @@ within-requires : tie.Need-within-requires Inv-loop μ-loop
 within-requires c κs = search needs
 
 mul-moves : tie.Need-mul-moves Inv-loop μ-loop
-mul-moves c = omega (arith, c .before .before .before .before .before .before .before .before .loop-test .taken, few (c .before .before .before .before .before .before .before .before .before .before .before .before .before .before .before))
+mul-moves c = omega (arith, c .before .before .before .before .before .before .before .loop-test .taken, few (c .before .before .before .before .before .before .before .before .before .before .before .before .before .before))
 
 array-set-from-moves : tie.Need-array-set-from-moves Inv-loop μ-loop
-array-set-from-moves c = omega (arith, c .before .before .before .before .before .before .before .before .loop-test .taken, few (c .before .before .before .before .before .before .before .before .before .before .before .before .before .before .before))
+array-set-from-moves c = omega (arith, c .before .before .before .before .before .before .before .loop-test .taken, few (c .before .before .before .before .before .before .before .before .before .before .before .before .before .before))
 
 add-k : tie.Need-add-k Inv-loop μ-loop
-add-k c = omega (arith, c .before .before .before .before .before .before .before .before .loop-test .taken, few (c .before .before .before .before .before .before .before .before .before .before .before .before .before .before .before))
+add-k c = omega (arith, c .before .before .before .before .before .before .before .loop-test .taken, few (c .before .before .before .before .before .before .before .before .before .before .before .before .before .before))
 
 loop-less : tie.Need-loop-less Inv-loop μ-loop
-loop-less c = omega (arith, c .before .before .before .before .before .before .before .before .loop-test .taken)
+loop-less c = omega (arith, c .before .before .before .before .before .before .before .loop-test .taken)
 
 loop-again : tie.Need-loop-again Inv-loop μ-loop
 loop-again c =
-    let here = c .before .before .before .before .before .before .before .before .loop-test .taken in (
+    let here = c .before .before .before .before .before .before .before .loop-test .taken in (
       omega (arith, here),
       λ run known.
-          deciding-next known (c .before .before .before .before .before .before .before .before .before .loop .inv .1 run known) here
+          deciding-next known (c .before .before .before .before .before .before .before .before .loop .inv .1 run known) here
           (sends-within run _ _ _ (sym (c .before .before .output .given .1) ∙ decided-at (c .before .before .before .before) run known)) (fits-too c),
     )
 
@@ -138,10 +132,8 @@ decide-all-spec =
     loop-holds
     mul-stage
     array-copy-out-stage
-    mul-units
-    array-copy-out-units
-    mul-t21
-    shared-slice-read-t30
+    mul-t18
+    shared-slice-read-t24
     decide-stage-requires
     enum-known-output
     returns

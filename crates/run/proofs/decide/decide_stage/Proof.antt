@@ -14,8 +14,8 @@ add-start c = search needs
 add-end : tie.Need-add-end
 add-end c = search needs
 
-single-of-requires : tie.Need-single-of-requires
-single-of-requires c κs = search needs
+operator-of-requires : tie.Need-operator-of-requires
+operator-of-requires c κs = search needs
 
 mul-decide : tie.Need-mul-decide
 mul-decide c = search needs
@@ -35,7 +35,7 @@ decide-requires c κs = search needs
 returns : tie.Need-returns
 returns c =
     let a = c .before .before .before .before .args in
-    decided-lent (now (a .words)) (a .k) _ _ _ (c .before .before .single-of .ensures) (c .decide .ensures)
+    decided-lent (now (a .words)) (a .k) _ _ (c .before .before .operator-of .ensures) (c .decide .ensures)
 
 pub decide-stage-spec : {M : Type 1} → statement M
 decide-stage-spec =
@@ -44,7 +44,7 @@ decide-stage-spec =
     mul-start
     add-start
     add-end
-    single-of-requires
+    operator-of-requires
     mul-decide
     sub-decide
     part-decide-start

@@ -3,12 +3,9 @@ use mathlib.Core.Path.{_≡_, sym, _∙_}
 use mathlib.Core.Bool.{true, false}
 use borrow.Author.Needs.{needs}
 use borrow.Author.Tests.{not-true, not-false}
-use Rattle.quantity.specs.Limits.{mostOperators}
-use Rattle.quantity.specs.Sums.{listOf}
 use Rattle.run.specs.Calls.{Call, choicesMiscounted, amountTooLarge, callOf}
 use Rattle.run.specs.Runs.{runUnusable}
 use Rattle.run.specs.Steps.{belowIn}
-use Rattle.run.specs.Watching.{unitsHeld}
 use Rattle.run.proofs.UsableRun.{usable-run, slot-left}
 use Rattle.run.proofs.SlotLaws.{arguments-pass, stored-passes, refused-arguments, refused-stored, refused-input, refused-planned, taken}
 use Rattle.run.proofs.slot.slot.Statement.{statement}
@@ -28,7 +25,6 @@ stored-passed : (c : tie.Else2) →
     let tested = c .before .before .test .result in
     (runUnusable (s .args .run) (s .args .words .now) ≡ false)
     × (tested .below .0 ≡ belowIn (s .args .run) (s .args .words .now))
-    × (tested .held ≡ listOf (unitsHeld (s .args .run) (s .args .words .now)) mostOperators)
 stored-passed c = stored-passes _ _ (c .before .before .test .ensures) (not-false _ (c .if2 .left))
 
 arguments-fit-requires : tie.Need-arguments-fit-requires
@@ -64,14 +60,13 @@ returns-3 : tie.Need-returns-3
 returns-3 c =
     let stored = c .before .before .before .before in
     let (counted, small) = arguments-passed (stored .before .before .before .before) in
-    let (usable, below, held) = stored-passed stored in
+    let (usable, below) = stored-passed stored in
     refused-input _ _ _ counted small usable below (c .before .if3 .taken) (c .refused3 .ensures)
 
 decide-all-requires : tie.Need-decide-all-requires
 decide-all-requires c κs =
-    let passed = c .before .before in
-    let (usable, below, held) = stored-passed (passed .before .before .before) in
-    ((usable, held), arguments-passed (passed .before .before .before .before .before .before .before))
+    let passed = c .before in
+    (stored-passed (passed .before .before .before) .0, arguments-passed (passed .before .before .before .before .before .before .before))
 
 enum-known-outcome : tie.Need-enum-known-outcome
 enum-known-outcome c = search needs
@@ -84,7 +79,7 @@ enum-known-outcome-2 c = search needs
 
 write-requires : tie.Need-write-requires
 write-requires c κs =
-    let passed = usable-run _ _ (stored-passed (c .before .before .before .before .before .before .before .before .before .before .before) .0) in
+    let passed = usable-run _ _ (stored-passed (c .before .before .before .before .before .before .before .before .before .before) .0) in
     (passed .sized, passed .few, slot-left _ _ passed)
 
 same-length-3 : tie.Need-same-length-3
@@ -92,9 +87,9 @@ same-length-3 c = search needs
 
 returns-4 : tie.Need-returns-4
 returns-4 c =
-    let passed = c .before .before .before .before .before .before .before in
+    let passed = c .before .before .before .before .before .before in
     let (counted, small) = arguments-passed (passed .before .before .before .before .before .before .before) in
-    let (usable, below, held) = stored-passed (passed .before .before .before) in
+    let (usable, below) = stored-passed (passed .before .before .before) in
     refused-planned _ _ _ counted small usable below (passed .if3 .left) (c .before .before .before .before .decide-all .ensures .0) (sym (c .before .before .outcome .given .1)) (c .refused4 .ensures)
 
 same-length-4 : tie.Need-same-length-4
@@ -102,9 +97,9 @@ same-length-4 c = search needs
 
 returns-5 : tie.Need-returns-5
 returns-5 c =
-    let passed = c .before .before .before .before .before .before .before .before .before .before .before in
+    let passed = c .before .before .before .before .before .before .before .before .before .before in
     let (counted, small) = arguments-passed (passed .before .before .before .before .before .before .before) in
-    let (usable, below, held) = stored-passed (passed .before .before .before) in
+    let (usable, below) = stored-passed (passed .before .before .before) in
     let planned = c .before .before .before .before .before .before .before .before .decide-all in
     let written = c .before .before .write .ensures in
     taken _ _ _ counted small usable below (passed .if3 .left) (planned .ensures .0) (sym (c .before .before .before .before .before .before .outcome2 .given .1)) _ (planned .ensures .1) (written .0) (written .1)

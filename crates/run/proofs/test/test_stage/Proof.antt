@@ -18,8 +18,8 @@ add-start c = search needs
 add-end : tie.Need-add-end
 add-end c = search needs
 
-single-of-requires : tie.Need-single-of-requires
-single-of-requires c κs = search needs
+operator-of-requires : tie.Need-operator-of-requires
+operator-of-requires c κs = search needs
 
 mul-stored-in : tie.Need-mul-stored-in
 mul-stored-in c = search needs
@@ -41,7 +41,7 @@ unfolding operatorWords part
 returns c =
     let start = c .before .before .before .before in
     let ends : operatorAtWord (start .args .k) + wordCount - operatorAtWord (start .args .k) ≡ wordCount = omega arith in
-    rw (c .before .before .single-of .ensures, ends) at (c .stored-in .ensures)
+    rw (c .before .before .operator-of .ensures, ends) at (c .stored-in .ensures)
 
 pub test-stage-spec : {M : Type 1} → statement M
 test-stage-spec =
@@ -50,7 +50,7 @@ test-stage-spec =
     mul-start
     add-start
     add-end
-    single-of-requires
+    operator-of-requires
     mul-stored-in
     sub-stored-in
     part-stored-in-start

@@ -16,8 +16,8 @@ add-start c = search needs
 add-end : tie.Need-add-end
 add-end c = search needs
 
-single-of-requires : tie.Need-single-of-requires
-single-of-requires c κs = search needs
+operator-of-requires : tie.Need-operator-of-requires
+operator-of-requires c κs = search needs
 
 mul-keep : tie.Need-mul-keep
 mul-keep c = search needs
@@ -43,8 +43,8 @@ same-length c = search needs
 returns : tie.Need-returns
 returns c =
     let called = c .before .before .before in
-    let s = called .before .before .before .before .before .before .before in
-    let (made, left) = stage-written _ _ _ _ _ (s .pre .0) (s .pre .1) (called .before .before .single-of .ensures) (called .keep .ensures .0) (called .keep .ensures .1) in
+    let s = called .before .before .before .before .before .before .before .before in
+    let (made, left) = stage-written _ _ _ _ _ (s .pre .0) (s .pre .1) (called .before .before .operator-of .ensures) (called .keep .ensures .0) (called .keep .ensures .1) in
     (stage-stays _ (called .keep .result) (λ next kept. ⊎-elim (λ e. omega arith) (λ e. omega arith) (rw kept at (c .match .keys2))) ∙ made, left)
 
 same-length-2 : tie.Need-same-length-2
@@ -52,9 +52,9 @@ same-length-2 c = search needs
 
 returns-2 : tie.Need-returns-2
 returns-2 c =
-    let s = c .before .before .before .before .before .before .before .before .before .before .before .before .before .before in
+    let s = c .before .before .before .before .before .before .before .before .before .before .before .before .before .before .before in
     let called = c .before .before .before .before .before .before .before in
-    stage-written _ _ _ _ _ (s .pre .0) (s .pre .1) (called .before .before .single-of .ensures) (sym (c .before .before .before .next .given .1) ∙ called .keep .ensures .0) (called .keep .ensures .1)
+    stage-written _ _ _ _ _ (s .pre .0) (s .pre .1) (called .before .before .operator-of .ensures) (sym (c .before .before .before .next .given .1) ∙ called .keep .ensures .0) (called .keep .ensures .1)
 
 pub write-stage-spec : {M : Type 1} → statement M
 write-stage-spec =
@@ -63,7 +63,7 @@ write-stage-spec =
     mul-start
     add-start
     add-end
-    single-of-requires
+    operator-of-requires
     mul-keep
     sub-keep
     part-keep-start
