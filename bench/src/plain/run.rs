@@ -3,7 +3,7 @@
 use super::figures::figures;
 use super::meter::{METER_WORDS, Meter};
 use super::sheet::{MOST_OPERATORS, Operator};
-use super::words::{all_zero, sum};
+use super::words::all_zero;
 use super::{LARGEST, Refusal};
 
 /// The words that a run is lent: 1,024 of the meter, then 64 of each operator.
@@ -11,12 +11,14 @@ pub const WORDS: usize = 2_048;
 
 const OPERATOR_WORDS: usize = 64;
 
-/// An operator with section 3's b and a filter's h. A delayer's b is in its words alone.
+/// An operator with section 3's b and a filter's h, and a delayer's totals of what entered and of what left, wrapping. A delayer's b is their difference.
 #[derive(Clone, Copy, Debug, PartialEq, Eq)]
 pub struct Stage {
     pub operator: Operator,
     pub held: u64,
     pub beside: u64,
+    pub entered: u32,
+    pub left: u32,
 }
 
 impl Stage {
@@ -25,6 +27,8 @@ impl Stage {
         operator: Operator::Limiter(0),
         held: 0,
         beside: 0,
+        entered: 0,
+        left: 0,
     };
 
     /// Tests the stage and its words, and answers section 3's b.
@@ -38,14 +42,13 @@ impl Stage {
         }
         let held = match self.operator {
             Operator::Delayer(delay) => {
-                let (used, unused) = words.split_at(delay as usize);
-                if self.held != 0 || !all_zero(unused) {
+                if self.held != 0 || !all_zero(&words[delay as usize..]) {
                     return Err(Refusal::Unusable);
                 }
-                sum(used)?
+                u64::from(self.entered.wrapping_sub(self.left))
             }
             _ => {
-                if !all_zero(words) {
+                if self.entered != 0 || self.left != 0 || !all_zero(words) {
                     return Err(Refusal::Unusable);
                 }
                 self.held
@@ -62,6 +65,7 @@ impl Stage {
 #[derive(Clone, Copy, Default)]
 struct Move {
     input: u64,
+    sent: u64,
     kept: u64,
     beside: u64,
 }
@@ -73,19 +77,9 @@ pub struct Run {
     pub stages: [Stage; MOST_OPERATORS],
 }
 
-/// A delayer's words after a slot: `leaving` units leave beyond those that are due, the oldest first.
-fn age(words: &mut [u32], input: u64, mut leaving: u64) {
-    let last = words.len() - 1;
-    for word in words[..last].iter_mut().rev() {
-        if leaving == 0 {
-            break;
-        }
-        let part = leaving.min(u64::from(*word));
-        *word -= part as u32;
-        leaving -= part;
-    }
-    words.copy_within(..last, 1);
-    words[0] = (input - leaving) as u32;
+/// The word of a delayer's ring that a slot reads and then writes.
+fn ring_word(k: usize, delay: u32, slot: u32) -> usize {
+    METER_WORDS + OPERATOR_WORDS * k + (slot % delay) as usize
 }
 
 impl Run {
@@ -179,8 +173,9 @@ impl Run {
                     (there.saturating_sub(beside), there)
                 }
                 Operator::Delayer(delay) => {
-                    let oldest = METER_WORDS + OPERATOR_WORDS * k + delay as usize - 1;
-                    (u64::from(words[oldest]), there)
+                    let before = words[ring_word(k, delay, slot)];
+                    let recent = stage.entered.wrapping_sub(before);
+                    (held[k].saturating_sub(u64::from(recent)), there)
                 }
             };
             if choice > greatest - least {
@@ -191,6 +186,7 @@ impl Run {
             storable &= kept <= LARGEST && beside <= LARGEST;
             moves[k] = Move {
                 input: arriving,
+                sent,
                 kept,
                 beside,
             };
@@ -209,19 +205,17 @@ impl Run {
         choices: &[u64],
         moves: &[Move; MOST_OPERATORS],
     ) {
+        let slot = self.meter.slot;
         self.meter.note(words, input);
-        for (k, &choice) in choices.iter().enumerate() {
+        for (k, moved) in moves[..choices.len()].iter().enumerate() {
             let stage = &mut self.stages[k];
             if let Operator::Delayer(delay) = stage.operator {
-                let start = METER_WORDS + OPERATOR_WORDS * k;
-                age(
-                    &mut words[start..start + delay as usize],
-                    moves[k].input,
-                    choice,
-                );
+                stage.entered = stage.entered.wrapping_add(moved.input as u32);
+                stage.left = stage.left.wrapping_add(moved.sent as u32);
+                words[ring_word(k, delay, slot)] = stage.entered;
             } else {
-                stage.held = moves[k].kept;
-                stage.beside = moves[k].beside;
+                stage.held = moved.kept;
+                stage.beside = moved.beside;
             }
         }
     }
