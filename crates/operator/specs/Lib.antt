@@ -7,6 +7,7 @@ pub mod Delayer
 pub mod Operators
 pub mod OnFlows
 pub mod FilterPart
+pub mod Stages
 pub mod Whole
 pub mod Single
 pub mod Parts
