@@ -2,6 +2,7 @@
 -- A path's figures rest on these and on nothing inside the operators. Theorems are those of source document 000.
 use mathlib.Core.Path.{_≡_}
 use mathlib.Core.Bool.{true}
+use mathlib.Core.Logic.{_↔_}
 use mathlib.Core.List.{List, [], _∷_}
 use Prim.Native.Nat.{ℕ, suc, _+_, _-_, _*_, _/_, _%_, _≤_, _<_}
 use Rattle.quantity.specs.Sums.{total, listOf}
@@ -12,6 +13,7 @@ use Rattle.operator.specs.Operators.{leastOutput, greatestOutput, heldAf
 use Rattle.operator.specs.Whole.{Whole}
 use Rattle.flow.specs.Flows.{Flow, flowOf, Smooth, Uniform, InTime, Behind, Envelope}
 use Rattle.operator.specs.OnFlows.{heldOn, outputOn, Fitting, none}
+use Rattle.operator.specs.Stages.{stageOutput, StageFits, rowOutput, RowFits}
 use Rattle.operator.specs.FilterPart.{Slowest, unfiltered, filtered, slower, Served}
 use Rattle.operator.specs.Single.{wordCount}
 use Rattle.operator.specs.Ring.{wrap, totalLess, pathHolds, pathLeast, pathGreatest, pathStateKept, ringWordNext, pathNew, pathOn}
@@ -26,6 +28,7 @@ use Rattle.operator.proofs.Compactor as Compactor
 use Rattle.operator.proofs.Expander as Expander
 use Rattle.operator.proofs.Delayer as Delayer
 use Rattle.operator.proofs.DelayerRing as DelayerRing
+use Rattle.operator.proofs.Stages as Stages
 use Rattle.operator.proofs.FilterPart as FilterPart
 use Rattle.operator.proofs.Misreadings as Misreadings
 
@@ -138,6 +141,25 @@ delayer-in-time = Delayer.delayer-in-time
 -- and it can send any flow that is in time and does not leave before it entered
 pub delayer-sends : (d : ℕ) (r s : Flow) → Behind r s → InTime d r s → (c : Flow) × Fitting (delayer d) r c × ((n : ℕ) → outputOn (delayer d) r c n ≡ s n)
 delayer-sends = Delayer.delayer-sends
+
+-- A delayer d and a row of d one-slot stages (source document 003, formula (11)): the two forms have the same outputs.
+
+-- every output of a row is allowed by the interval form: the delayer's choices are the output less its least
+pub delayer-of-row : (d : ℕ) (r : Flow) (stages : ℕ → Flow) → RowFits d r stages
+    → (c : Flow) × Fitting (delayer d) r c × ((n : ℕ) → outputOn (delayer d) r c n ≡ rowOutput d r stages n)
+delayer-of-row = Stages.delayer-of-row
+
+-- every output that the interval form allows comes from some choices in the row: behind stage i the larger has left of what left the delayer and what entered it i slots ago
+pub row-of-delayer : (d : ℕ) (r c : Flow) → Fitting (delayer d) r c
+    → (stages : ℕ → Flow) × RowFits d r stages × ((n : ℕ) → rowOutput d r stages n ≡ outputOn (delayer d) r c n)
+row-of-delayer = Stages.row-of-delayer
+
+-- a stage is a delayer 1, with the same choices
+pub stage-is-delayer : (r c : Flow) (n : ℕ) → outputOn (delayer 1) r c n ≡ stageOutput r c n
+stage-is-delayer = Stages.stage-is-delayer
+
+pub stage-fits-as-delayer : (r c : Flow) → Fitting (delayer 1) r c ↔ StageFits r c
+stage-fits-as-delayer = Stages.stage-fits-as-delayer
 
 -- The filter part (Theorems 8 to 10). r is the flow into the part, s the flow into the operator.
 

@@ -6,6 +6,7 @@ mod Compactor
 mod Expander
 mod Delayer
 pub mod DelayerRing
+mod Stages
 mod FilterPart
 mod Misreadings
 pub mod SingleLaws
