@@ -17,3 +17,4 @@ pub mod RingLaws
 pub mod PathStands
 pub mod ReferenceUnits
 pub mod ReferenceRings
+pub mod ReferenceStages
