@@ -1,5 +1,5 @@
 -- Source documents 000 and 003: what a delayer holds by age, in totals. Oldest leave first, so of the units that entered before some slot it holds what entered by then less all that left.
--- Every output of the interval keeps this, by induction on the slot number; so an output flow is a delayer's just if nothing leaves before it entered and all has left d slots later.
+-- Every output of the interval keeps this, by induction on the slot number; so a delayer's outputs are just the flows at most d slots late.
 use mathlib.Core.Path.{_≡_, sym}
 use Prim.Native.Nat.{ℕ, zero, suc, _+_, _-_, _≤_}
 use native.Mathlib.Nat.{le-refl, le-dest, lt-of-not-le, le-of-lt, zero-sub, sub-zero, suc-sub-suc, add-sub-cancel, sub-eq-zero-of-le}

@@ -1,6 +1,6 @@
--- Source document 003: a row of d one-slot stages sends what a delayer d does, any flow of which nothing leaves before it entered and all has left d slots later.
+-- Source document 003: a row of d one-slot stages sends what a delayer d does, any flow at most d slots late: nothing leaves before it entered, and all has left d slots later.
 -- Forth, stage by stage: what has left a stage by a slot's end lies between what had entered it before the slot and what has by its end.
--- Back, by the totals behind each stage i: the larger of what has to have left the row and of what entered it i slots ago.
+-- Back, by the totals behind stage i: the larger of what has left the row and what had entered it i slots ago.
 use mathlib.Core.Path.{_≡_, refl}
 use mathlib.Core.Logic.{_↔_}
 use Prim.Native.Nat.{ℕ, zero, suc, _+_, _-_, _≤_, max}
@@ -32,7 +32,7 @@ module _ (q c : Flow) (fits : StageFits q c) where
   unfolding stageOutput stageLeast
   stage-in-time n = omega (arith, stage-conserved n, total-suc (stageOutput q c) n)
 
--- a stage sends any flow that is so: the choice is what is to have left it by the slot's end less what had entered it before
+-- a stage can send any totals that lie so: its choice is what has left it by the slot's end less what had entered it before
 module _ (q c : Flow) (came left : ℕ → ℕ) (enters : (n : ℕ) → total q n ≡ came n) (start : left 0 ≡ 0)
     (low : (n : ℕ) → came n ≤ left (suc n)) (high : (n : ℕ) → left (suc n) ≤ came (suc n)) (choose : (n : ℕ) → c n ≡ left (suc n) - came n) where
   stage-holds : (n : ℕ) → came n ≡ left n + stageHeld q c n
@@ -71,12 +71,13 @@ module _ (r c : Flow) where
     λ fits n. omega (arith, fits n, stage-is-delayer n, stage-past n .0),
   )
 
--- Every flow that is so comes from some choices in the row.
+-- Every flow at most d slots late comes from some choices in the row.
 
--- what has left stage i after n slots
+-- what has left stage i after n slots, where s is to leave the row
 unfoldable pub stageTotal : Flow → Flow → ℕ → ℕ → ℕ
 stageTotal r s i n = max (total s n) (total r (n - i))
 
+-- the choices with which the stages send so
 unfoldable pub stageChoice : Flow → Flow → ℕ → Flow
 stageChoice r s i n = stageTotal r s (suc i) (suc n) - stageTotal r s i n
 
@@ -122,7 +123,7 @@ module _ (r s : Flow) (entered : Behind r s) where
       λ n. omega (arith, row-total n, row-total (suc n), total-suc (rowOutput d r (stageChoice r s)) n, total-suc s n),
     )
 
--- Every output of a row is so.
+-- Every output of a row is at most d slots late.
 
 behind-entered : (r : Flow) (c : ℕ → Flow) (i : ℕ) → RowFits i r c → Behind r (behindStages i r c)
 unfolding behindStages
