@@ -31,11 +31,17 @@ impl Record {
         mark: 0,
     };
 
-    fn in_range(&self) -> bool {
-        self.number <= LARGEST_NUMBER
-            && (1..=65_535).contains(&self.rate)
-            && self.links <= 0xFFFF
-            && self.mark <= 1
+    /// Whether a number of the record is out of its range, without a branch.
+    fn out_of_range(&self) -> bool {
+        (self.number > LARGEST_NUMBER)
+            | (self.rate.wrapping_sub(1) >= 65_535)
+            | (self.links > 0xFFFF)
+            | (self.mark > 1)
+    }
+
+    /// All bits of the record's numbers.
+    fn bits(&self) -> u32 {
+        self.number | self.rate | self.links | self.mark
     }
 
     fn is_on(&self, link: usize) -> bool {
@@ -68,6 +74,35 @@ fn links_of(path: &Path) -> u32 {
     path.places[..path.count]
         .iter()
         .fold(0, |links, place| links | 1 << place.link)
+}
+
+/// Whether two records have one number: each is compared with all before it.
+fn repeats(standing: &[Record]) -> bool {
+    let mut numbers = [0; RECORDS];
+    for (number, record) in numbers.iter_mut().zip(standing) {
+        *number = record.number;
+    }
+    let numbers = &numbers[..standing.len()];
+    let mut repeats = false;
+    for (j, number) in numbers.iter().enumerate() {
+        repeats |= numbers[..j]
+            .iter()
+            .fold(false, |same, earlier| same | (earlier == number));
+    }
+    repeats
+}
+
+/// The sums of the rates on each link: a rate is masked by its link's bit.
+fn sums(standing: &[Record]) -> [u32; LINKS] {
+    let bits: [u32; LINKS] = std::array::from_fn(|link| 1 << link);
+    let mut sums = [0_u32; LINKS];
+    for record in standing {
+        for (sum, bit) in sums.iter_mut().zip(&bits) {
+            let on = u32::from(record.links & bit != 0);
+            *sum += record.rate & on.wrapping_neg();
+        }
+    }
+    sums
 }
 
 fn find(standing: &[Record], number: u32) -> Option<usize> {
@@ -173,13 +208,12 @@ impl Ledger {
 
     /// What a link's capacity leaves to further paths, by the stored total.
     pub fn spare_rate(&self, link: u32) -> Result<u32, Refusal> {
-        let unusable = self
-            .capacities
-            .iter()
-            .zip(&self.totals)
-            .fold(false, |unusable, (&capacity, &total)| {
+        let unusable = self.capacities.iter().zip(&self.totals).fold(
+            false,
+            |unusable, (&capacity, &total)| {
                 unusable | (capacity > LARGEST_CAPACITY) | (total > capacity)
-            });
+            },
+        );
         if unusable {
             return Err(Refusal::Unusable);
         }
@@ -190,40 +224,27 @@ impl Ledger {
         Ok(self.capacities[link] - self.totals[link])
     }
 
-    /// Tests all that is stored and lent.
+    /// Tests all that is stored and lent, with as few branches as there can be.
     fn test(&self, records: &[Record]) -> Result<(), Refusal> {
-        if records.len() != RECORDS
-            || self.count > RECORDS
-            || self
-                .capacities
-                .iter()
-                .any(|&capacity| capacity > LARGEST_CAPACITY)
-        {
+        if records.len() != RECORDS || self.count > RECORDS {
             return Err(Refusal::Unusable);
         }
         let (standing, clear) = records.split_at(self.count);
-        if !standing.iter().all(Record::in_range) || clear.iter().any(|r| *r != Record::CLEAR) {
+        let out_of_range = standing
+            .iter()
+            .fold(false, |out, record| out | record.out_of_range());
+        let unclear = clear.iter().fold(0, |bits, record| bits | record.bits());
+        if out_of_range | (unclear != 0) | repeats(standing) {
             return Err(Refusal::Unusable);
         }
-        for (j, record) in standing.iter().enumerate() {
-            if find(&standing[..j], record.number).is_some() {
-                return Err(Refusal::Unusable);
-            }
-        }
-        let mut reserved = [0; LINKS];
-        for record in standing {
-            for (link, sum) in reserved.iter_mut().enumerate() {
-                if record.is_on(link) {
-                    *sum += record.rate;
-                }
-            }
-        }
-        if reserved
+        let unusable = sums(standing)
             .iter()
+            .zip(&self.totals)
             .zip(&self.capacities)
-            .any(|(sum, capacity)| sum > capacity)
-            || reserved != self.totals
-        {
+            .fold(false, |unusable, ((&sum, &total), &capacity)| {
+                unusable | (capacity > LARGEST_CAPACITY) | (sum > capacity) | (sum != total)
+            });
+        if unusable {
             return Err(Refusal::Unusable);
         }
         Ok(())

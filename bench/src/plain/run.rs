@@ -104,7 +104,7 @@ impl Run {
     pub fn slot(&mut self, words: &mut [u32], input: u64, choices: &[u64]) -> Result<u64, Refusal> {
         if choices.len() != self.count
             || input > LARGEST
-            || choices.iter().any(|&choice| choice > LARGEST)
+            || choices.iter().fold(0, |bits, &choice| bits | choice) > LARGEST
         {
             return Err(Refusal::Unusable);
         }

@@ -1,22 +1,14 @@
-//! The tests of lent words (sections 6 and 7).
+//! The tests of lent words (sections 6 and 7). Words are joined and tested once, since a test that stops early is not vectorised.
 
 use super::{LARGEST, Refusal};
-
-pub fn all_zero(words: &[u32]) -> bool {
-    words.iter().all(|&word| word == 0)
-}
-
-/// The sum of the words, each of which is an amount stored.
-pub fn sum(words: &[u32]) -> Result<u64, Refusal> {
-    if words.iter().any(|&word| u64::from(word) > LARGEST) {
-        return Err(Refusal::Unusable);
-    }
-    Ok(words.iter().map(|&word| u64::from(word)).sum())
-}
 
 /// All bits of the words. No word is above 1,073,741,823, which is 2^30 − 1, if they are not.
 pub fn bits(words: &[u32]) -> u32 {
     words.iter().fold(0, |bits, &word| bits | word)
+}
+
+pub fn all_zero(words: &[u32]) -> bool {
+    bits(words) == 0
 }
 
 /// The sum of at most 1,024 words, and all their bits. Words below 2^22 are added in 32 bits.
@@ -29,4 +21,13 @@ pub fn sum_and_bits(words: &[u32]) -> (u64, u32) {
     } else {
         (words.iter().map(|&word| u64::from(word)).sum(), bits)
     }
+}
+
+/// The sum of at most 1,024 words, each of which is an amount stored.
+pub fn sum(words: &[u32]) -> Result<u64, Refusal> {
+    let (sum, bits) = sum_and_bits(words);
+    if u64::from(bits) > LARGEST {
+        return Err(Refusal::Unusable);
+    }
+    Ok(sum)
 }
