@@ -1,7 +1,7 @@
 -- Document 02, item 10: a delayer's ring says of each age what section 3 says that the delayer holds, so a slot has the same interval and output as by age.
 -- Its least is section 3's on whatever the ring says, on any words; and what the ring says is so from new on, each slot, while what enters in d slots stays below the wrap.
 use mathlib.Core.Path.{_≡_, refl, ap, ap₂, sym, _∙_, fun-ext}
-use mathlib.Core.Bool.{true}
+use mathlib.Core.Bool.{true, false}
 use mathlib.Core.List.{List}
 use Prim.Native.Nat.{ℕ, zero, suc, _+_, _-_, _%_, _≤_, _<_, min}
 use native.Mathlib.Nat.{mod-lt, mod-eq-of-lt, mod-eq-sub-mod, mod-add-mod, add-mod-right, lt-of-not-le, le-refl, zero-sub, suc-sub-suc}
@@ -43,6 +43,12 @@ total-less-exact x y behind near = omega arith
 pub total-more-wraps : (x units : ℕ) → totalMore (x % wrap) units ≡ (x + units) % wrap
 unfolding totalMore
 total-more-wraps x units = mod-add-mod x wrap units
+
+-- what a delayer holds after a slot is exact on any totals, where so much is there to send and what stays is below the wrap, though input and output may be above it
+pub ring-held-kept : (x : PathOperator) (r s kept beside : ℕ) → usesHeld (x .operator) ≡ false → x .left < wrap → s ≤ ringHeld x + r → ringHeld x + r - s < wrap
+    → ringHeld (pathStateKept x r s kept beside) ≡ ringHeld x + r - s
+unfolding ringHeld pathStateKept totalNext totalMore totalLess
+ring-held-kept x r s kept beside delays small there near = rw delays (omega arith)
 
 -- The least, on any words.
 

@@ -1,7 +1,7 @@
 -- The laws of flows, as a list: what the operators promise of every flow, with nothing of words or code; at the end, what a delayer's words within a path say of it.
 -- A path's figures rest on these and on nothing inside the operators. Theorems are those of source document 000.
 use mathlib.Core.Path.{_≡_}
-use mathlib.Core.Bool.{true}
+use mathlib.Core.Bool.{true, false}
 use mathlib.Core.Logic.{_↔_}
 use mathlib.Core.List.{List, [], _∷_}
 use Prim.Native.Nat.{ℕ, suc, _+_, _-_, _*_, _/_, _%_, _≤_, _<_}
@@ -15,8 +15,8 @@ use Rattle.flow.specs.Flows.{Flow, flowOf, Smooth, Uniform, InTime, Behind, Env
 use Rattle.operator.specs.OnFlows.{heldOn, outputOn, Fitting, none}
 use Rattle.operator.specs.Stages.{stageOutput, StageFits, rowOutput, RowFits}
 use Rattle.operator.specs.FilterPart.{Slowest, unfiltered, filtered, slower, Served}
-use Rattle.operator.specs.Single.{wordCount}
-use Rattle.operator.specs.Ring.{wrap, totalLess, pathHolds, pathLeast, pathGreatest, pathStateKept, ringWordNext, pathNew, pathOn}
+use Rattle.operator.specs.Single.{wordCount, usesHeld}
+use Rattle.operator.specs.Ring.{wrap, totalLess, ringHeld, pathHolds, pathLeast, pathGreatest, pathStateKept, ringWordNext, pathNew, pathOn}
 use Rattle.operator.specs.declared.Operator.{Operator}
 use Rattle.operator.specs.declared.Operator.the-variants.{Filter}
 use Rattle.operator.specs.declared.ring.PathOperator.{PathOperator}
@@ -218,6 +218,11 @@ not-smooth-behind-limiter = Misreadings.not-smooth-behind-limiter
 -- the wrapping difference of two totals is exact where less than 2^32 lies between them
 pub total-less-exact : (x y : ℕ) → y ≤ x → x < y + wrap → totalLess (x % wrap) (y % wrap) ≡ x - y
 total-less-exact = DelayerRing.total-less-exact
+
+-- what a delayer holds after a slot is exact on any totals, where so much is there to send and what stays is below the wrap, though input and output may be above it
+pub ring-held-kept : (x : PathOperator) (r s kept beside : ℕ) → usesHeld (x .operator) ≡ false → x .left < wrap → s ≤ ringHeld x + r → ringHeld x + r - s < wrap
+    → ringHeld (pathStateKept x r s kept beside) ≡ ringHeld x + r - s
+ring-held-kept = DelayerRing.ring-held-kept
 
 -- a slot's least is section 3's on what the state and the words say of each age, whatever they are, so its interval is
 pub ring-least : (x : PathOperator) (words : List ℕ) (r : ℕ) → numberInRange (x .operator) ≡ true → pathLeast x words r ≡ leastOutput (x .operator) (x .slot .0) (pathHolds x words) r
