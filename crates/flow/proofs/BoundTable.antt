@@ -4,45 +4,22 @@ use mathlib.Core.List.{List}
 use mathlib.Core.Bool.{Bool, true, false}
 use mathlib.Core.Logic.{_⊎_, inl, inr, ⊎-elim}
 use Prim.Native.Nat.{ℕ, zero, suc, _+_, _-_, _*_, _≤_, _<_, min}
-use native.Mathlib.Nat.{suc-mul, mul-le-mul-right, eq-or-lt-of-le}
+use native.Mathlib.Nat.{zero-mul, suc-mul, mul-le-mul-right, eq-or-lt-of-le}
 use native.Mathlib.Omega.{arith}
 use lib.Dec.{ltb}
 use lib.ListN.{length, getD, set}
 use lib.Seq.{getD-set-same, getD-set-other}
 use borrow.Author.Tests.{ltb-true, ltb-false}
-use Rattle.flow.specs.Rows.{Row, rowsMost}
-use Rattle.flow.specs.Bounds.{boundLength, Remade}
-use Rattle.flow.proofs.Rows.{from-below, rows-none, one-step, rows-step}
+use Rattle.quantity.specs.Sums.{listOf}
+use Rattle.quantity.proofs.Sums.{length-listOf, getD-listOf, listOf-ext}
+use Rattle.flow.specs.Rows.{Row, Most, units, behindRows, unitsIn, rowsMost}
+use Rattle.flow.specs.Bounds.{largestSigned, RowInside, RowsInside, Sized, Table, withRow, Remade, lowered, Lowers}
+use Rattle.flow.proofs.RowsWindows.{rows-at-most}
+use Rattle.flow.proofs.Rows.{from-below, behind-number, rows-none, one-step, rows-step}
 
 -- entry n of a table
 abbrev pub entry : List ℕ → ℕ → ℕ
 entry table n = getD table n 0
-
-module _ (table : ℕ → ℕ) (size : ℕ) (rows : ℕ → Row) where
-  pub first-table : 1 ≤ rows 0 .interval → table 0 ≡ 0 → ((n : ℕ) → 1 ≤ n → n < size → table n ≡ rows 0 .quota + table (n - rows 0 .interval))
-      → (n : ℕ) → n < size → table n ≡ rowsMost rows 1 n
-  first-table large none steps = from-below by-slots
-    where
-      by-slots : (n : ℕ) → ((j : ℕ) → j < n → j < size → table j ≡ rowsMost rows 1 j) → n < size → table n ≡ rowsMost rows 1 n
-      by-slots zero below inside = none ∙ sym (rows-none rows 1)
-      by-slots (suc n) below inside =
-          let less : suc n - rows 0 .interval < suc n = omega arith in
-          steps (suc n) (omega arith) inside ∙ ap (λ (t : ℕ). rows 0 .quota + t) (below (suc n - rows 0 .interval) less (omega arith)) ∙ sym (one-step rows large (suc n) (omega arith))
-
-  module _ (k : ℕ) (some : 1 ≤ k) (large : (i : ℕ) → i < suc k → 1 ≤ rows i .interval) where
-    pub next-table : (before : ℕ → ℕ) → ((n : ℕ) → n < size → before n ≡ rowsMost rows k n) → table 0 ≡ 0
-        → ((n : ℕ) → 1 ≤ n → n < size → table n ≡ min (before n) (rows k .quota + table (n - rows k .interval)))
-        → (n : ℕ) → n < size → table n ≡ rowsMost rows (suc k) n
-    next-table before earlier none steps = from-below by-slots
-      where
-        by-slots : (n : ℕ) → ((j : ℕ) → j < n → j < size → table j ≡ rowsMost rows (suc k) j) → n < size → table n ≡ rowsMost rows (suc k) n
-        by-slots zero below inside = none ∙ sym (rows-none rows (suc k))
-        by-slots (suc n) below inside =
-            let positive = large k (omega arith) in
-            let less : suc n - rows k .interval < suc n = omega arith in
-            steps (suc n) (omega arith) inside
-            ∙ ap₂ min (earlier (suc n) inside) (ap (λ (t : ℕ). rows k .quota + t) (below (suc n - rows k .interval) less (omega arith)))
-            ∙ sym (rows-step rows k some (λ i h. large i (omega arith)) positive (suc n) (omega arith))
 
 -- an entry is below a place, or from it on
 below-or-from : (j n : ℕ) → (j < n) ⊎ (n ≤ j)
@@ -69,53 +46,6 @@ remade-next before table from n v made remade begun inside here =
       rest = λ j late. other j (λ e. absurd (omega arith)) ∙ remade .rest j (omega arith);
     }
 
--- Below n the entries follow a rule of the entry that the interval m leaves, and from n on they are as before.
-pub record Follows (m : ℕ) (rule : ℕ → ℕ → ℕ) (before table : List ℕ) (n : ℕ) : Type 0 where
-  pub size : length table ≡ boundLength
-  pub begun : 1 ≤ n
-  pub short : n ≤ boundLength
-  pub none : entry table 0 ≡ 0
-  pub steps : (j : ℕ) → 1 ≤ j → j < n → entry table j ≡ rule j (entry table (j - m))
-  pub rest : (j : ℕ) → n ≤ j → entry table j ≡ entry before j
-  pub small : (j : ℕ) → j < n → entry table j ≤ j * 65_535
-
-pub follows-start : (m : ℕ) (rule : ℕ → ℕ → ℕ) (table : List ℕ) → length table ≡ boundLength → entry table 0 ≡ 0 → Follows m rule table table 1
-follows-start m rule table size none =
-    record { size = size; begun = omega arith; short = omega arith; none = none; steps = λ j positive less. absurd (omega arith); rest = λ j less. refl; small = λ j less. first j less }
-  where
-    first : (j : ℕ) → j < 1 → entry table j ≤ j * 65_535
-    first zero less = omega (arith, none)
-    first (suc j) less = absurd (omega arith)
-
--- one block more, whose entries go by entries before it alone
-pub follows-block : (m : ℕ) (rule : ℕ → ℕ → ℕ) (before table after : List ℕ) (from end : ℕ) (made : ℕ → ℕ)
-    → ((j x : ℕ) → 1 ≤ j → x ≤ (j - m) * 65_535 → rule j x ≤ j * 65_535)
-    → Follows m rule before table from → from ≤ end → end ≤ from + m → end ≤ boundLength
-    → length after ≡ length table → Remade table after from end made → ((j : ℕ) → from ≤ j → j < end → made j ≡ rule j (entry table (j - m)))
-    → Follows m rule before after end
-follows-block m rule before table after from end made few follows onward short inside same remade step =
-    let begun = follows .begun in
-    let new : (j : ℕ) → from ≤ j → j < end → entry after j ≡ rule j (entry table (j - m)) = λ j late early. remade .anew j late early ∙ step j late early in
-    record {
-      size = same ∙ follows .size;
-      begun = omega arith;
-      short = inside;
-      none = remade .below 0 begun ∙ follows .none;
-      steps =
-          λ j some early.
-          ⊎-elim
-          (λ less. remade .below j less ∙ follows .steps j some less ∙ ap (rule j) (sym (remade .below (j - m) (omega arith))))
-          (λ late. new j late early ∙ ap (rule j) (sym (remade .below (j - m) (omega arith))))
-          (below-or-from j from);
-      rest = λ j late. remade .rest j late ∙ follows .rest j (omega arith);
-      small =
-          λ j early.
-          ⊎-elim
-          (λ less. omega (arith, remade .below j less, follows .small j less))
-          (λ late. omega (arith, new j late early, few j (entry table (j - m)) (omega arith) (follows .small (j - m) (omega arith))))
-          (below-or-from j from);
-    }
-
 -- a quota and the entry that the interval leaves is no more than so many a slot
 pub used-small : (m q n x : ℕ) → 1 ≤ m → 1 ≤ n → q ≤ 65_535 → x ≤ (n - m) * 65_535 → q + x ≤ n * 65_535
 used-small m q n x positive begun few small =
@@ -124,3 +54,198 @@ used-small m q n x positive begun few small =
   where
     le-of-lt-suc : (m n : ℕ) → 1 ≤ m → 1 ≤ n → suc (n - m) ≤ n
     le-of-lt-suc m n positive begun = omega arith
+
+-- A table with one row more.
+
+module _ (m Q : ℕ) (before : List ℕ) (large : 1 ≤ m) (nothing : entry before 0 ≡ 0) where
+  abbrev earlier : ℕ → Most
+  earlier j = units (entry before j)
+
+  abbrev row : Row
+  row = record { interval = m; quota = Q }
+
+  abbrev most : ℕ → ℕ
+  most n = unitsIn (behindRows earlier row n)
+
+  most-none : most 0 ≡ 0
+  unfolding behindRows unitsIn
+  most-none = refl
+
+  most-step : (n : ℕ) → 1 ≤ n → most n ≡ min (entry before n) (Q + most (n - m))
+  most-step n some = behind-number earlier row (ap units nothing) large n (entry before n) some refl
+
+  pub with-row-size : length (withRow m Q before) ≡ length before
+  unfolding withRow
+  with-row-size = length-listOf most (length before)
+
+  with-row-at : (n : ℕ) → n < length before → entry (withRow m Q before) n ≡ most n
+  unfolding withRow
+  with-row-at = getD-listOf 0 most (length before)
+
+  pub with-row-none : 1 ≤ length before → entry (withRow m Q before) 0 ≡ 0
+  with-row-none some = with-row-at 0 some ∙ most-none
+
+  pub with-row-step : (n : ℕ) → 1 ≤ n → n < length before → entry (withRow m Q before) n ≡ min (entry before n) (Q + entry (withRow m Q before) (n - m))
+  with-row-step n some inside =
+      with-row-at n inside ∙ most-step n some ∙ ap (λ (x : ℕ). min (entry before n) (Q + x)) (sym (with-row-at (n - m) (omega arith)))
+
+  -- a table whose entries follow the step is that one
+  pub with-row-of : (table : List ℕ) → length table ≡ length before → entry table 0 ≡ 0
+      → ((n : ℕ) → 1 ≤ n → n < length before → entry table n ≡ min (entry before n) (Q + entry table (n - m))) → table ≡ withRow m Q before
+  unfolding withRow
+  with-row-of table size none steps = listOf-ext 0 most (length before) table size (from-below by-slots)
+    where
+      by-slots : (n : ℕ) → ((j : ℕ) → j < n → j < length before → entry table j ≡ most j) → n < length before → entry table n ≡ most n
+      by-slots zero below inside = none ∙ sym most-none
+      by-slots (suc n) below inside =
+          steps (suc n) (omega arith) inside
+          ∙ ap (λ (x : ℕ). min (entry before (suc n)) (Q + x)) (below (suc n - m) (omega arith) (omega arith))
+          ∙ sym (most-step (suc n) (omega arith))
+
+-- Below n the entries follow the step of one row more, and from n on they are as before.
+pub record Follows (m Q : ℕ) (before table : List ℕ) (n : ℕ) : Type 0 where
+  pub size : length table ≡ length before
+  pub begun : 1 ≤ n
+  pub short : n ≤ length before
+  pub none : entry table 0 ≡ 0
+  pub steps : (j : ℕ) → 1 ≤ j → j < n → entry table j ≡ min (entry before j) (Q + entry table (j - m))
+  pub rest : (j : ℕ) → n ≤ j → entry table j ≡ entry before j
+  pub small : (j : ℕ) → j < n → entry table j ≤ j * 65_535
+
+pub follows-start : (m Q : ℕ) (table : List ℕ) → Table table → Follows m Q table table 1
+follows-start m Q table given =
+    let long = given .sized .long in
+    record { size = refl; begun = omega arith; short = omega arith; none = given .none; steps = λ j positive less. absurd (omega arith); rest = λ j less. refl; small = λ j less. first j less }
+  where
+    first : (j : ℕ) → j < 1 → entry table j ≤ j * 65_535
+    first zero less = omega (arith, given .none)
+    first (suc j) less = absurd (omega arith)
+
+module _ (m Q : ℕ) (before : List ℕ) (given : Table before) (large : 1 ≤ m) (few : Q ≤ 65_535) where
+  -- one block more, whose entries go by entries before it alone
+  pub follows-block : (table after : List ℕ) (from end : ℕ) (made : ℕ → ℕ) → Follows m Q before table from → from ≤ end → end ≤ from + m → end ≤ length before
+      → length after ≡ length table → Remade table after from end made → ((j : ℕ) → from ≤ j → j < end → made j ≡ min (entry before j) (Q + entry table (j - m)))
+      → Follows m Q before after end
+  follows-block table after from end made follows onward short inside same remade step =
+      let begun = follows .begun in
+      let new : (j : ℕ) → from ≤ j → j < end → entry after j ≡ min (entry before j) (Q + entry table (j - m)) = λ j late early. remade .anew j late early ∙ step j late early in
+      let read : (j : ℕ) → 1 ≤ j → j < end → entry table (j - m) ≡ entry after (j - m) = λ j some early. sym (remade .below (j - m) (omega arith)) in
+      record {
+        size = same ∙ follows .size;
+        begun = omega arith;
+        short = inside;
+        none = remade .below 0 begun ∙ follows .none;
+        steps =
+            λ j some early.
+            ⊎-elim
+            (λ less. remade .below j less ∙ follows .steps j some less)
+            (λ late. new j late early)
+            (below-or-from j from)
+            ∙ ap (λ (x : ℕ). min (entry before j) (Q + x)) (read j some early);
+        rest = λ j late. remade .rest j late ∙ follows .rest j (omega arith);
+        small =
+            λ j early.
+            ⊎-elim
+            (λ less. omega (arith, remade .below j less, follows .small j less))
+            (λ late. omega (arith, new j late early, used-small m Q j (entry table (j - m)) large (omega arith) few (follows .small (j - m) (omega arith))))
+            (below-or-from j from);
+      }
+
+  -- what is worked out of the entries of a table that is on the way fits
+  pub follows-fits : (table : List ℕ) (from : ℕ) → Follows m Q before table from → (j : ℕ) → from ≤ j → j < from + m → j < length before
+      → (entry table j ≤ largestSigned) × (Q + entry table (j - m) ≤ largestSigned)
+  follows-fits table from follows j late early inside =
+      let short = given .sized .short in
+      let begun = follows .begun in
+      (omega (arith, follows .rest j late, given .fits j inside), omega (arith, follows .small (j - m) (omega arith)))
+
+  pub follows-lowers : (table : List ℕ) (from end : ℕ) → Follows m Q before table from → m ≤ from → from ≤ end → end ≤ from + m → end ≤ length before → Lowers table from end m Q
+  follows-lowers table from end follows behind onward short inside =
+      record { behind = behind; onward = onward; inside = omega (arith, follows .size); fits = λ j late early. follows-fits table from follows j late (omega arith) (omega arith) }
+
+  pub follows-lowered : (table after : List ℕ) (from end : ℕ) → Follows m Q before table from → from ≤ end → end ≤ from + m → end ≤ length before
+      → length after ≡ length table → Remade table after from end (lowered table m Q) → Follows m Q before after end
+  follows-lowered table after from end follows onward short inside same remade =
+      follows-block table after from end (lowered table m Q) follows onward short inside same remade
+      (λ j late early. ap (λ (x : ℕ). min x (Q + entry table (j - m))) (follows .rest j late))
+
+  -- all entries are made
+  pub follows-all : (table : List ℕ) → Follows m Q before table (length before) → table ≡ withRow m Q before
+  follows-all table follows = with-row-of m Q before large (given .none) table (follows .size) (follows .none) (follows .steps)
+
+-- The tables of rows.
+
+pub sized-same : (before after : List ℕ) → length after ≡ length before → Sized before → Sized after
+sized-same before after same sized =
+    let long = sized .long in
+    let short = sized .short in
+    record { long = omega arith; short = omega arith }
+
+module _ (rows : ℕ → Row) where
+  -- a row of one slot: its quota for each
+  pub each-slot-most : rows 0 .interval ≡ 1 → (n : ℕ) → rowsMost rows 1 n ≡ n * rows 0 .quota
+  each-slot-most one zero = rows-none rows 1 ∙ sym (zero-mul (rows 0 .quota))
+  each-slot-most one (suc n) =
+      let less : suc n - rows 0 .interval ≡ n = omega arith in
+      omega (arith, one-step rows (omega arith) (suc n) (omega arith), ap (rowsMost rows 1) less, each-slot-most one n, suc-mul n (rows 0 .quota))
+
+  -- the first row behind what it does not reach
+  pub first-table : (before : List ℕ) → Table before → ((n : ℕ) → 1 ≤ n → n < length before → entry before n ≡ largestSigned) → RowInside (rows 0)
+      → withRow (rows 0 .interval) (rows 0 .quota) before ≡ listOf (rowsMost rows 1) (length before)
+  first-table before given unreached inside = listOf-ext 0 (rowsMost rows 1) (length before) after (with-row-size (rows 0 .interval) (rows 0 .quota) before (inside .large) (given .none)) (from-below by-slots)
+    where
+      only : (i : ℕ) → i < 1 → (1 ≤ rows i .interval) × (rows i .quota ≤ 65_535)
+      only zero less = (inside .large, inside .few)
+      only (suc i) less = absurd (omega arith)
+
+      after : List ℕ
+      after = withRow (rows 0 .interval) (rows 0 .quota) before
+
+      by-slots : (n : ℕ) → ((j : ℕ) → j < n → j < length before → entry after j ≡ rowsMost rows 1 j) → n < length before → entry after n ≡ rowsMost rows 1 n
+      by-slots zero below less = with-row-none (rows 0 .interval) (rows 0 .quota) before (inside .large) (given .none) less ∙ sym (rows-none rows 1)
+      by-slots (suc n) below less =
+          let short = given .sized .short in
+          let most = rows-at-most rows 1 65_535 (omega arith) only (suc n) in
+          omega (
+            arith,
+            with-row-step (rows 0 .interval) (rows 0 .quota) before (inside .large) (given .none) (suc n) (omega arith) less,
+            unreached (suc n) (omega arith) less,
+            below (suc n - rows 0 .interval) (omega arith) (omega arith),
+            one-step rows (inside .large) (suc n) (omega arith),
+            mul-le-mul-right 65_535 less,
+          )
+
+  module _ (k : ℕ) (some : 1 ≤ k) (size : ℕ) (table : List ℕ) (filled : table ≡ listOf (rowsMost rows k) size) where
+    rows-size : length table ≡ size
+    rows-size = ap length filled ∙ length-listOf (rowsMost rows k) size
+
+    rows-entry : (n : ℕ) → n < size → entry table n ≡ rowsMost rows k n
+    rows-entry n less = ap (λ (l : List ℕ). entry l n) filled ∙ getD-listOf 0 (rowsMost rows k) size n less
+
+    pub rows-table : Sized table → RowsInside rows k → Table table
+    rows-table sized inside =
+        let same = rows-size in
+        let long = sized .long in
+        let short = sized .short in
+        record {
+          sized = sized;
+          none = rows-entry 0 (omega arith) ∙ rows-none rows k;
+          fits = λ j less. omega (arith, rows-entry j (omega arith), rows-at-most rows k 65_535 some (λ i h. (inside i h .large, inside i h .few)) j, mul-le-mul-right 65_535 less);
+        }
+
+    -- one row more
+    pub next-table : Table table → RowsInside rows (suc k) → withRow (rows k .interval) (rows k .quota) table ≡ listOf (rowsMost rows (suc k)) size
+    next-table given inside = listOf-ext 0 (rowsMost rows (suc k)) size after (with-row-size (rows k .interval) (rows k .quota) table large (given .none) ∙ rows-size) (from-below by-slots)
+      where
+        large : 1 ≤ rows k .interval
+        large = inside k (omega arith) .large
+
+        after : List ℕ
+        after = withRow (rows k .interval) (rows k .quota) table
+
+        by-slots : (n : ℕ) → ((j : ℕ) → j < n → j < size → entry after j ≡ rowsMost rows (suc k) j) → n < size → entry after n ≡ rowsMost rows (suc k) n
+        by-slots zero below less = with-row-none (rows k .interval) (rows k .quota) table large (given .none) (omega (arith, rows-size)) ∙ sym (rows-none rows (suc k))
+        by-slots (suc n) below less =
+            with-row-step (rows k .interval) (rows k .quota) table large (given .none) (suc n) (omega arith) (omega (arith, rows-size))
+            ∙ ap₂ min (rows-entry (suc n) less) (ap (λ (t : ℕ). rows k .quota + t) (below (suc n - rows k .interval) (omega (arith, large)) (omega arith)))
+            ∙ sym (rows-step rows k some (λ i h. inside i (omega arith) .large) large (suc n) (omega arith))

@@ -67,6 +67,13 @@ unfolding leastOf
 least-with q f g more zero = more 0
 least-with q f g more (suc n) = ap₂ smaller (least-with q f g more n) (more (suc n)) ∙ sym (with-smaller q (leastOf g n) (g (suc n)))
 
+-- whatever the earlier rows allow, the last is a bound
+smaller-bounded : (q : ℕ) (a b : Most) {c : Most} → c ≡ smaller a (withUnits q b) → b ≡ units (unitsIn b) → c ≡ units (unitsIn c)
+unfolding smaller withUnits unitsIn
+smaller-bounded q a unbounded e bounded = let z : _≡_ {A = ℕ} 0 1 = cc in absurd (omega arith)
+smaller-bounded q unbounded (units b) e bounded = e ∙ ap (λ (c : Most). units (unitsIn c)) (sym e)
+smaller-bounded q (units a) (units b) e bounded = e ∙ ap (λ (c : Most). units (unitsIn c)) (sym e)
+
 -- l uses of a row, and the earlier rows in what is left
 uses : (ℕ → Most) → Row → ℕ → ℕ → Most
 uses earlier row n l = withUnits (l * row .quota) (earlier (n - l * row .interval))
@@ -98,6 +105,22 @@ module _ (earlier : ℕ → Most) (row : Row) (nothing : earlier 0 ≡ units 0) 
       ∙ ap₂ smaller (no-use n) (least-with (row .quota) (λ l. uses earlier row n (suc l)) (uses earlier row (n - m)) (one-use n) (roundUp (n - m) m))
       ∙ ap (λ (a : Most). smaller (earlier n) (withUnits (row .quota) a)) (sym (behind-least (n - m)))
 
+  behind-nothing : behindRows earlier row 0 ≡ units (unitsIn (behindRows earlier row 0))
+  unfolding behindRows unitsIn
+  behind-nothing = refl
+
+  behind-bounded : (n : ℕ) → behindRows earlier row n ≡ units (unitsIn (behindRows earlier row n))
+  behind-bounded = from-below by-slots
+    where
+      by-slots : (n : ℕ) → ((j : ℕ) → j < n → behindRows earlier row j ≡ units (unitsIn (behindRows earlier row j))) → behindRows earlier row n ≡ units (unitsIn (behindRows earlier row n))
+      by-slots zero below = behind-nothing
+      by-slots (suc n) below = smaller-bounded (row .quota) (earlier (suc n)) (behindRows earlier row (suc n - m)) (behind-step (suc n) (omega arith)) (below (suc n - m) (omega arith))
+
+  -- as numbers, where the earlier rows have a bound
+  pub behind-number : (n a : ℕ) → 1 ≤ n → earlier n ≡ units a → unitsIn (behindRows earlier row n) ≡ min a (row .quota + unitsIn (behindRows earlier row (n - m)))
+  unfolding smaller withUnits unitsIn
+  behind-number n a some here = ap unitsIn (behind-step n some ∙ ap₂ (λ (x y : Most). smaller x (withUnits (row .quota) y)) here (behind-bounded (n - m)))
+
 -- Rows.
 
 rows-nothing : (rows : ℕ → Row) (k : ℕ) → mostOfRows rows k 0 ≡ units 0
@@ -109,27 +132,14 @@ pub rows-none : (rows : ℕ → Row) (k : ℕ) → rowsMost rows k 0 ≡ 0
 unfolding rowsMost unitsIn
 rows-none rows k = ap unitsIn (rows-nothing rows k)
 
--- whatever the earlier rows allow, the last is a bound
-smaller-bounded : (q : ℕ) (a b : Most) {c : Most} → c ≡ smaller a (withUnits q b) → b ≡ units (unitsIn b) → c ≡ units (unitsIn c)
-unfolding smaller withUnits unitsIn
-smaller-bounded q a unbounded e bounded = let z : _≡_ {A = ℕ} 0 1 = cc in absurd (omega arith)
-smaller-bounded q unbounded (units b) e bounded = e ∙ ap (λ (c : Most). units (unitsIn c)) (sym e)
-smaller-bounded q (units a) (units b) e bounded = e ∙ ap (λ (c : Most). units (unitsIn c)) (sym e)
-
 module _ (rows : ℕ → Row) (k : ℕ) (large : 1 ≤ rows k .interval) where
   most-step : (n : ℕ) → 1 ≤ n → mostOfRows rows (suc k) n ≡ smaller (mostOfRows rows k n) (withUnits (rows k .quota) (mostOfRows rows (suc k) (n - rows k .interval)))
   unfolding mostOfRows
   most-step = behind-step (mostOfRows rows k) (rows k) (rows-nothing rows k) large
 
   last-bounded : (n : ℕ) → mostOfRows rows (suc k) n ≡ units (rowsMost rows (suc k) n)
-  unfolding rowsMost unitsIn
-  last-bounded = from-below by-slots
-    where
-      by-slots : (n : ℕ) → ((j : ℕ) → j < n → mostOfRows rows (suc k) j ≡ units (rowsMost rows (suc k) j)) → mostOfRows rows (suc k) n ≡ units (rowsMost rows (suc k) n)
-      by-slots zero below = rows-nothing rows (suc k) ∙ ap (λ (c : Most). units (unitsIn c)) (sym (rows-nothing rows (suc k)))
-      by-slots (suc n) below =
-          smaller-bounded (rows k .quota) (mostOfRows rows k (suc n)) (mostOfRows rows (suc k) (suc n - rows k .interval)) (most-step (suc n) (omega arith))
-          (below (suc n - rows k .interval) (omega arith))
+  unfolding rowsMost mostOfRows
+  last-bounded = behind-bounded (mostOfRows rows k) (rows k) (rows-nothing rows k) large
 
   last-step : (n : ℕ) → 1 ≤ n → mostOfRows rows (suc k) n ≡ smaller (mostOfRows rows k n) (units (rows k .quota + rowsMost rows (suc k) (n - rows k .interval)))
   unfolding withUnits

@@ -1,13 +1,13 @@
 -- Document 02, item 6: the most that several rows allow, as a table.
 use mathlib.Core.Path.{_≡_}
-use Prim.Native.Nat.{ℕ, _≤_, _<_}
+use Prim.Native.Nat.{ℕ, _+_, _-_, _≤_, _<_, min}
 use mathlib.Core.Bool.{Bool}
 use mathlib.Core.List.{List, []}
 use lib.ListN.{length, getD}
 use lib.Dec.{eqb}
 use Rattle.quantity.specs.Choice.{pick, both}
 use Rattle.quantity.specs.Sums.{listOf}
-use Rattle.flow.specs.Rows.{Row, rowsMost}
+use Rattle.flow.specs.Rows.{Row, units, behindRows, unitsIn, rowsMost}
 use Rattle.flow.specs.Classes.{Class, smooth, uniform, rows}
 use Rattle.flow.specs.Declarations.{hasRows, severalAt, declarationInRange}
 use Rattle.flow.specs.declared.Declaration.{Declaration}
@@ -43,11 +43,41 @@ pub record RowInside (row : Row) : Type 0 where
 abbrev pub RowsInside : (ℕ → Row) → ℕ → Type 0
 RowsInside given k = (i : ℕ) → i < k → RowInside (given i)
 
+-- the largest signed number of 32 bits
+abbrev pub largestSigned : ℕ
+largestSigned = 2_147_483_647
+
+-- a table of at least an interval's slots
+pub record Sized (table : List ℕ) : Type 0 where
+  pub long : 1_025 ≤ length table
+  pub short : length table ≤ boundLength
+
+-- and with nothing in no slots, and in the others what fits a signed number
+pub record Table (table : List ℕ) : Type 0 where
+  pub sized : Sized table
+  pub none : getD table 0 0 ≡ 0
+  pub fits : (j : ℕ) → j < length table → getD table j 0 ≤ largestSigned
+
+-- a table with one row more
+unfoldable pub withRow : ℕ → ℕ → List ℕ → List ℕ
+withRow m Q table = listOf (λ n. unitsIn (behindRows (λ j. units (getD table j 0)) (record { interval = m; quota = Q }) n)) (length table)
+
 -- the entries from one place to before another are made anew, each by its place, and the others are as they were
 pub record Remade (before after : List ℕ) (from end : ℕ) (made : ℕ → ℕ) : Type 0 where
   pub anew : (j : ℕ) → from ≤ j → j < end → getD after j 0 ≡ made j
   pub below : (j : ℕ) → j < from → getD after j 0 ≡ getD before j 0
   pub rest : (j : ℕ) → end ≤ j → getD after j 0 ≡ getD before j 0
+
+-- an entry with one row more: it is not used, or once more than in the slots that its interval leaves
+abbrev pub lowered : List ℕ → ℕ → ℕ → ℕ → ℕ
+lowered table m Q j = min (getD table j 0) (Q + getD table (j - m) 0)
+
+-- so many entries stand behind an interval's, and what is worked out of them fits
+pub record Lowers (table : List ℕ) (from end m Q : ℕ) : Type 0 where
+  pub behind : m ≤ from
+  pub onward : from ≤ end
+  pub inside : end ≤ length table
+  pub fits : (j : ℕ) → from ≤ j → j < end → (getD table j 0 ≤ largestSigned) × (Q + getD table (j - m) 0 ≤ largestSigned)
 
 -- a class whose numbers fit what is worked out of it: an interval and a quota that refusal 7 lets pass
 pub record PairWithin (m Q : ℕ) : Type 0 where

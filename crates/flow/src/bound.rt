@@ -4,13 +4,12 @@
 use crate::Declaration;
 use crate::DeclaredRow;
 ghost use mathlib.Core.Path.{_≡_};
-ghost use Prim.Native.Nat.{ℕ, suc, _+_, _-_, _≤_, _<_, min};
+ghost use Prim.Native.Nat.{ℕ, suc, _+_, _-_, _*_, _≤_, _<_, min};
 ghost use lib.ListN.{length, getD};
 ghost use Rattle.quantity.specs.Sums.{listOf};
-ghost use Rattle.quantity.specs.Limits.{largest32, largest64};
 ghost use Rattle.flow.specs.Rows.{rowsMost};
 ghost use Rattle.flow.specs.Declarations.{emptyRow, rowOf};
-ghost use Rattle.flow.specs.Bounds.{boundLength, boundable, boundFilled, pairAt, RowsInside, Remade};
+ghost use Rattle.flow.specs.Bounds.{largestSigned, boundable, boundFilled, pairAt, RowsInside, Sized, Table, withRow, Remade, Lowers, lowered};
 
 // The entries of a table: the most in 0 to 1,984 slots, as many as figures ask for at the most.
 pub const LENGTH: usize = 1985;
@@ -52,8 +51,8 @@ fn pairs(rows: [DeclaredRow; 4]) -> [[u32; 2]; 4]
 
 // With one row left entry n is ⌈n/m⌉·Q; else the same of one row less, and then the last of them is used or not.
 fn fill_rows(table: &mut [u32], rows: [[u32; 2]; 4], left: usize)
-    requires { ⌜ (length (now table) ≡ boundLength) × (1 ≤ left) × (left ≤ 4) × RowsInside (pairAt rows) left ⌝ }
-    ensures { λ r. ⌜ now (table .exit) ≡ listOf (rowsMost (pairAt rows) left) boundLength ⌝ }
+    requires { ⌜ Sized (now table) × (1 ≤ left) × (left ≤ 4) × RowsInside (pairAt rows) left ⌝ }
+    ensures { λ r. ⌜ now (table .exit) ≡ listOf (rowsMost (pairAt rows) left) (length (now (table .entry))) ⌝ }
 {
     let last = left - 1;
     if last == 0 {
@@ -64,36 +63,144 @@ fn fill_rows(table: &mut [u32], rows: [[u32; 2]; 4], left: usize)
     next_row(table, rows, last);
 }
 
-fn smaller(a: u32, b: u32) -> u32
-    ensures { λ r. ⌜ r ≡ min a b ⌝ }
+// The first row alone. In each slot it is used once more; over longer intervals it is one row more where there was no bound.
+fn first_row(table: &mut [u32], rows: [[u32; 2]; 4])
+    requires { ⌜ Sized (now table) × RowsInside (pairAt rows) 1 ⌝ }
+    ensures { λ r. ⌜ now (table .exit) ≡ listOf (rowsMost (pairAt rows) 1) (length (now (table .entry))) ⌝ }
 {
-    if a <= b { a } else { b }
+    let interval = rows[0][0] as usize;
+    let quota = rows[0][1];
+    table[0] = 0;
+    if interval == 1 {
+        each_slot(table, quota);
+        return;
+    }
+    no_bound(table);
+    with_row(table, interval, quota);
 }
 
-// Where a block that is as long as the interval ends, cut off at the table's end.
-fn block_end(from: usize, interval: usize) -> usize
-    requires { ⌜ from + interval ≤ largest64 ⌝ }
-    ensures { λ r. ⌜ r ≡ min (from + interval) boundLength ⌝ }
+// One row more: it is not used in n slots, or once more than in those that its interval leaves.
+fn next_row(table: &mut [u32], rows: [[u32; 2]; 4], last: usize)
+    requires { ⌜ Sized (now table) × (1 ≤ last) × (last < 4) × RowsInside (pairAt rows) (suc last) × (now table ≡ listOf (rowsMost (pairAt rows) last) (length (now table))) ⌝ }
+    ensures { λ r. ⌜ now (table .exit) ≡ listOf (rowsMost (pairAt rows) (suc last)) (length (now (table .entry))) ⌝ }
 {
-    let end = from + interval;
-    if end <= LENGTH { end } else { LENGTH }
+    let interval = rows[last][0] as usize;
+    let quota = rows[last][1];
+    with_row(table, interval, quota);
 }
 
-// One number in all entries of a block.
-fn store_block(table: &mut [u32], from: usize, end: usize, most: u32)
-    requires { ⌜ (from ≤ end) × (end ≤ length (now table)) ⌝ }
-    ensures { λ r. ⌜ Remade (now (table .entry)) (now (table .exit)) from end (λ j. most) ⌝ }
+// A quota more in each slot.
+fn each_slot(table: &mut [u32], quota: u32)
+    requires { ⌜ Sized (now table) × (quota ≤ 65_535) ⌝ }
+    ensures { λ r. ⌜ Remade (now (table .entry)) (now (table .exit)) 1 (length (now (table .entry))) (λ j. j * quota) ⌝ }
 {
-    let mut n = from;
-    while n < end {
+    let mut most = 0;
+    let mut n = 1;
+    while n < table.len() {
+        most += quota;
         table[n] = most;
         n += 1;
     }
 }
 
+// The largest number below 2^31, which no row reaches.
+const UNREACHED: u32 = 2_147_483_647;
+
+fn no_bound(table: &mut [u32])
+    requires { ⌜ Sized (now table) ⌝ }
+    ensures { λ r. ⌜ Remade (now (table .entry)) (now (table .exit)) 1 (length (now (table .entry))) (λ j. largestSigned) ⌝ }
+{
+    let mut n = 1;
+    while n < table.len() {
+        table[n] = UNREACHED;
+        n += 1;
+    }
+}
+
+// Numbers below 2^31 have the same order as signed ones, which plain x86-64 compares four at once.
+fn smaller(a: u32, b: u32) -> u32
+    requires { ⌜ (a ≤ largestSigned) × (b ≤ largestSigned) ⌝ }
+    ensures { λ r. ⌜ r ≡ min a b ⌝ }
+{
+    if a as i32 <= b as i32 { a } else { b }
+}
+
+// A short interval is given as a constant, so that the entries of the last interval stay in registers.
+fn with_row(table: &mut [u32], interval: usize, quota: u32)
+    requires { ⌜ Table (now table) × (1 ≤ interval) × (interval ≤ 1_024) × (quota ≤ 65_535) ⌝ }
+    ensures { λ r. ⌜ now (table .exit) ≡ withRow interval quota (now (table .entry)) ⌝ }
+{
+    if 15 < interval {
+        long_row(table, interval, quota);
+        return;
+    }
+    match interval {
+        2 => short_row(table, 2, quota),
+        3 => short_row(table, 3, quota),
+        4 => short_row(table, 4, quota),
+        5 => short_row(table, 5, quota),
+        6 => short_row(table, 6, quota),
+        7 => short_row(table, 7, quota),
+        8 => short_row(table, 8, quota),
+        9 => short_row(table, 9, quota),
+        10 => short_row(table, 10, quota),
+        11 => short_row(table, 11, quota),
+        12 => short_row(table, 12, quota),
+        13 => short_row(table, 13, quota),
+        14 => short_row(table, 14, quota),
+        15 => short_row(table, 15, quota),
+        _ => short_row(table, interval, quota),
+    }
+}
+
+// An interval's entries at a time.
+fn short_row(table: &mut [u32], interval: usize, quota: u32)
+    requires { ⌜ Table (now table) × (1 ≤ interval) × (interval ≤ 15) × (quota ≤ 65_535) ⌝ }
+    ensures { λ r. ⌜ now (table .exit) ≡ withRow interval quota (now (table .entry)) ⌝ }
+{
+    let length = table.len();
+    let mut last = [0; 15];
+    let mut from = 1;
+    while from + interval <= length {
+        row_interval(table, &mut last, from, interval, quota);
+        from += interval;
+    }
+    row_block(table, from, length, interval, quota);
+}
+
+// The slots of one interval, by the entries of the one before.
+fn row_interval(table: &mut [u32], last: &mut [u32; 15], from: usize, interval: usize, quota: u32)
+    requires { ⌜ (interval ≤ 15) × (length (now last) ≡ 15) × (from + interval ≤ length (now table)) × ((k : ℕ) → k < interval → (getD (now table) (from + k) 0 ≤ largestSigned) × (quota + getD (now last) k 0 ≤ largestSigned)) ⌝ }
+    ensures { λ r. ⌜ Remade (now (table .entry)) (now (table .exit)) from (from + interval) (λ j. min (getD (now (table .entry)) j 0) (quota + getD (now (last .entry)) (j - from) 0)) × ((k : ℕ) → k < interval → getD (now (last .exit)) k 0 ≡ getD (now (table .exit)) (from + k) 0) × (length (now (last .exit)) ≡ 15) ⌝ }
+{
+    let mut k = 0;
+    while k < interval {
+        let most = smaller(table[from + k], quota + last[k]);
+        table[from + k] = most;
+        last[k] = most;
+        k += 1;
+    }
+}
+
+// The first interval's slots: the row is not used, or once. Then eight entries at a time.
+fn long_row(table: &mut [u32], interval: usize, quota: u32)
+    requires { ⌜ Table (now table) × (8 ≤ interval) × (interval ≤ 1_024) × (quota ≤ 65_535) ⌝ }
+    ensures { λ r. ⌜ now (table .exit) ≡ withRow interval quota (now (table .entry)) ⌝ }
+{
+    let length = table.len();
+    let mut from = interval + 1;
+    row_start(table, from, quota);
+    while from + 8 <= length {
+        row_four(table, from, interval, quota);
+        row_four(table, from + 4, interval, quota);
+        from += 8;
+    }
+    row_block(table, from, length, interval, quota);
+}
+
 // One row more in an interval's slots or fewer: it is not used, or once.
 fn row_start(table: &mut [u32], end: usize, quota: u32)
-    requires { ⌜ (1 ≤ end) × (end ≤ length (now table)) ⌝ }
+    requires { ⌜ (1 ≤ end) × (end ≤ length (now table)) × (quota ≤ largestSigned) × ((j : ℕ) → j < end → getD (now table) j 0 ≤ largestSigned) ⌝ }
     ensures { λ r. ⌜ Remade (now (table .entry)) (now (table .exit)) 1 end (λ j. min (getD (now (table .entry)) j 0) quota) ⌝ }
 {
     let mut n = 1;
@@ -104,51 +211,38 @@ fn row_start(table: &mut [u32], end: usize, quota: u32)
     }
 }
 
+// An entry with one row more: it is not used, or once more than in the slots that its interval leaves.
+fn lower(table: &[u32], n: usize, interval: usize, quota: u32) -> u32
+    requires { ⌜ (interval ≤ n) × (n < length (now table)) × (getD (now table) n 0 ≤ largestSigned) × (quota + getD (now table) (n - interval) 0 ≤ largestSigned) ⌝ }
+    ensures { λ r. ⌜ r ≡ lowered (now (table .entry)) interval quota n ⌝ }
+{
+    smaller(table[n], quota + table[n - interval])
+}
+
+// Four entries at once: all are read before any is stored.
+fn row_four(table: &mut [u32], from: usize, interval: usize, quota: u32)
+    requires { ⌜ (4 ≤ interval) × Lowers (now table) from (from + 4) interval quota ⌝ }
+    ensures { λ r. ⌜ Remade (now (table .entry)) (now (table .exit)) from (from + 4) (lowered (now (table .entry)) interval quota) ⌝ }
+{
+    let first = lower(table, from, interval, quota);
+    let second = lower(table, from + 1, interval, quota);
+    let third = lower(table, from + 2, interval, quota);
+    let fourth = lower(table, from + 3, interval, quota);
+    table[from] = first;
+    table[from + 1] = second;
+    table[from + 2] = third;
+    table[from + 3] = fourth;
+}
+
 // One row more in the slots of a block, which is no longer than the interval: the entries that it reads are before the block.
 fn row_block(table: &mut [u32], from: usize, end: usize, interval: usize, quota: u32)
-    requires { ⌜ (interval ≤ from) × (from ≤ end) × (end ≤ from + interval) × (end ≤ length (now table)) ⌝ }
-    requires { ⌜ ((j : ℕ) → from ≤ j → j < end → quota + getD (now table) (j - interval) 0 ≤ largest32) ⌝ }
-    ensures { λ r. ⌜ Remade (now (table .entry)) (now (table .exit)) from end (λ j. min (getD (now (table .entry)) j 0) (quota + getD (now (table .entry)) (j - interval) 0)) ⌝ }
+    requires { ⌜ (end ≤ from + interval) × Lowers (now table) from end interval quota ⌝ }
+    ensures { λ r. ⌜ Remade (now (table .entry)) (now (table .exit)) from end (lowered (now (table .entry)) interval quota) ⌝ }
 {
     let mut n = from;
     while n < end {
-        let most = table[n];
-        let used = quota + table[n - interval];
-        table[n] = smaller(most, used);
+        let most = lower(table, n, interval, quota);
+        table[n] = most;
         n += 1;
-    }
-}
-
-// One row: its quota for each interval begun, so one number for each block.
-fn first_row(table: &mut [u32], rows: [[u32; 2]; 4])
-    requires { ⌜ (length (now table) ≡ boundLength) × RowsInside (pairAt rows) 1 ⌝ }
-    ensures { λ r. ⌜ now (table .exit) ≡ listOf (rowsMost (pairAt rows) 1) boundLength ⌝ }
-{
-    let interval = rows[0][0] as usize;
-    let quota = rows[0][1];
-    table[0] = 0;
-    let mut most = quota;
-    let mut from = 1;
-    while from < LENGTH {
-        let end = block_end(from, interval);
-        store_block(table, from, end, most);
-        most += quota;
-        from = end;
-    }
-}
-
-// One row more: it is not used in n slots, or once more than in those that its interval leaves.
-fn next_row(table: &mut [u32], rows: [[u32; 2]; 4], last: usize)
-    requires { ⌜ (1 ≤ last) × (last < 4) × RowsInside (pairAt rows) (suc last) × (now table ≡ listOf (rowsMost (pairAt rows) last) boundLength) ⌝ }
-    ensures { λ r. ⌜ now (table .exit) ≡ listOf (rowsMost (pairAt rows) (suc last)) boundLength ⌝ }
-{
-    let interval = rows[last][0] as usize;
-    let quota = rows[last][1];
-    let mut from = interval + 1;
-    row_start(table, from, quota);
-    while from < LENGTH {
-        let end = block_end(from, interval);
-        row_block(table, from, end, interval, quota);
-        from = end;
     }
 }

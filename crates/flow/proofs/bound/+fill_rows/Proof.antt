@@ -1,10 +1,12 @@
 -- The measure is the number of rows left. With one left the table is its own; else that of one row less, and the last row more.
-use mathlib.Core.Path.{_≡_, refl, sym, _∙_, ap, subst}
+use mathlib.Core.Path.{_≡_, sym, _∙_, ap, ap₂, subst}
+use lib.ListN.{length}
 use Prim.Native.Nat.{suc, _-_, _≤_}
 use native.Mathlib.Omega.{arith}
 use Rattle.quantity.specs.Sums.{listOf}
 use Rattle.flow.specs.Rows.{rowsMost}
-use Rattle.flow.specs.Bounds.{boundLength, pairAt}
+use Rattle.flow.specs.Bounds.{pairAt}
+use Rattle.flow.proofs.BoundTable.{sized-same}
 use Prim.Native.Nat.{ℕ, _<_}
 use borrow.Fn.Kinds.{In}
 use borrow.Fn.PlainCycle.{Measures, is, falls, and}
@@ -69,7 +71,7 @@ fill-rows-returns : (t : ℕ) → fill-rows-lts.Need-returns (
 fill-rows-returns t c =
     let start = c .before .before .before .before .before .before in
     let one : 1 ≡ start .args .left = omega (arith, start .pre .1 .1) in
-    c .before .before .first-row .ensures ∙ ap (λ (left : ℕ). listOf (rowsMost (pairAt (start .args .rows)) left) boundLength) one
+    c .before .before .first-row .ensures ∙ ap (λ (left : ℕ). listOf (rowsMost (pairAt (start .args .rows)) left) (length (start .args .table .now))) one
 
 fill-rows-fill-rows-requires : (t : ℕ) → fill-rows-lts.Need-fill-rows-requires (
   first-row-reads.Asked,
@@ -96,7 +98,14 @@ fill-rows-next-row-requires : (t : ℕ) → fill-rows-lts.Need-next-row-requires
 fill-rows-next-row-requires t c κs =
     let start = c .before .before .before .before .before .before .before in
     let pre = start .pre .1 in
-    (omega arith, omega (arith, pre .1, pre .2), λ i less. pre .3 i (omega (arith, pre .1)), c .before .before .before .fill-rows .ensures)
+    let earlier = c .before .before .before .fill-rows in
+    let kept = earlier .kept .0 in (
+      sized-same _ _ kept (pre .0),
+      omega arith,
+      omega (arith, pre .1, pre .2),
+      λ i less. pre .3 i (omega (arith, pre .1)),
+      earlier .ensures ∙ ap (listOf (rowsMost (pairAt (start .args .rows)) (start .args .left - 1))) (sym kept),
+    )
 
 fill-rows-same-length-2 : (t : ℕ) → fill-rows-lts.Need-same-length-2 (
   first-row-reads.Asked,
@@ -119,7 +128,7 @@ fill-rows-returns-2 : (t : ℕ) → fill-rows-lts.Need-returns-2 (
 fill-rows-returns-2 t c =
     let start = c .before .before .before .before .before .before .before .before .before .before in
     let all : suc (start .args .left - 1) ≡ start .args .left = omega (arith, start .pre .1 .1) in
-    c .before .before .next-row .ensures ∙ ap (λ (left : ℕ). listOf (rowsMost (pairAt (start .args .rows)) left) boundLength) all
+    c .before .before .next-row .ensures ∙ ap₂ (λ (left size : ℕ). listOf (rowsMost (pairAt (start .args .rows)) left) size) all (c .before .before .before .before .before .before .fill-rows .kept .0)
 
 pub +fill-rows-spec : {M : Type 1} → statement M
 +fill-rows-spec = close μ-fill-rows λ t. fill-rows-lts.spec (

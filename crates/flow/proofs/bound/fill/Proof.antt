@@ -1,11 +1,11 @@
 -- The three tests in turn; then the table of the rows, handed over as pairs.
-use mathlib.Core.Path.{_≡_, refl, sym, _∙_, ap, subst}
+use mathlib.Core.Path.{_≡_, refl, sym, _∙_, ap₂, subst}
 use mathlib.Core.Bool.{true}
 use Prim.Native.Nat.{ℕ, _<_}
 use native.Mathlib.Omega.{arith}
 use borrow.Author.Tests.{eq-eqb, ne-eqb, not-true, not-false}
 use Rattle.quantity.specs.Sums.{listOf}
-use Rattle.flow.specs.Bounds.{boundLength, boundable, boundFilled, pairAt, RowInside}
+use Rattle.flow.specs.Bounds.{boundable, boundFilled, pairAt, RowInside, Sized}
 use Rattle.flow.specs.Declarations.{hasRows, severalAt, declarationInRange}
 use Rattle.flow.specs.declared.Declaration.{Declaration}
 use Rattle.flow.proofs.Declarations.{several-inside, rows-inside, rows-at, rows-count, most-same}
@@ -41,6 +41,9 @@ several c = sym (c .before .before .before .has-rows .ensures) ∙ not-false _ (
 inside : (c : tie.Else3) → declarationInRange (c .before .before .before .before .before .before .args .declaration) ≡ true
 inside c = sym (c .before .in-range .ensures) ∙ not-false _ (c .if3 .left)
 
+sized : (c : tie.Else3) → Sized (c .before .before .before .before .before .before .args .table .now)
+sized c = let long = c .before .before .before .before .if1 .left in record { long = omega arith; short = omega arith }
+
 row-at : (declared : Declaration) → hasRows (declared .kind) ≡ true → declarationInRange declared ≡ true → (i : ℕ) → i < declared .count → RowInside (severalAt declared i)
 row-at declared several inside i less = rw (rows-at declared several i) at (rows-inside declared inside i (rw (rows-count declared several) less))
 
@@ -49,7 +52,7 @@ fill-rows-requires c κs =
     let left = c .before .before .before in
     let declared = left .before .before .before .before .before .before .args .declaration in
     let counted = several-inside declared (inside left) (several left) in (
-      left .before .before .before .before .if1 .left,
+      sized left,
       omega (arith, counted .0),
       counted .1,
       λ i less. subst RowInside (sym (c .pairs .ensures i (omega (arith, counted .1)))) (row-at declared (several left) (inside left) i less),
@@ -66,7 +69,7 @@ returns-4 c =
     let counted = several-inside declared (inside left) (several left) in
     let pairs = c .before .before .before .pairs in
     let same = most-same (pairAt (pairs .result)) (severalAt declared) (declared .count) (λ i less. pairs .ensures i (omega (arith, counted .1))) in
-    rw (eq-eqb _ _ (left .before .before .before .before .if1 .left), several left, inside left) (refl, c .before .before .fill-rows .ensures ∙ ap (λ (most : ℕ → ℕ). listOf most boundLength) same)
+    rw (eq-eqb _ _ (left .before .before .before .before .if1 .left), several left, inside left) (refl, c .before .before .fill-rows .ensures ∙ ap₂ (λ (most : ℕ → ℕ) (size : ℕ). listOf most size) same (left .before .before .before .before .if1 .left))
 
 pub fill-spec : {M : Type 1} → statement M
 fill-spec =

@@ -1,121 +1,131 @@
--- Below the block's start the entries follow the step of one row, and the number that is stored next is the step's at each place of the block.
+-- In each slot the quota once more is the step of one row; and over what no row reaches one row more is that row alone.
 use mathlib.Core.Path.{_≡_, sym, _∙_, ap}
-use Prim.Native.Nat.{ℕ, _+_, _-_, _≤_, _<_}
+use mathlib.Core.List.{List}
+use Prim.Native.Nat.{ℕ, zero, suc, _*_, _≤_, _<_}
+use native.Mathlib.Nat.{zero-mul}
 use native.Mathlib.Omega.{arith}
-use lib.ListN.{set, length-set}
+use lib.ListN.{length, set, length-set}
 use lib.Seq.{getD-set-same}
 use borrow.Author.Needs.{needs}
-use Rattle.flow.specs.Rows.{rowsMost}
-use Rattle.flow.specs.Bounds.{boundLength, pairAt}
+use Rattle.quantity.specs.Sums.{listOf}
 use Rattle.quantity.proofs.Sums.{listOf-ext}
-use Rattle.flow.proofs.BoundTable.{entry, first-table, Follows, follows-start, follows-block, used-small}
+use Rattle.flow.specs.Rows.{Row, rowsMost}
+use Rattle.flow.specs.Bounds.{largestSigned, pairAt, RowInside, Sized, Table, Remade}
+use Rattle.flow.proofs.BoundTable.{entry, sized-same, each-slot-most, first-table}
 use Rattle.flow.proofs.bound.first_row.Statement.{statement}
 use Rattle.flow.proofs.bound.first_row.Tie as tie
 
-abbrev Inv-loop : tie.InvT-loop
-Inv-loop table₀ interval quota most₀ from₀ table most from =
-    (1 ≤ interval) × (interval ≤ 1_024) × (quota ≤ 65_535) × Follows interval (λ j x. quota + x) table₀ table from
-    × ((j : ℕ) → from ≤ j → j < from + interval → j < boundLength → quota + entry table (j - interval) ≡ most)
+module _ (start : tie.Start) where
+  abbrev rows : ℕ → Row
+  rows = pairAt (start .args .t2)
 
-abbrev μ-loop : tie.MeasureT-loop
-μ-loop table₀ interval quota most₀ from₀ table most from = boundLength - from
+  abbrev given : List ℕ
+  given = start .args .table .now
 
-index-1-interval : tie.Need-index-1-interval Inv-loop μ-loop
-index-1-interval c = omega arith
+  -- the table with nothing in no slots
+  abbrev begun : List ℕ
+  begun = set given 0 0
 
-index-2-interval : tie.Need-index-2-interval Inv-loop μ-loop
-index-2-interval c = omega arith
+  same : length begun ≡ length given
+  same = length-set given 0 0
 
-cast-interval : tie.Need-cast-interval Inv-loop μ-loop
-cast-interval c = let row = c .before .before .pre .1 0 (omega arith) in omega (arith, row .short)
+  sized : Sized begun
+  sized = sized-same given begun same (start .pre .0)
 
-index-1-quota : tie.Need-index-1-quota Inv-loop μ-loop
-index-1-quota c = omega arith
+  none : entry begun 0 ≡ 0
+  none = getD-set-same given 0 0 0 (omega (arith, start .pre .0 .long))
 
-index-2-quota : tie.Need-index-2-quota Inv-loop μ-loop
-index-2-quota c = omega arith
+  inside : RowInside (rows 0)
+  inside = start .pre .1 0 (omega arith)
 
-slice-write-table : tie.Need-slice-write-table Inv-loop μ-loop
-slice-write-table c = let size = c .before .before .before .pre .0 in omega (arith, size)
+  by-slot : (after : List ℕ) → Remade begun after 1 (length begun) (λ j. j * rows 0 .quota) → (n : ℕ) → n < length given → entry after n ≡ n * rows 0 .quota
+  by-slot after remade zero less = remade .below 0 (omega arith) ∙ none ∙ sym (zero-mul (rows 0 .quota))
+  by-slot after remade (suc n) less = remade .anew (suc n) (omega arith) (omega (arith, same))
 
-loop-holds : tie.Need-loop-holds Inv-loop μ-loop
-loop-holds c =
-    let start = c .before .before .before in
-    let row = start .pre .1 0 (omega arith) in
-    let size = start .pre .0 in
-    let table = set (start .args .table .now) 0 0 in
-    let none : entry table 0 ≡ 0 = getD-set-same (start .args .table .now) 0 0 0 (omega (arith, size)) in
-    let interval = pairAt (start .args .t2) 0 .interval in (
-      row .large,
-      row .short,
-      row .few,
-      follows-start _ _ table (simp length-set size) none,
-      λ j late early inside. let first : j - interval ≡ 0 = omega arith in omega (arith, ap (entry table) first, none),
-    )
+  -- with what no row reaches in all others
+  module _ (after : List ℕ) (kept : length after ≡ length begun) (remade : Remade begun after 1 (length begun) (λ j. largestSigned)) where
+    unreached : (n : ℕ) → 1 ≤ n → n < length after → entry after n ≡ largestSigned
+    unreached n some less = remade .anew n some (omega arith)
 
-block-end-requires : tie.Need-block-end-requires Inv-loop μ-loop
-block-end-requires c κs = search needs
+    table : Table after
+    table = record { sized = sized-same begun after kept sized; none = remade .below 0 (omega arith) ∙ none; fits = fits }
+      where
+        fits : (j : ℕ) → j < length after → entry after j ≤ largestSigned
+        fits zero less = omega (arith, remade .below 0 (omega arith), none)
+        fits (suc j) less = omega (arith, unreached (suc j) (omega arith) less)
 
-store-block-requires : tie.Need-store-block-requires Inv-loop μ-loop
-store-block-requires c κs =
-    let at = c .before .before .before .loop in
-    (omega arith, omega (arith, at .inv .3 .size))
+index-1-interval : tie.Need-index-1-interval
+index-1-interval c = search needs
 
-add-most : tie.Need-add-most Inv-loop μ-loop
-add-most c =
-    let at = c .before .before .before .before .before .before in
-    let row = pairAt (at .before .before .before .before .args .t2) 0 in
-    let inv = at .loop .inv in
-    let small = inv .3 .small (at .loop .from - row .interval) (omega (arith, inv .3 .begun)) in
-    omega (arith, small, inv .4 (at .loop .from) (omega arith) (omega arith) (omega arith))
+index-2-interval : tie.Need-index-2-interval
+index-2-interval c = search needs
 
-loop-less : tie.Need-loop-less Inv-loop μ-loop
-loop-less c = omega arith
+cast-interval : tie.Need-cast-interval
+cast-interval c = omega (arith, inside (c .before .before) .short)
 
-loop-again : tie.Need-loop-again Inv-loop μ-loop
-loop-again c =
-    let at = c .before .before .before .before .before .before in
-    let row = pairAt (at .before .before .before .before .args .t2) 0 in
-    let inv = at .loop .inv in
-    let remade = c .before .before .store-block .ensures in (
-      inv .0,
-      inv .1,
-      inv .2,
-      follows-block _ _ _ (at .loop .table) _ (at .loop .from) _ _ (λ j x some small. used-small (row .interval) (row .quota) j x (inv .0) some (inv .2) small) (inv .3)
-          (omega arith) (omega arith) (omega arith) (c .before .before .store-block .kept .0) remade (λ j late early. sym (inv .4 j late (omega arith) (omega arith))),
-      λ j late early inside. omega (arith, remade .anew (j - row .interval) (omega arith) (omega arith)),
-    )
+index-1-quota : tie.Need-index-1-quota
+index-1-quota c = search needs
 
-same-length : tie.Need-same-length Inv-loop μ-loop
-same-length c = let size = c .before .before .before .before .before .pre .0 in c .before .loop .inv .3 .size ∙ sym size
+index-2-quota : tie.Need-index-2-quota
+index-2-quota c = search needs
 
-returns : tie.Need-returns Inv-loop μ-loop
-returns c =
+slice-write-table : tie.Need-slice-write-table
+slice-write-table c = search needs
+
+each-slot-requires : tie.Need-each-slot-requires
+each-slot-requires c κs =
     let start = c .before .before .before .before .before in
-    let rows = pairAt (start .args .t2) in
-    let at = c .before .loop in
-    let follows = at .inv .3 in
-    let all : at .from ≡ boundLength = omega (arith, follows .short) in
-    listOf-ext 0 (rowsMost rows 1) boundLength (at .table) (follows .size)
-    (first-table (entry (at .table)) boundLength rows (at .inv .0) (follows .none) (λ n positive less. follows .steps n positive (omega arith)))
+    (sized start, inside start .few)
+
+same-length : tie.Need-same-length
+same-length c = c .before .before .each-slot .kept .0 ∙ same (c .before .before .before .before .before .before .before .before)
+
+returns : tie.Need-returns
+returns c =
+    let start = c .before .before .before .before .before .before .before .before in
+    let after = c .before .before .each-slot .last .0 in
+    let remade = c .before .before .each-slot .ensures in
+    listOf-ext 0 (rowsMost (rows start) 1) (length (given start)) after (c .before .before .each-slot .kept .0 ∙ same start)
+    (λ n less. by-slot start after remade n less ∙ sym (each-slot-most (rows start) (c .before .before .before .before .if1 .taken) n))
+
+no-bound-requires : tie.Need-no-bound-requires
+no-bound-requires c κs = sized (c .before .before .before .before .before)
+
+with-row-requires : tie.Need-with-row-requires
+with-row-requires c κs =
+    let start = c .before .before .before .before .before .before .before .before .before in
+    let unbounded = c .before .before .before .no-bound in
+    (table start (unbounded .last .0) (unbounded .kept .0) (unbounded .ensures), inside start .large, inside start .short, inside start .few)
+
+same-length-2 : tie.Need-same-length-2
+same-length-2 c =
+    c .before .before .with-row .kept .0 ∙ c .before .before .before .before .before .before .no-bound .kept .0
+    ∙ same (c .before .before .before .before .before .before .before .before .before .before .before .before)
+
+returns-2 : tie.Need-returns-2
+returns-2 c =
+    let start = c .before .before .before .before .before .before .before .before .before .before .before .before in
+    let unbounded = c .before .before .before .before .before .before .no-bound in
+    let after = unbounded .last .0 in
+    let kept = unbounded .kept .0 in
+    c .before .before .with-row .ensures
+    ∙ first-table (rows start) after (table start after kept (unbounded .ensures)) (unreached start after kept (unbounded .ensures)) (inside start)
+    ∙ ap (listOf (rowsMost (rows start) 1)) (kept ∙ same start)
 
 pub first-row-spec : {M : Type 1} → statement M
 first-row-spec =
     tie.close
     (tie.spec
-    Inv-loop
-    μ-loop
     index-1-interval
     index-2-interval
     cast-interval
     index-1-quota
     index-2-quota
     slice-write-table
-    loop-holds
-    block-end-requires
-    store-block-requires
-    add-most
-    loop-less
-    loop-again
+    each-slot-requires
     same-length
-    returns)
+    returns
+    no-bound-requires
+    with-row-requires
+    same-length-2
+    returns-2)

@@ -1,50 +1,35 @@
 -- From the block's start to before n the row is used or not, and the others are as they were: so are the entries that are read.
-use mathlib.Core.Path.{_≡_, refl, _∙_, ap, ap₂}
+use mathlib.Core.Path.{_≡_, refl, sym, _∙_, ap, ap₂}
 use Prim.Native.Nat.{ℕ, _+_, _-_, _≤_, min}
 use native.Mathlib.Omega.{arith}
 use lib.ListN.{length, length-set}
-use borrow.Author.Needs.{needs}
-use Rattle.flow.specs.Bounds.{Remade}
-use Rattle.flow.proofs.BoundTable.{entry, remade-start, remade-next}
+use Rattle.flow.specs.Bounds.{Remade, lowered}
+use Rattle.flow.proofs.BoundTable.{remade-start, remade-next}
 use Rattle.flow.proofs.bound.row_block.Statement.{statement}
 use Rattle.flow.proofs.bound.row_block.Tie as tie
 
 abbrev Inv-loop : tie.InvT-loop
 Inv-loop table₀ from end interval quota n₀ table n =
-    (from ≤ n) × (n ≤ end) × (end ≤ length table) × (length table ≡ length table₀) × Remade table₀ table from n (λ j. min (entry table₀ j) (quota + entry table₀ (j - interval)))
+    (from ≤ n) × (n ≤ end) × (end ≤ length table) × (length table ≡ length table₀) × Remade table₀ table from n (lowered table₀ interval quota)
 
 abbrev μ-loop : tie.MeasureT-loop
 μ-loop table₀ from end interval quota n₀ table n = end - n
 
 loop-holds : tie.Need-loop-holds Inv-loop μ-loop
 loop-holds c =
-    let pre = c .before .pre .0 in
-    (omega arith, pre .1, pre .3, refl, remade-start _ _ _)
+    let lowers = c .before .pre .1 in
+    (omega arith, lowers .onward, lowers .inside, refl, remade-start _ _ _)
 
-mul-most : tie.Need-mul-most Inv-loop μ-loop
-mul-most c = omega arith
-
-slice-read-most : tie.Need-slice-read-most Inv-loop μ-loop
-slice-read-most c = omega arith
-
-sub-used : tie.Need-sub-used Inv-loop μ-loop
-sub-used c = omega arith
-
-mul-used : tie.Need-mul-used Inv-loop μ-loop
-mul-used c = omega arith
-
-slice-read-used : tie.Need-slice-read-used Inv-loop μ-loop
-slice-read-used c = omega arith
-
-add-used : tie.Need-add-used Inv-loop μ-loop
-add-used c =
-    let at = c .before .before .before .loop in
-    let start = c .before .before .before .before .before in
-    let read = at .inv .4 .below (at .n - start .args .interval) (omega arith) in
-    omega (arith, read, start .pre .1 (at .n) (at .inv .0) (omega arith))
-
-smaller-requires : tie.Need-smaller-requires Inv-loop μ-loop
-smaller-requires c κs = search needs
+lower-requires : tie.Need-lower-requires Inv-loop μ-loop
+lower-requires c κs =
+    let at = c .before .before .loop in
+    let start = c .before .before .before .before in
+    let fits = start .pre .1 .fits (at .n) (at .inv .0) (omega arith) in (
+      omega arith,
+      omega arith,
+      omega (arith, at .inv .4 .rest (at .n) (omega arith), fits .0),
+      omega (arith, at .inv .4 .below (at .n - start .args .interval) (omega arith), fits .1),
+    )
 
 mul-table : tie.Need-mul-table Inv-loop μ-loop
 mul-table c = omega arith
@@ -60,10 +45,10 @@ loop-less c = omega arith
 
 loop-again : tie.Need-loop-again Inv-loop μ-loop
 loop-again c =
-    let at = c .before .before .before .before .loop in
-    let args = c .before .before .before .before .before .before .args in
+    let at = c .before .before .before .loop in
+    let args = c .before .before .before .before .before .args in
     let read = at .inv .4 .below (at .n - args .interval) (omega arith) in
-    let here = c .smaller .ensures ∙ ap₂ min (at .inv .4 .rest (at .n) (omega arith)) (ap (λ (x : ℕ). args .quota + x) read) in (
+    let here = c .lower .ensures ∙ ap₂ min (at .inv .4 .rest (at .n) (omega arith)) (ap (λ (x : ℕ). args .quota + x) read) in (
       omega arith,
       omega arith,
       simp length-set (at .inv .2),
@@ -87,13 +72,7 @@ row-block-spec =
     Inv-loop
     μ-loop
     loop-holds
-    mul-most
-    slice-read-most
-    sub-used
-    mul-used
-    slice-read-used
-    add-used
-    smaller-requires
+    lower-requires
     mul-table
     slice-write-table
     add-n

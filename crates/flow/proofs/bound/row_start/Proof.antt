@@ -3,7 +3,6 @@ use mathlib.Core.Path.{_≡_, refl, _∙_, ap}
 use Prim.Native.Nat.{ℕ, _-_, _≤_, min}
 use native.Mathlib.Omega.{arith}
 use lib.ListN.{length, length-set}
-use borrow.Author.Needs.{needs}
 use Rattle.flow.specs.Bounds.{Remade}
 use Rattle.flow.proofs.BoundTable.{entry, remade-start, remade-next}
 use Rattle.flow.proofs.bound.row_start.Statement.{statement}
@@ -27,7 +26,10 @@ slice-read-most : tie.Need-slice-read-most Inv-loop μ-loop
 slice-read-most c = omega arith
 
 smaller-requires : tie.Need-smaller-requires Inv-loop μ-loop
-smaller-requires c κs = search needs
+smaller-requires c κs =
+    let at = c .before .before .loop in
+    let pre = c .before .before .before .before .pre in
+    (omega (arith, at .inv .4 .rest (at .n) (omega arith), pre .3 (at .n) (omega arith)), pre .2)
 
 mul-table : tie.Need-mul-table Inv-loop μ-loop
 mul-table c = omega arith
