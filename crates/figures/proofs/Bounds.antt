@@ -37,7 +37,7 @@ use Rattle.figures.specs.Figures.{partDelay, delayOfPart, ownDelay, quot
 use Rattle.figures.specs.declared.class.FlowClass.{FlowClass}
 use Rattle.figures.specs.declared.carried.Carried.{Carried}
 use Rattle.flow.specs.declared.Declaration.{Declaration}
-use Rattle.figures.specs.Carried.{classIn, slowestIn, progressIn, RateWithin, Within, HasBound, Lent, Reaches, BurstKept, slotsKept, Ready, mostBefore, mostWith}
+use Rattle.figures.specs.Carried.{classIn, slowestIn, progressIn, RateWithin, Within, Reaches, ReachesPast, BurstKept, slotsKept, Ready, mostBefore, mostWith}
 use Rattle.figures.proofs.Part.{delay-le-slower}
 
 pub in-range : (range : Range) (value : ℕ) → inRange range value ≡ true → (range .least ≤ value) × (value ≤ range .largest)
@@ -169,30 +169,30 @@ rows-slots : (given : ℕ → Row) (k m R : ℕ) → ClassWithin (rows given k) 
 rows-slots given k m R within positive some short =
     round-up-least (rowsBurst given k R) R (m - 1) positive (rows-burst-slots given k (within .0) (λ i less. within .2 i less .large) R m some short)
 
-rows-late : (declared : Declaration) (bound : List ℕ) → HasBound declared bound → ClassWithin (rows (severalAt declared) (declared .count)) → (e : ℕ) → e ≤ mostBefore
+rows-late : (declared : Declaration) (bound : List ℕ) → ClassWithin (rows (severalAt declared) (declared .count)) → (e : ℕ) → ReachesPast Kind.Rows declared bound e
     → (slowest : LeastRate) → RateWithin (slowestIn slowest) → BurstKept (rows (severalAt declared) (declared .count)) slowest → suc (slotsKept slowest + e) ≤ length bound
 unfolding burstAt
-rows-late declared bound has within e short NoFilter rate kept = omega (arith, has .long)
-rows-late declared bound has within e short (Least R burst slots) rate (same, counted) =
-    let sent = rows-slots (severalAt declared) (declared .count) (length bound - mostBefore) (R .0) within (rate .0) (omega (arith, has .long)) (λ i less. omega (arith, has .longer i less)) in
+rows-late declared bound within e far NoFilter rate kept = omega (arith, far 0 (within .0), within .2 0 (within .0) .large)
+rows-late declared bound within e far (Least R burst slots) rate (same, counted) =
+    let some : suc e ≤ length bound = omega (arith, far 0 (within .0), within .2 0 (within .0) .large) in
+    let sent = rows-slots (severalAt declared) (declared .count) (length bound - e) (R .0) within (rate .0) (omega arith) (λ i less. omega (arith, far i less)) in
     let slots-are : slots .0 ≡ roundUp (rowsBurst (severalAt declared) (declared .count) (R .0)) (R .0) = counted ∙ ap (λ (units : ℕ). roundUp units (R .0)) same in
-    omega (arith, sent, slots-are, has .long)
+    omega (arith, sent, slots-are)
 
 reaches-by : (kind : Kind) (declared : Declaration) (bound : List ℕ) (interval : Interval) (quota : Units) → let class : FlowClass = record { kind = kind; interval = interval; quota = quota } in
-    ClassWithin (classIn declared class) → Lent kind declared bound → (e : ℕ) → e ≤ mostBefore → (slowest : LeastRate) → RateWithin (slowestIn slowest) → BurstKept (classIn declared class) slowest
+    ClassWithin (classIn declared class) → (e : ℕ) → ReachesPast kind declared bound e → (slowest : LeastRate) → RateWithin (slowestIn slowest) → BurstKept (classIn declared class) slowest
     → Reaches kind bound (suc (slotsKept slowest + e))
-reaches-by Kind.Smooth declared bound interval quota within lent e short slowest rate kept = tt
-reaches-by Kind.Uniform declared bound interval quota within lent e short slowest rate kept = tt
-reaches-by Kind.Rows declared bound interval quota within lent e short slowest rate kept = rows-late declared bound lent within e short slowest rate kept
+reaches-by Kind.Smooth declared bound interval quota within e far slowest rate kept = tt
+reaches-by Kind.Uniform declared bound interval quota within e far slowest rate kept = tt
+reaches-by Kind.Rows declared bound interval quota within e far slowest rate kept = rows-late declared bound within e far slowest rate kept
 
 module _ {declared : Declaration} {bound : List ℕ} {carried : Carried} (ready : Ready mostBefore declared bound carried) where
   pub late-small : slotsKept (carried .slowest) + carried .e .0 ≤ 134_218_750
   late-small = omega (arith, delay-kept ready, part-delay-bound mostBefore (progressIn declared carried) (ready .within))
 
-  pub late-reaches : Reaches (carried .class .kind) bound (suc (slotsKept (carried .slowest) + carried .e .0))
-  late-reaches =
-      reaches-by (carried .class .kind) declared bound (carried .class .interval) (carried .class .quota) (ready .within .class) (ready .lent) (carried .e .0) (ready .within .e) (carried .slowest) (ready .within .slowest)
-      (ready .burst)
+  pub late-reaches : ReachesPast (carried .class .kind) declared bound (carried .e .0) → Reaches (carried .class .kind) bound (suc (slotsKept (carried .slowest) + carried .e .0))
+  late-reaches far =
+      reaches-by (carried .class .kind) declared bound (carried .class .interval) (carried .class .quota) (ready .within .class) (carried .e .0) far (carried .slowest) (ready .within .slowest) (ready .burst)
 
 -- behind a delayer
 pub delayer-ready : {declared : Declaration} {bound : List ℕ} (carried : Carried) (d : Delay) → Ready mostBefore declared bound carried → numberInRange (Delayer d) ≡ true

@@ -12,13 +12,15 @@ use borrow.Author.Tests.{eqb-true}
 use Rattle.quantity.specs.Choice.{both}
 use Rattle.quantity.proofs.Sums.{both-true}
 use Rattle.flow.specs.Rows.{Row, rowsMost}
-use Rattle.flow.specs.Declarations.{severalAt}
+use Rattle.flow.specs.Declarations.{hasRows, severalAt}
+use Rattle.flow.specs.declared.Kind.{Kind}
 use Rattle.flow.specs.declared.Declaration.{Declaration}
 use Rattle.flow.proofs.RowsExample.{exampleRows}
 use Rattle.flow.proofs.Laws.{rows-none, rows-any, rows-some}
 use Rattle.flow.proofs.Declarations.{most-same}
 use Rattle.figures.specs.Cameras.{rowIs, isCamera}
-use Rattle.figures.specs.Carried.{HasBound}
+use Rattle.figures.specs.Carried.{HasBound, ReachesPast, mostBefore}
+use Rattle.figures.proofs.ClassLaws.{has-bound}
 
 abbrev most : ℕ → ℕ
 most = rowsMost exampleRows 3
@@ -127,16 +129,15 @@ camera-most declared e k less =
     ∙ ap (λ (bound : ℕ → ℕ). bound (suc k)) (most-same exampleRows (severalAt declared) 3 (λ i row. sym (known .row i row)))
     ∙ ap (λ (count : ℕ). rowsMost (severalAt declared) count (suc k)) (sym (known .count))
 
--- so with the most in no slots before it, it is their bound, in as many slots as figures ask for
-pub camera-bound : (declared : Declaration) → isCamera declared ≡ true → HasBound declared table
-camera-bound declared e = record { entries = by-place; long = omega (arith, sized); longer = λ i less. omega (arith, sized, short i (rw (known .count) at less)) }
+-- so it is their bound, in as many slots as figures ask for
+pub camera-bound : (declared : Declaration) → hasRows (declared .kind) ≡ true → isCamera declared ≡ true → HasBound declared table
+camera-bound declared several e = has-bound declared table several (omega (arith, sized)) (λ k less. camera-most declared e k (omega (arith, sized)))
+
+pub camera-reaches : (declared : Declaration) → isCamera declared ≡ true → (slots : ℕ) → slots ≤ mostBefore → ReachesPast Kind.Rows declared table slots
+camera-reaches declared e slots few = λ i less. omega (arith, sized, short i (rw (known .count) at less))
   where
     known : CameraDeclared declared
     known = camera-declared declared e
-
-    by-place : (n : ℕ) → n ≤ length table → getD (0 ∷ table) n 0 ≡ rowsMost (severalAt declared) (declared .count) n
-    by-place zero within = sym (rows-none (severalAt declared) (declared .count))
-    by-place (suc k) within = camera-most declared e k (omega (arith, sized))
 
     short-row : (i : ℕ) → i < 3 → exampleRows i .interval ≤ 12
     short-row zero less = omega arith

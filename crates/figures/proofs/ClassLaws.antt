@@ -1,25 +1,24 @@
 -- A class by its kind, and the lent table: what the code reads there is what section 4 and document 02, item 6 say of the class.
 use Prim.Native.Nat.{ℕ, zero, suc, _+_, _-_, _*_, _≤_, _<_, max}
-use mathlib.Core.Path.{_≡_, refl, sym, ap, ap₂, subst⁻¹, _∙_}
+use mathlib.Core.Path.{_≡_, refl, sym, ap, ap₂, subst, subst⁻¹}
 use mathlib.Core.Bool.{true, false}
 use mathlib.Core.List.{List, _∷_}
 use mathlib.Core.Logic.{⊎-elim}
 use native.Mathlib.Nat.{not-suc-le-zero, le-of-suc-le-suc, eq-or-lt-of-le, le-trans}
 use native.Mathlib.Numerals.{add-one}
 use native.Mathlib.Omega.{arith}
-use lib.ListN.{length, getD, take, drop, length-drop}
-use lib.Seq.{length-take-le, getD-take, getD-drop}
-use Rattle.quantity.proofs.Sums.{length-listOf, getD-listOf}
+use lib.ListN.{length, getD}
 use Rattle.flow.specs.Rows.{Row, rowsMost, rowCarried, rowsCarried, reach, greatestOf, rowsBurst}
 use Rattle.flow.specs.Classes.{rows}
-use Rattle.flow.specs.Declarations.{severalAt}
-use Rattle.flow.specs.Bounds.{boundLength, boundOf, RowsInside, PairWithin, ClassWithin}
+use Rattle.flow.specs.Declarations.{hasRows, severalAt}
+use Rattle.flow.specs.Bounds.{PairWithin, ClassWithin}
 use Rattle.flow.specs.declared.Kind.{Kind}
 use Rattle.flow.specs.declared.Declaration.{Declaration}
 use Rattle.flow.proofs.Laws.{rows-none, reach-le}
+use Rattle.flow.proofs.Declarations.{kind-of-rows}
 use Rattle.flow.proofs.ClassBounds.{rows-most-bound}
 use Rattle.figures.specs.declared.class.FlowClass.{FlowClass}
-use Rattle.figures.specs.Carried.{classIn, HasBound, Lent, Reaches}
+use Rattle.figures.specs.Carried.{classIn, HasBound, Lent, Reaches, ReachesPast}
 
 -- The row that a rate reaches over.
 
@@ -51,23 +50,22 @@ module _ (declared : Declaration) (bound : List ℕ) (lent : HasBound declared b
   lent-small within i less =
       subst⁻¹ (λ (most : ℕ). most ≤ 67_107_840) (lent-at (suc i) less) (rows-most-bound (severalAt declared) (declared .count) (suc i) (within .0) (within .2) less)
 
--- the bound of a declaration in its ranges, behind its first entry, which is 0
-pub rest-of-bound : (declared : Declaration) → RowsInside (severalAt declared) (declared .count) → HasBound declared (take 1_984 (drop 1 (boundOf declared)))
-rest-of-bound declared inside =
-    record { entries = λ n within. by-place n (omega (arith, sized)); long = omega (arith, sized); longer = λ i less. omega (arith, sized, inside i less .short) }
+-- a table that begins with the most in one slot
+pub has-bound : (declared : Declaration) (bound : List ℕ) → hasRows (declared .kind) ≡ true → 1_024 ≤ length bound
+    → ((k : ℕ) → k < length bound → getD bound k 0 ≡ rowsMost (severalAt declared) (declared .count) (suc k)) → HasBound declared bound
+has-bound declared bound several long entries = record { several = several; entries = by-place; long = long }
   where
-    most : ℕ → ℕ
-    most = rowsMost (severalAt declared) (declared .count)
+    by-place : (n : ℕ) → n ≤ length bound → getD (0 ∷ bound) n 0 ≡ rowsMost (severalAt declared) (declared .count) n
+    by-place zero within = sym (rows-none (severalAt declared) (declared .count))
+    by-place (suc k) within = entries k within
 
-    sized : length (take 1_984 (drop 1 (boundOf declared))) ≡ 1_984
-    sized = length-take-le 1_984 (drop 1 (boundOf declared)) (omega (arith, length-drop 1 (boundOf declared), length-listOf most boundLength))
-
-    one-more : (k : ℕ) → 1 + k ≡ suc k
-    one-more k = omega arith
-
-    by-place : (n : ℕ) → n < boundLength → getD (0 ∷ take 1_984 (drop 1 (boundOf declared))) n 0 ≡ most n
-    by-place zero less = sym (rows-none (severalAt declared) (declared .count))
-    by-place (suc k) less = getD-take 1_984 (drop 1 (boundOf declared)) k 0 (le-of-suc-le-suc less) ∙ getD-drop 1 (boundOf declared) k 0 ∙ ap (λ (j : ℕ). getD (boundOf declared) j 0) (one-more k) ∙ getD-listOf 0 most boundLength (suc k) less
+-- a class of rows is one of a declaration of rows, whose table reaches as far
+pub reaches-here : (kind : Kind) (declared : Declaration) (bound : List ℕ) {e slots : ℕ} → Lent kind declared bound → ReachesPast (declared .kind) declared bound slots → e ≤ slots
+    → ReachesPast kind declared bound e
+reaches-here Kind.Smooth declared bound lent far short = tt
+reaches-here Kind.Uniform declared bound lent far short = tt
+reaches-here Kind.Rows declared bound {slots = slots} lent far short =
+    λ i less. let past = subst (λ (k : Kind). ReachesPast k declared bound slots) (kind-of-rows (declared .kind) (lent .several)) far i less in omega arith
 
 pub greatest-next : (f : ℕ → ℕ) (n : ℕ) → greatestOf f (n + 1) ≡ max (greatestOf f n) (f (n + 1))
 unfolding greatestOf

@@ -1,5 +1,5 @@
 -- What the loop over a path's operators has shown before operator k, and what it answers: the first refusal that stands, or the figures.
-use Prim.Native.Nat.{ℕ, zero, suc, _+_, _*_, _≤_, _<_}
+use Prim.Native.Nat.{ℕ, zero, suc, _+_, _-_, _*_, _≤_, _<_}
 use mathlib.Core.Path.{_≡_, refl, sym, ap, ap₂, subst, _∙_}
 use mathlib.Core.Bool.{Bool, true, false}
 use mathlib.Core.List.{List, [], _∷_, _++_, append-assoc}
@@ -12,7 +12,7 @@ use lib.ListN.{length, getD, set, replicate, length-set, getD-replicate}
 use lib.Seq.{getD-take, length-take-le, getD-set-same, getD-set-other}
 use Rattle.quantity.specs.Limits.{largest32, largestAmount}
 use Rattle.quantity.specs.Choice.{pick, both, either}
-use Rattle.quantity.specs.Ranges.{inRange, wantedDelayRange}
+use Rattle.quantity.specs.Ranges.{inRange, delayRange, wantedDelayRange}
 use Rattle.quantity.specs.Quantities.{slotsSum}
 use Rattle.quantity.specs.Sums.{total, listOf}
 use Rattle.quantity.specs.Refusals.{Case, firstOf}
@@ -22,7 +22,7 @@ use Rattle.quantity.specs.declared.refusal.Refusal.the-variants.{DelayAboveWant
 use Rattle.quantity.proofs.Refusals.{NoneStands, none-of-both, none-of-each, firstOf-none, firstOf-append, firstOf-map, none-where-result}
 use Rattle.quantity.proofs.Quantities.{slots-sum}
 use Rattle.quantity.proofs.Laws.{pick-true, pick-false}
-use Rattle.quantity.proofs.Sums.{both-true, total-zero, total-suc, total-next, listOf-ext}
+use Rattle.quantity.proofs.Sums.{both-true, total-zero, total-suc, total-next, total-le, total-same, listOf-ext}
 use Rattle.operator.specs.Operators.{numberInRange}
 use Rattle.flow.specs.Declarations.{declarationInRange, classOf}
 use Rattle.flow.specs.declared.Declaration.{Declaration}
@@ -42,9 +42,9 @@ use Rattle.figures.specs.Progress.{Progress, start, behind, progressAt}
 use Rattle.figures.specs.Figures.{heldFigure, capacity, pairs, quotaBehind, figureTooLarge, largestChangedQuota}
 use Rattle.figures.specs.Answers.{operatorAt, before, pairedAt, heldAt, capacityAt, delayAt, operatorCases, operatorsCases, pathCases, figureAt, noFigure, figureIn, pathDelay, refusedFigures, acceptedFigures}
 use Rattle.figures.specs.declared.carried.LeastRate.the-variants.{NoFilter}
-use Rattle.figures.specs.Carried.{classIn, progressIn, Within, Lent, BurstKept, Ready, mostBefore, Outcome, hasFigure, hasRefusal, plannedOf, PathWithin, figuresOfValue}
+use Rattle.figures.specs.Carried.{classIn, progressIn, Within, Lent, BurstKept, Ready, mostBefore, slotsOf, slotsBefore, Outcome, hasFigure, hasRefusal, plannedOf, PathWithin, figuresOfValue}
 use Rattle.figures.proofs.Capacities.{held-passed}
-use Rattle.figures.proofs.Bounds.{within-le, behind-within, own-delay-bound}
+use Rattle.figures.proofs.Bounds.{in-range, within-le, behind-within, own-delay-bound}
 
 -- the figure at each place, once the first k operators are done
 unfoldable pub figureUpTo : Path → ℕ → ℕ → Figure
@@ -114,6 +114,34 @@ module _ (path : Path) (few : length (path .operators) ≤ 16) (inside : pathInR
   delays-bound (suc k) h passed =
       let (earlier, here) = none-of-each (operatorsCases path k) (operatorCases path k) passed in
       omega (arith, total-suc (delayAt path) k, delays-bound k (omega arith) earlier, delay-bound k h earlier)
+
+-- The slots of delayers.
+
+slots-behind : (p : Progress) (op : Operator) → behind p op .e ≤ p .e + slotsOf op
+unfolding behind
+slots-behind p (Operator.Limiter R) = omega arith
+slots-behind p (Operator.Compactor n) = omega arith
+slots-behind p (Operator.Expander n) = omega arith
+slots-behind p (Operator.Filter R) = omega arith
+slots-behind p (Operator.Delayer d) = omega arith
+
+slots-up-to : (path : Path) (k : ℕ) → before path k .e ≤ total (λ j. slotsOf (operatorAt path j)) k
+unfolding before progressAt
+slots-up-to path zero = omega arith
+slots-up-to path (suc k) =
+    omega (arith, total-suc (λ j. slotsOf (operatorAt path j)) k, slots-up-to path k, slots-behind (before path k) (operatorAt path k))
+
+pub slots-at-most : (slots : ℕ → ℕ) (n : ℕ) → ((k : ℕ) → k < n → slots k ≤ 64) → total slots n ≤ 64 * n
+slots-at-most slots zero small = omega (arith, total-zero slots)
+slots-at-most slots (suc n) small = omega (arith, total-suc slots n, slots-at-most slots n (λ k less. small k (omega arith)), small n (omega arith))
+
+slots-small : (op : Operator) → numberInRange op ≡ true → slotsOf op ≤ 64
+unfolding numberInRange
+slots-small (Operator.Limiter R) inside = omega arith
+slots-small (Operator.Compactor n) inside = omega arith
+slots-small (Operator.Expander n) inside = omega arith
+slots-small (Operator.Filter R) inside = omega arith
+slots-small (Operator.Delayer d) inside = in-range delayRange (d .0) inside .1
 
 -- before operator 0
 pub walked-start : (declared : Declaration) (bound : List ℕ) (path : Path) (carried : Carried) (figure : Figure) → progressIn declared carried ≡ start (classOf (path .declaration))
@@ -276,9 +304,32 @@ module _ {value : PathValue} (within : PathWithin value) where
   path-few : length (inFull value .operators) ≤ 16
   path-few = rw path-size (within .few)
 
+  pub operator-slots : (k : ℕ) → k < value .count → slotsOf (getD (value .operators) k noLinkedOperator .operator) ≤ 64
+  operator-slots k here =
+      subst (λ (op : Operator). slotsOf op ≤ 64) (path-operator value k here)
+      (slots-small (operatorAt (inFull value) k) (number-inside (inFull value) path-few (within .inside) k (rw path-size here)))
+
+  pub slots-few : slotsBefore value ≤ mostBefore
+  unfolding slotsBefore
+  slots-few =
+      let few = within .few in
+      omega (arith, slots-at-most (λ k. slotsOf (getD (value .operators) k noLinkedOperator .operator)) (value .count - 1) (λ k less. operator-slots k (omega arith)))
+
   module _ {bound : List ℕ} {k : ℕ} {carried : Carried} {figures : List Figure} {delay : Slots} (walked : Walked (value .declaration) bound (inFull value) k carried figures delay) (here : k < value .count) where
     before-end : k < length (inFull value .operators)
     before-end = rw path-size here
+
+    -- no operator is behind more delayers than the last
+    pub slots-here : carried .e .0 ≤ slotsBefore value
+    unfolding slotsBefore
+    slots-here =
+        omega (
+          arith,
+          ap (λ (p : Progress). p .e) (walked .carries),
+          slots-up-to (inFull value) k,
+          total-same (λ j. slotsOf (operatorAt (inFull value) j)) (λ j. slotsOf (getD (value .operators) j noLinkedOperator .operator)) k (λ j less. ap slotsOf (path-operator value j (omega arith))),
+          total-le (λ j. slotsOf (getD (value .operators) j noLinkedOperator .operator)) {n = k} {m = value .count - 1} (omega arith),
+        )
 
     pub operator-ready : Ready mostBefore (value .declaration) bound carried × (numberInRange (getD (value .operators) k noLinkedOperator .operator) ≡ true)
     operator-ready = (

@@ -1,19 +1,21 @@
 -- The figures of a sheet from what reading it answered: a refusal of the reader is theirs, and an accepted sheet's path has its numbers in their ranges.
-use Prim.Native.Nat.{ℕ}
+use Prim.Native.Nat.{ℕ, suc, _+_, _-_, _≤_, _<_}
 use mathlib.Core.Path.{_≡_, refl, sym, ap, subst, subst⁻¹, _∙_}
 use mathlib.Core.Bool.{Bool, true, false, true≢false}
 use mathlib.Core.List.{List, [], _∷_, _++_}
 use native.Mathlib.Omega.{arith}
-use lib.ListN.{length, take, drop, replicate, length-append, length-replicate}
-use lib.Seq.{length-take-le}
+use lib.ListN.{length, getD, take, drop, replicate, length-append, length-drop, length-replicate, List·getD-append}
+use lib.Seq.{length-take-le, getD-take, getD-drop}
 use Rattle.quantity.specs.Sums.{listOf}
 use Rattle.quantity.specs.Choice.{pick}
 use Rattle.quantity.specs.Refusals.{Case, firstOf}
 use Rattle.quantity.specs.declared.refusal.Refusal.{Refusal}
+use Rattle.quantity.proofs.Sums.{getD-listOf}
 use Rattle.quantity.proofs.Refusals.{NoneStands, firstOf-none, firstOf-append, firstOf-map, none-where-result}
-use borrow.Author.Tests.{eq-eqb}
+use borrow.Author.Tests.{le-leb}
 use Rattle.flow.specs.Declarations.{hasRows, declarationInRange, severalAt, classOf}
-use Rattle.flow.specs.Bounds.{boundLength, boundOf, boundable, boundFilled, RowsInside, ClassWithin}
+use Rattle.flow.specs.Rows.{rowsMost}
+use Rattle.flow.specs.Bounds.{shortestBound, longestBound, boundable, boundFilled, RowsInside, ClassWithin}
 use Rattle.flow.specs.declared.Kind.{Kind}
 use Rattle.flow.proofs.Declarations.{kind-of-rows}
 use Rattle.flow.proofs.ClassBounds.{class-within}
@@ -30,9 +32,10 @@ use Rattle.sheet.proofs.InRange.{declaration-of-path}
 use Rattle.figures.specs.declared.PathFigures.{PathFigures}
 use Rattle.figures.specs.Answers.{pathCases, figureIn, noFigure, pathDelay, refusedFigures, acceptedFigures, figuresOf}
 use Rattle.figures.specs.Cameras.{isCamera}
-use Rattle.figures.proofs.ClassLaws.{rest-of-bound}
-use Rattle.figures.proofs.CameraTable.{table, camera-bound}
-use Rattle.figures.specs.Carried.{HasBound, Lent, WasRead, Readable, PathWithin, figuresOfValue, figuresOfRead}
+use Rattle.figures.specs.Carried.{HasBound, Lent, ReachesPast, mostBefore, slotsOf, slotsBefore, WasRead, Readable, PathWithin, figuresOfValue, figuresOfRead}
+use Rattle.figures.proofs.ClassLaws.{has-bound}
+use Rattle.figures.proofs.CameraTable.{table, camera-bound, camera-reaches}
+use Rattle.figures.proofs.EachOperator.{operator-slots, slots-few}
 
 -- the figures of a path: 6 to 9
 figuresOfPath : PathValue → Path → PathFigures
@@ -139,10 +142,13 @@ module _ {read : ReadSheet} (sheet : List ℕ) (answered : read ≡ readSheet sh
 
 -- what was read, with the table of its bound
 pub readable : (verdict : Verdict) (value : PathValue) (bound : List ℕ) → WasRead verdict value
-    → (declarationInRange (value .declaration) ≡ true → Lent (value .declaration .kind) (value .declaration) bound) → Readable verdict value bound
+    → (PathWithin value → declarationInRange (value .declaration) ≡ true
+    → Lent (value .declaration .kind) (value .declaration) bound × ReachesPast (value .declaration .kind) (value .declaration) bound (slotsBefore value))
+    → Readable verdict value bound
 unfolding inFull
 readable Verdict.Accepted value bound within lent =
-    (within, lent (subst (λ (d : Declaration). declarationInRange d ≡ true) (within .clear) (declaration-of-path (inFull value) (within .inside))))
+    let (has, far) = lent within (subst (λ (d : Declaration). declarationInRange d ≡ true) (within .clear) (declaration-of-path (inFull value) (within .inside))) in
+    (within, has, far)
 readable (Verdict.Refused why) value bound empty lent = empty
 
 -- the rows of a declaration in its ranges
@@ -150,20 +156,55 @@ several-within : (declared : Declaration) → declared .kind ≡ Kind.Rows → C
 unfolding classOf
 several-within declared rows within = let known = rw rows at within in known .2
 
+-- a table of rows, by its kind
+lent-rows : (declared : Declaration) (bound : List ℕ) (slots : ℕ) → hasRows (declared .kind) ≡ true → HasBound declared bound → ReachesPast Kind.Rows declared bound slots
+    → Lent (declared .kind) declared bound × ReachesPast (declared .kind) declared bound slots
+lent-rows declared bound slots several has far =
+    subst (λ (kind : Kind). Lent kind declared bound × ReachesPast kind declared bound slots) (sym (kind-of-rows (declared .kind) several)) (has, far)
+
 -- the table that is filled is, but for its first entry, the bound of the declaration's rows; the standard camera's is that too; of one row none is read
-pub filled-bound : (declared : Declaration) (lent : List ℕ) → length lent ≡ boundLength → hasRows (declared .kind) ≡ true → {after : List ℕ} → after ≡ boundFilled declared lent
-    → declarationInRange declared ≡ true → Lent (declared .kind) declared (take 1_984 (drop 1 after))
+filled-bound : (declared : Declaration) (lent bound : List ℕ) {slots before : ℕ} → slots ≡ before → slots ≤ mostBefore → length lent ≡ shortestBound + slots → hasRows (declared .kind) ≡ true
+    → length bound ≡ 1_024 + slots → ((k : ℕ) → k < length bound → getD bound k 0 ≡ getD (boundFilled declared lent) (suc k) 0)
+    → declarationInRange declared ≡ true → Lent (declared .kind) declared bound × ReachesPast (declared .kind) declared bound before
 unfolding boundFilled boundable
-filled-bound declared lent sized several {after} filled inside =
-    let rows = kind-of-rows (declared .kind) several in
-    let whole : after ≡ boundOf declared = filled ∙ rw (eq-eqb (length lent) boundLength sized, several, inside) in
-    let within = several-within declared rows (class-within declared inside) in
-    subst (λ (kind : Kind). Lent kind declared (take 1_984 (drop 1 after))) (sym rows) (subst⁻¹ (λ (l : List ℕ). HasBound declared (take 1_984 (drop 1 l))) whole (rest-of-bound declared within))
+filled-bound declared lent bound {before = before} same few sized several rest entries inside =
+    let within = several-within declared (kind-of-rows (declared .kind) several) (class-within declared inside) in
+    let most = rowsMost (severalAt declared) (declared .count) in
+    let filled : boundFilled declared lent ≡ listOf most (length lent) = rw (le-leb shortestBound (length lent) (omega arith), le-leb (length lent) longestBound (omega arith), several, inside) in
+    lent-rows declared bound before several
+    (has-bound declared bound several (omega arith)
+    (λ k less. entries k less ∙ ap (λ (l : List ℕ). getD l (suc k) 0) filled ∙ getD-listOf 0 most (length lent) (suc k) (omega arith)))
+    (λ i less. omega (arith, within i less .short))
 
-pub camera-lent : (declared : Declaration) → hasRows (declared .kind) ≡ true → isCamera declared ≡ true → Lent (declared .kind) declared table
-camera-lent declared several camera = subst (λ (kind : Kind). Lent kind declared table) (sym (kind-of-rows (declared .kind) several)) (camera-bound declared camera)
+-- lent without its first entry, in front of what is not filled
+pub filled-part : (declared : Declaration) (lent filled rest : List ℕ) {slots before : ℕ} → slots ≡ before → slots ≤ mostBefore → length lent ≡ shortestBound + slots → hasRows (declared .kind) ≡ true
+    → length filled ≡ length lent → filled ≡ boundFilled declared lent → declarationInRange declared ≡ true
+    → let bound = take (shortestBound + slots - 1) (drop 1 (filled ++ rest)) in Lent (declared .kind) declared bound × ReachesPast (declared .kind) declared bound before
+filled-part declared lent filled rest {slots} counted few sized several same made inside =
+    let whole = filled ++ rest in
+    let size = length-append filled rest in
+    let long = length-take-le (shortestBound + slots - 1) (drop 1 whole) (omega (arith, length-drop 1 whole)) in
+    filled-bound declared lent (take (shortestBound + slots - 1) (drop 1 whole)) counted few sized several (omega arith)
+    (λ k less.
+    let place : 1 + k ≡ suc k = omega arith in
+    getD-take (shortestBound + slots - 1) (drop 1 whole) k 0 (omega arith)
+    ∙ getD-drop 1 whole k 0
+    ∙ ap (λ (j : ℕ). getD whole j 0) place
+    ∙ List·getD-append filled rest 0 (suc k) (omega arith)
+    ∙ ap (λ (l : List ℕ). getD l (suc k) 0) made)
+    inside
 
-pub unread-bound : (kind : Kind) (declared : Declaration) (bound : List ℕ) → hasRows kind ≡ false → Lent kind declared bound
-unread-bound Kind.Smooth declared bound one = tt
-unread-bound Kind.Uniform declared bound one = tt
-unread-bound Kind.Rows declared bound one = absurd (true≢false one)
+pub camera-lent : (declared : Declaration) (slots : ℕ) → slots ≤ mostBefore → hasRows (declared .kind) ≡ true → isCamera declared ≡ true
+    → Lent (declared .kind) declared table × ReachesPast (declared .kind) declared table slots
+camera-lent declared slots few several camera = lent-rows declared table slots several (camera-bound declared several camera) (camera-reaches declared camera slots few)
+
+pub unread-bound : (kind : Kind) (declared : Declaration) (bound : List ℕ) (slots : ℕ) → hasRows kind ≡ false → Lent kind declared bound × ReachesPast kind declared bound slots
+unread-bound Kind.Smooth declared bound slots one = (tt, tt)
+unread-bound Kind.Uniform declared bound slots one = (tt, tt)
+unread-bound Kind.Rows declared bound slots one = absurd (true≢false one)
+
+-- what a path that was read asks of its delayers
+pub slots-read : (verdict : Verdict) (value : PathValue) → WasRead verdict value
+    → (value .count ≤ 16) × ((k : ℕ) → k < value .count → slotsOf (getD (value .operators) k noLinkedOperator .operator) ≤ 64)
+slots-read Verdict.Accepted value within = (within .few, operator-slots within)
+slots-read (Verdict.Refused why) value empty = rw empty (omega arith, λ k less. absurd (omega arith))

@@ -1,18 +1,19 @@
 -- Serves the private contracts of the figures, and need not be believed: no public call cites it.
 -- What the code carries along a path stands for a progress of section 4; and the bounds within which its numbers fit their words.
-use Prim.Native.Nat.{ℕ, _+_, _≤_, _<_}
+use Prim.Native.Nat.{ℕ, _+_, _-_, _≤_, _<_}
 use mathlib.Core.Path.{_≡_}
 use mathlib.Core.Bool.{Bool, true, false}
 use mathlib.Core.List.{List, [], _∷_}
 use lib.ListN.{length, getD}
 use Rattle.quantity.specs.Limits.{mostOperators}
 use Rattle.quantity.specs.Rounding.{roundUp}
+use Rattle.quantity.specs.Sums.{total}
 use Rattle.quantity.specs.Refusals.{Case, _⇒_, firstOf}
 use Rattle.quantity.specs.declared.Interval.{Interval}
 use Rattle.quantity.specs.declared.refusal.Refusal.{Refusal}
 use Rattle.quantity.specs.declared.refusal.Refusal.the-variants.{FramedAfterFilter, FigureTooLarge, RateTooLow}
 use Rattle.flow.specs.Classes.{Class, smooth, uniform, rows, changedQuota, burstAt}
-use Rattle.flow.specs.Declarations.{byKind, severalAt, cleared}
+use Rattle.flow.specs.Declarations.{byKind, hasRows, severalAt, cleared}
 use Rattle.flow.specs.Rows.{rowsMost}
 use Rattle.flow.specs.Bounds.{ClassWithin}
 use Rattle.flow.specs.declared.Kind.{Kind}
@@ -20,6 +21,7 @@ use Rattle.flow.specs.declared.Declaration.{Declaration}
 use Rattle.operator.specs.FilterPart.{Slowest, unfiltered, filtered}
 use Rattle.operator.specs.declared.Operator.{Operator}
 use Rattle.operator.specs.declared.Operator.the-variants.{Limiter, Compactor, Expander, Filter, Delayer}
+use Rattle.sheet.specs.Paths.{noLinkedOperator}
 use Rattle.sheet.specs.Forms.{inFull, noPath}
 use Rattle.sheet.specs.Sheets.{pathInRange}
 use Rattle.sheet.specs.declared.PathValue.{PathValue}
@@ -63,11 +65,11 @@ mostBefore = 960
 abbrev pub mostWith : ℕ
 mostWith = 1_024
 
--- a table that has the bound of a declaration's rows in 1 slot and more: as far as figures ask, which is an interval of 1,024, and one of the rows' own behind fifteen delayers
+-- a table that has the bound of a declaration's rows in 1 slot and more, up to an interval of 1,024 at least
 pub record HasBound (declared : Declaration) (bound : List ℕ) : Type 0 where
+  pub several : hasRows (declared .kind) ≡ true
   pub entries : (n : ℕ) → n ≤ length bound → getD (0 ∷ bound) n 0 ≡ rowsMost (severalAt declared) (declared .count) n
   pub long : 1_024 ≤ length bound
-  pub longer : (i : ℕ) → i < declared .count → mostBefore + severalAt declared i .interval ≤ length bound
 
 -- where the class is of rows, the lent table has their bound
 abbrev pub Lent : Kind → Declaration → List ℕ → Type 0
@@ -80,6 +82,24 @@ abbrev pub Reaches : Kind → List ℕ → ℕ → Type 0
 Reaches Kind.Smooth bound n = Unit {0}
 Reaches Kind.Uniform bound n = Unit {0}
 Reaches Kind.Rows bound n = n ≤ length bound
+
+-- and the most in each row's interval and so many slots more
+abbrev pub ReachesPast : Kind → Declaration → List ℕ → ℕ → Type 0
+ReachesPast Kind.Smooth declared bound e = Unit {0}
+ReachesPast Kind.Uniform declared bound e = Unit {0}
+ReachesPast Kind.Rows declared bound e = (i : ℕ) → i < declared .count → e + severalAt declared i .interval ≤ length bound
+
+-- a delayer's slots; every other operator has none
+abbrev pub slotsOf : Operator → ℕ
+slotsOf (Limiter R) = 0
+slotsOf (Compactor n) = 0
+slotsOf (Expander n) = 0
+slotsOf (Filter R) = 0
+slotsOf (Delayer d) = d .0
+
+-- those of a path's operators before the last: behind no more of them is what arrives at an operator
+unfoldable pub slotsBefore : PathValue → ℕ
+slotsBefore value = total (λ k. slotsOf (getD (value .operators) k noLinkedOperator .operator)) (value .count - 1)
 
 -- what is kept as the burst is that at the least rate, with the slots in which the rate sends it
 abbrev pub BurstKept : Class → LeastRate → Type 0
@@ -153,7 +173,7 @@ WasRead (Verdict.Refused why) value = value ≡ noPath
 
 -- and with the table of its bound
 abbrev pub Readable : Verdict → PathValue → List ℕ → Type 0
-Readable Verdict.Accepted value bound = PathWithin value × Lent (value .declaration .kind) (value .declaration) bound
+Readable Verdict.Accepted value bound = PathWithin value × Lent (value .declaration .kind) (value .declaration) bound × ReachesPast (value .declaration .kind) (value .declaration) bound (slotsBefore value)
 Readable (Verdict.Refused why) value bound = value ≡ noPath
 
 -- the figures of a path value: 6 to 9 of the path that it has written out

@@ -32,7 +32,7 @@ ghost use Rattle.operator.specs.Operators.{numberInRange};
 ghost use Rattle.operator.specs.declared.Operator.the-variants.{Limiter, Expander, Filter, Delayer};
 ghost use Rattle.figures.specs.Progress.{start};
 ghost use Rattle.figures.specs.Figures.{heldFigure, capacity, pairs};
-ghost use Rattle.figures.specs.Carried.{isExpander, progressIn, Lent, slotsKept, Ready, mostBefore, changedClass, outcome, plannedOf, CarriedOn, PlannedAs};
+ghost use Rattle.figures.specs.Carried.{isExpander, progressIn, Lent, ReachesPast, slotsKept, Ready, mostBefore, changedClass, outcome, plannedOf, CarriedOn, PlannedAs};
 
 // Section 7, 7: the largest changed quota.
 const LARGEST_CHANGED_QUOTA: u64 = 67_108_863;
@@ -225,7 +225,7 @@ pub(crate) fn fullest(
     operator: Operator,
     held: Figure,
 ) -> Figure
-    requires { ⌜ Ready mostBefore declared (now bound) carried × (held .capacity .0 ≡ heldFigure (progressIn declared carried) operator) × (held .capacity .0 ≤ largestAmount) ⌝ }
+    requires { ⌜ Ready mostBefore declared (now bound) carried × (held .capacity .0 ≡ heldFigure (progressIn declared carried) operator) × (held .capacity .0 ≤ largestAmount) × ReachesPast (carried .class .kind) declared (now bound) (carried .e .0) ⌝ }
     ensures { λ r. ⌜ (r .capacity .0 ≡ capacity (progressIn declared carried) operator) × (r .delay ≡ held .delay) ⌝ }
 {
     if is_expander(operator) {

@@ -8,7 +8,9 @@ use crate::each::fullest;
 use crate::each::paired;
 use crate::each::plan;
 use flow::bound::LENGTH;
+use flow::bound::SHORTEST;
 use flow::bound::fill;
+use operator::Operator;
 use quantity::Slots;
 use quantity::Units;
 use quantity::refusal::Refusal;
@@ -19,10 +21,12 @@ use sheet::read::Verdict;
 use sheet::read::read;
 ghost use mathlib.Core.Path.{_≡_};
 ghost use mathlib.Core.Bool.{true};
-ghost use Prim.Native.Nat.{_+_, _<_};
+ghost use Prim.Native.Nat.{ℕ, _+_, _≤_, _<_};
+ghost use lib.ListN.{getD};
 ghost use Rattle.flow.specs.Declarations.{hasRows};
 ghost use Rattle.figures.specs.Answers.{noFigure, refusedFigures, figuresOf};
-ghost use Rattle.figures.specs.Carried.{WasRead, Readable, figuresOfRead};
+ghost use Rattle.sheet.specs.Paths.{noLinkedOperator};
+ghost use Rattle.figures.specs.Carried.{slotsOf, slotsBefore, mostBefore, WasRead, Readable, figuresOfRead};
 ghost use Rattle.figures.specs.Cameras.{isCamera};
 
 mod camera;
@@ -97,9 +101,41 @@ fn figures_of_rows(answer: ReadSheet) -> PathFigures
     if is_camera(declaration) {
         return figures_of_camera(answer);
     }
+    let path = answer.path;
+    let asked = SHORTEST + slots_before(path);
     let mut bound = [0; LENGTH];
-    fill(declaration, &mut bound);
-    figures_read(answer, &bound[1..LENGTH])
+    fill(declaration, &mut bound[0..asked]);
+    figures_read(answer, &bound[1..asked])
+}
+
+// A delayer's slots; every other operator has none.
+fn slots_of(operator: Operator) -> u32
+    ensures { λ r. ⌜ r ≡ slotsOf operator ⌝ }
+{
+    match operator {
+        Operator::Delayer(d) => d.0,
+        Operator::Limiter(_) => 0,
+        Operator::Compactor(_) => 0,
+        Operator::Expander(_) => 0,
+        Operator::Filter(_) => 0,
+    }
+}
+
+// The slots of the delayers before the last operator: as much later than within an interval a flow arrives at an operator.
+fn slots_before(path: PathValue) -> usize
+    requires { ⌜ (path .count ≤ 16) × ((k : ℕ) → k < path .count → slotsOf (getD (path .operators) k noLinkedOperator .operator) ≤ 64) ⌝ }
+    ensures { λ r. ⌜ (r ≡ slotsBefore path) × (r ≤ mostBefore) ⌝ }
+{
+    let count = path.count;
+    let mut slots = 0;
+    let mut k = 0;
+    while k + 1 < count {
+        let linked = path.operators[k];
+        let operator = linked.operator;
+        slots += slots_of(operator) as usize;
+        k += 1;
+    }
+    slots
 }
 
 fn figures_of_camera(answer: ReadSheet) -> PathFigures

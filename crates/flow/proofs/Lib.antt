@@ -8,5 +8,6 @@ mod Rows
 mod RowsWindows
 mod RowsBurst
 mod BoundTable
+pub mod SignedOrder
 pub mod RowsExample
 pub mod Keeping

@@ -4,7 +4,7 @@ use Prim.Native.Nat.{ℕ, _+_, _-_, _≤_, _<_, min}
 use mathlib.Core.Bool.{Bool}
 use mathlib.Core.List.{List, []}
 use lib.ListN.{length, getD}
-use lib.Dec.{eqb}
+use lib.Dec.{leb}
 use Rattle.quantity.specs.Choice.{pick, both}
 use Rattle.quantity.specs.Sums.{listOf}
 use Rattle.flow.specs.Rows.{Row, units, behindRows, unitsIn, rowsMost}
@@ -12,21 +12,25 @@ use Rattle.flow.specs.Classes.{Class, smooth, uniform, rows}
 use Rattle.flow.specs.Declarations.{hasRows, severalAt, declarationInRange}
 use Rattle.flow.specs.declared.Declaration.{Declaration}
 
--- the most in 0 to 1,984 slots: an operator of a filter part is at most 960 slots of delayers and less than a row's interval behind the part's input
-abbrev pub boundLength : ℕ
-boundLength = 1_985
+-- the most in 0 to 1,024 slots at least, an interval's, and in 0 to 1,984 at the most: an operator of a filter part is at most 960 slots of delayers
+-- and less than a row's interval behind the part's input
+abbrev pub shortestBound : ℕ
+shortestBound = 1_025
+
+abbrev pub longestBound : ℕ
+longestBound = 1_985
 
 -- entry n is the most in n slots
-abbrev pub boundOf : Declaration → List ℕ
-boundOf declared = listOf (rowsMost (severalAt declared) (declared .count)) boundLength
+abbrev pub boundOf : Declaration → ℕ → List ℕ
+boundOf declared size = listOf (rowsMost (severalAt declared) (declared .count)) size
 
--- there are rows in their ranges, and the table that is lent has its length
+-- there are rows in their ranges, and the table that is lent is neither too short nor too long
 unfoldable pub boundable : Declaration → List ℕ → Bool
-boundable declared lent = both (eqb (length lent) boundLength) (both (hasRows (declared .kind)) (declarationInRange declared))
+boundable declared lent = both (leb shortestBound (length lent)) (both (leb (length lent) longestBound) (both (hasRows (declared .kind)) (declarationInRange declared)))
 
 -- what the table holds then, and else what it held
 unfoldable pub boundFilled : Declaration → List ℕ → List ℕ
-boundFilled declared lent = pick (boundable declared lent) (boundOf declared) lent
+boundFilled declared lent = pick (boundable declared lent) (boundOf declared (length lent)) lent
 
 -- row i of an array of pairs: the interval and the quota
 abbrev pub pairAt : List (List ℕ) → ℕ → Row
@@ -47,10 +51,10 @@ RowsInside given k = (i : ℕ) → i < k → RowInside (given i)
 abbrev pub largestSigned : ℕ
 largestSigned = 2_147_483_647
 
--- a table of at least an interval's slots
+-- a table of such a length
 pub record Sized (table : List ℕ) : Type 0 where
-  pub long : 1_025 ≤ length table
-  pub short : length table ≤ boundLength
+  pub long : shortestBound ≤ length table
+  pub short : length table ≤ longestBound
 
 -- and with nothing in no slots, and in the others what fits a signed number
 pub record Table (table : List ℕ) : Type 0 where

@@ -11,14 +11,20 @@ ghost use Rattle.flow.specs.Rows.{rowsMost};
 ghost use Rattle.flow.specs.Declarations.{emptyRow, rowOf};
 ghost use Rattle.flow.specs.Bounds.{largestSigned, boundable, boundFilled, pairAt, RowsInside, Sized, Table, withRow, Remade, Lowers, lowered};
 
-// The entries of a table: the most in 0 to 1,984 slots, as many as figures ask for at the most.
+// The entries of a table, at least and at the most: the most in 0 to 1,024 slots, and in 0 to 1,984. That is as far as figures ask.
+pub const SHORTEST: usize = 1025;
+
 pub const LENGTH: usize = 1985;
 
-// Fills a table with the bound of the declaration's rows. Where it has none, or one out of its range, or the table has another length, it answers so and writes nothing.
+// Fills a table with the bound of the declaration's rows. Where it has none, or one out of its range, or the table is shorter or longer, it answers so and writes nothing.
 pub fn fill(declaration: Declaration, table: &mut [u32]) -> bool
     ensures { λ r. ⌜ (r ≡ boundable declaration (now (table .entry))) × (now (table .exit) ≡ boundFilled declaration (now (table .entry))) ⌝ }
 {
-    if table.len() != LENGTH {
+    let length = table.len();
+    if length < SHORTEST {
+        return false;
+    }
+    if LENGTH < length {
         return false;
     }
     let kind = declaration.kind;

@@ -28,7 +28,7 @@ figures-read-requires c κs =
     let read = c .before .before .before .before in
     let one = sym (c .before .before .has-rows .ensures) ∙ c .before .if1 .left in
     readable (read .read .result .verdict) (read .read .result .path) _ (was-read (now (read .before .before .args .sheet)) (read .read .ensures))
-    (λ inside. unread-bound (read .read .result .path .declaration .kind) (read .read .result .path .declaration) _ one)
+    (λ within inside. unread-bound (read .read .result .path .declaration .kind) (read .read .result .path .declaration) _ _ one)
 
 returns-2 : tie.Need-returns-2
 returns-2 c = let read = c .before .before .before .before .before in c .figures-read .ensures ∙ figures-answered (now (read .before .before .args .sheet)) (read .read .ensures)

@@ -1,5 +1,6 @@
 -- The constant table is the bound of the declaration's rows.
 use Rattle.figures.proofs.CameraTable.{table}
+use Rattle.figures.proofs.EachOperator.{slots-few}
 use Rattle.figures.proofs.SheetAnswer.{readable, camera-lent}
 use borrow.Author.Needs.{needs}
 use Rattle.figures.proofs.figures_of_camera.Statement.{statement}
@@ -12,7 +13,7 @@ figures-read-requires : tie.Need-figures-read-requires
 unfolding table
 figures-read-requires c κs =
     let s = c .before in
-    readable (s .args .answer .verdict) (s .args .answer .path) _ (s .pre .0) (λ inside. camera-lent (s .args .answer .path .declaration) (s .pre .1) (s .pre .2))
+    readable (s .args .answer .verdict) (s .args .answer .path) _ (s .pre .0) (λ within inside. camera-lent (s .args .answer .path .declaration) _ (slots-few within) (s .pre .1) (s .pre .2))
 
 returns : tie.Need-returns
 returns c = c .figures-read .ensures

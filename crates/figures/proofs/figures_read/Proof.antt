@@ -13,7 +13,8 @@ use Rattle.sheet.specs.declared.read.Verdict.{Verdict}
 use Rattle.figures.specs.Progress.{start}
 use Rattle.figures.specs.Answers.{refusedFigures}
 use Rattle.figures.specs.Carried.{Lent, outcome, CarriedOn, Readable, PathWithin, figuresOfValue, figuresOfRead}
-use Rattle.figures.proofs.EachOperator.{Walked, plannedAt, walked-start, walked-planned, walked-held, walked-next, path-operator, operator-ready, paired-here, delay-counted, refused-path, late-path, accepted-path}
+use Rattle.figures.proofs.ClassLaws.{reaches-here}
+use Rattle.figures.proofs.EachOperator.{Walked, plannedAt, walked-start, walked-planned, walked-held, walked-next, path-operator, slots-here, operator-ready, paired-here, delay-counted, refused-path, late-path, accepted-path}
 use Rattle.figures.proofs.figures_read.Statement.{statement}
 use Rattle.figures.proofs.figures_read.Tie as tie
 
@@ -78,7 +79,7 @@ unfolding inFull
 loop-holds c =
     let s = c .before .before .before .before .before .before .before in
     let value = s .args .answer .path in
-    let (within, lent) = readable c in
+    let (within, lent, far) = readable c in
     let (carries, kind, unfiltered) = c .start .ensures in (
       omega arith,
       within,
@@ -133,7 +134,10 @@ fullest-requires c κs =
     let here = c .before .before .before .before .before .before .before .before .loop-test .taken in
     let planned = sym (ap outcome (c .before .held .given .1)) ∙ planned-at (c .before .before .before) in
     let (same, few) = walked-held walked (sym (path-operator _ _ here)) planned in
-    (operator-ready within walked here .0, same, few)
+    let at = c .before .before .before .before .before .before .before .before .before in
+    let args = at .before .before .before .before .before .before .before .before .args in
+    let far = reaches-here (at .loop .carried .class .kind) (args .answer .path .declaration) (args .bound .now) (walked .lent) (readable (at .before) .2) (slots-here within walked here) in
+    (operator-ready within walked here .0, same, few, far)
 
 mul-t35 : tie.Need-mul-t35 Inv-loop μ-loop
 mul-t35 c = omega (arith, c .before .before .before .before .before .before .before .before .before .loop-test .taken, c .before .before .before .before .before .before .before .before .before .before .loop .inv .1 .few)

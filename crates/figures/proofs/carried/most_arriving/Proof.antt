@@ -24,20 +24,20 @@ late-slots c =
     let s = c .before .before .before .before in
     let sent = c .before .sending .ensures in
     ap (λ (slots : Slots). slots .0) (c .plus .ensures)
-    ∙ slots-sum (c .before .sending .result) (s .args .carried .e) (let small = late-small (s .pre) in omega (arith, sent))
+    ∙ slots-sum (c .before .sending .result) (s .args .carried .e) (let small = late-small (s .pre .0) in omega (arith, sent))
     ∙ ap (λ (slots : ℕ). slots + s .args .carried .e .0) sent
 
 most-late-requires : tie.Need-most-late-requires
 most-late-requires c κs =
     let s = c .before .before .before .before in
-    (s .pre .within .class, s .pre .lent, rw (late-slots c) (late-reaches (s .pre)), rw (late-slots c) (late-small (s .pre)))
+    (s .pre .0 .within .class, s .pre .0 .lent, rw (late-slots c) (late-reaches (s .pre .0) (s .pre .1)), rw (late-slots c) (late-small (s .pre .0)))
 
 returns : tie.Need-returns
 unfolding mostArriving
 returns c =
     let s = c .before .before .before .before .before in
     let class = classIn (s .args .declared) (s .args .carried .class) in
-    (c .most-late .ensures .0 ∙ ap (λ (slots : ℕ). mostIn class (suc slots)) (late-slots (c .before) ∙ delay-kept (s .pre)), c .most-late .ensures .1)
+    (c .most-late .ensures .0 ∙ ap (λ (slots : ℕ). mostIn class (suc slots)) (late-slots (c .before) ∙ delay-kept (s .pre .0)), c .most-late .ensures .1)
 
 pub most-arriving-spec : {M : Type 1} → statement M
 most-arriving-spec = tie.close (tie.spec sending-requires plus-requires most-late-requires returns)

@@ -4,14 +4,14 @@ use Prim.Native.Nat.{ℕ, _+_, _-_, _*_, _≤_}
 use native.Mathlib.Nat.{add-mul, one-mul, mul-le-mul}
 use native.Mathlib.Omega.{arith}
 use lib.ListN.{length, length-set}
-use Rattle.flow.specs.Bounds.{boundLength, Remade}
+use Rattle.flow.specs.Bounds.{longestBound, Remade}
 use Rattle.flow.proofs.BoundTable.{remade-start, remade-next}
 use Rattle.flow.proofs.bound.each_slot.Statement.{statement}
 use Rattle.flow.proofs.bound.each_slot.Tie as tie
 
 abbrev Inv-loop : tie.InvT-loop
 Inv-loop table₀ quota most₀ n₀ table most n =
-    (1 ≤ n) × (n ≤ length table) × (length table ≤ boundLength) × (length table ≡ length table₀) × (most + quota ≡ n * quota) × Remade table₀ table 1 n (λ j. j * quota)
+    (1 ≤ n) × (n ≤ length table) × (length table ≤ longestBound) × (length table ≡ length table₀) × (most + quota ≡ n * quota) × Remade table₀ table 1 n (λ j. j * quota)
 
 abbrev μ-loop : tie.MeasureT-loop
 μ-loop table₀ quota most₀ n₀ table most n = length table - n
@@ -24,7 +24,7 @@ loop-holds c =
 add-most : tie.Need-add-most Inv-loop μ-loop
 add-most c =
     let at = c .before .loop in
-    let least : at .n ≤ boundLength = omega arith in
+    let least : at .n ≤ longestBound = omega arith in
     let few : c .before .before .args .quota ≤ 65_535 = c .before .before .pre .1 in
     omega (arith, mul-le-mul least few)
 
