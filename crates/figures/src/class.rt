@@ -17,7 +17,7 @@ ghost use Rattle.quantity.specs.Rounding.{roundUp};
 ghost use Rattle.flow.specs.Rows.{rowCarried, reach, greatestOf};
 ghost use Rattle.flow.specs.Classes.{mostIn, mostDelayed, blocksMet, changedQuota, carries, burstAt};
 ghost use Rattle.flow.specs.Declarations.{emptyRow, rowOf};
-ghost use Rattle.flow.specs.Bounds.{ClassWithin};
+ghost use Rattle.flow.specs.Bounds.{largestSigned, ClassWithin};
 ghost use Rattle.figures.specs.Carried.{classIn, Lent, Reaches};
 
 // Smooth or uniform (m, Q). Behind a change of interval Q may be larger than a declared quota. Rows are the declaration's, and have no (m, Q) of their own.
@@ -80,10 +80,12 @@ pub(crate) fn carried_by(class: FlowClass, declared: Declaration, rate: Rate) ->
     }
 }
 
+// Numbers below 2^31 have the same order as signed ones, which plain x86-64 compares four at once.
 fn larger(a: u32, b: u32) -> u32
+    requires { ⌜ (a ≤ largestSigned) × (b ≤ largestSigned) ⌝ }
     ensures { λ r. ⌜ r ≡ max a b ⌝ }
 {
-    if a < b { b } else { a }
+    if a as i32 <= b as i32 { b } else { a }
 }
 
 // The most that a rate sends in 1,024 slots.

@@ -5,7 +5,6 @@ use Prim.Native.Nat.{ℕ, _+_, _-_, _*_, _≤_, _<_, max}
 use native.Mathlib.Nat.{mul-le-mul}
 use native.Mathlib.Numerals.{add-one}
 use native.Mathlib.Omega.{arith}
-use borrow.Author.Needs.{needs}
 use lib.ListN.{getD}
 use Rattle.flow.specs.Rows.{greatestOf}
 use Rattle.figures.proofs.ClassLaws.{greatest-next}
@@ -21,14 +20,14 @@ over greatest most left sent all = omega (arith, all)
 
 abbrev Inv-loop : tie.InvT-loop
 Inv-loop bound slots rate last greatest₀ left₀ n₀ greatest left n =
-    (n ≤ slots) × (left + n * rate ≡ 67_107_840) × (greatest ≡ 67_107_840 + greatestOf (above bound rate) n)
+    (n ≤ slots) × (left + n * rate ≡ 67_107_840) × (greatest ≡ 67_107_840 + greatestOf (above bound rate) n) × (greatest ≤ 134_215_680)
 
 abbrev μ-loop : tie.MeasureT-loop
 μ-loop bound slots rate last greatest₀ left₀ n₀ greatest left n = slots - n
 
 loop-holds : tie.Need-loop-holds Inv-loop μ-loop
 unfolding greatestOf
-loop-holds c = (omega arith, omega arith, refl)
+loop-holds c = (omega arith, omega arith, refl, omega arith)
 
 -- so long as there is a slot more, the rate has not sent all
 sub-left : tie.Need-sub-left Inv-loop μ-loop
@@ -51,7 +50,10 @@ add-larger c =
     record { fits = omega (arith, at .loop .inv .1, at .before .before .pre .3 (at .loop .n) less) }
 
 larger-requires : tie.Need-larger-requires Inv-loop μ-loop
-larger-requires c κs = search needs
+larger-requires c κs =
+    let at = c .before .before in
+    let less : at .loop .n < at .before .before .args .slots = omega arith in
+    (omega (arith, at .loop .inv .3), omega (arith, at .loop .inv .1, at .before .before .pre .3 (at .loop .n) less))
 
 add-n : tie.Need-add-n Inv-loop μ-loop
 add-n c = omega arith
@@ -73,6 +75,7 @@ loop-again c =
           ∙ ap₂ max (at .loop .inv .2) (ap (λ (most : ℕ). most + (at .loop .left - args .rate)) here)
           ∙ over (greatestOf f (at .loop .n)) (getD (0 ∷ args .bound .now) (at .loop .n + 1) 0) (at .loop .left - args .rate) ((at .loop .n + 1) * args .rate) left
           ∙ ap (λ (more : ℕ). 67_107_840 + more) (sym (greatest-next f (at .loop .n))),
+      omega (arith, c .larger .ensures, at .loop .inv .1, at .loop .inv .3, at .before .before .pre .3 (at .loop .n) (omega arith)),
     )
 
 sub-result : tie.Need-sub-result Inv-loop μ-loop
