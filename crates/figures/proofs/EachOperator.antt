@@ -131,7 +131,7 @@ slots-up-to path zero = omega arith
 slots-up-to path (suc k) =
     omega (arith, total-suc (λ j. slotsOf (operatorAt path j)) k, slots-up-to path k, slots-behind (before path k) (operatorAt path k))
 
-pub slots-at-most : (slots : ℕ → ℕ) (n : ℕ) → ((k : ℕ) → k < n → slots k ≤ 64) → total slots n ≤ 64 * n
+slots-at-most : (slots : ℕ → ℕ) (n : ℕ) → ((k : ℕ) → k < n → slots k ≤ 64) → total slots n ≤ 64 * n
 slots-at-most slots zero small = omega (arith, total-zero slots)
 slots-at-most slots (suc n) small = omega (arith, total-suc slots n, slots-at-most slots n (λ k less. small k (omega arith)), small n (omega arith))
 

@@ -35,7 +35,7 @@ use Rattle.figures.specs.Cameras.{isCamera}
 use Rattle.figures.specs.Carried.{HasBound, Lent, ReachesPast, mostBefore, slotsOf, slotsBefore, WasRead, Readable, PathWithin, figuresOfValue, figuresOfRead}
 use Rattle.figures.proofs.ClassLaws.{has-bound}
 use Rattle.figures.proofs.CameraTable.{table, camera-bound, camera-reaches}
-use Rattle.figures.proofs.EachOperator.{operator-slots, slots-few}
+use Rattle.figures.proofs.EachOperator.{operator-slots}
 
 -- the figures of a path: 6 to 9
 figuresOfPath : PathValue → Path → PathFigures

@@ -1,6 +1,6 @@
 -- Before operator k the sum is that of the operators before it, at most 64 slots each.
-use mathlib.Core.Path.{_≡_, refl, sym, ap, _∙_}
-use Prim.Native.Nat.{ℕ, _+_, _-_, _*_, _≤_, _<_}
+use mathlib.Core.Path.{_≡_, sym, ap, _∙_}
+use Prim.Native.Nat.{ℕ, _-_, _*_, _≤_}
 use native.Mathlib.Omega.{arith}
 use lib.ListN.{getD}
 use borrow.Author.Needs.{needs}
@@ -9,7 +9,6 @@ use Rattle.quantity.proofs.Sums.{total-zero, total-next}
 use Rattle.sheet.specs.Paths.{noLinkedOperator}
 use Rattle.sheet.specs.declared.PathValue.{PathValue}
 use Rattle.figures.specs.Carried.{slotsOf, slotsBefore}
-use Rattle.figures.proofs.EachOperator.{slots-at-most}
 use Rattle.figures.proofs.slots_before.Statement.{statement}
 use Rattle.figures.proofs.slots_before.Tie as tie
 

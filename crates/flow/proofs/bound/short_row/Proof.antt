@@ -1,7 +1,6 @@
 -- Below the interval's start the entries follow the step, and those of the interval before are kept beside the table.
 use mathlib.Core.Path.{_≡_, refl, sym, _∙_, ap, ap₂}
-use mathlib.Core.List.{List}
-use Prim.Native.Nat.{ℕ, _+_, _-_, _≤_, _<_, min}
+use Prim.Native.Nat.{ℕ, _+_, _-_, _<_, min}
 use native.Mathlib.Omega.{arith}
 use lib.ListN.{length, getD-replicate}
 use Rattle.flow.proofs.BoundTable.{entry, Follows, follows-start, follows-block, follows-lowered, follows-lowers, follows-fits, follows-all}
