@@ -3,6 +3,7 @@ pub mod Filling
 pub mod ClosingUp
 pub mod MarkingOne
 pub mod Numbers
+pub mod Differing
 pub mod Reserving
 pub mod UsableLedger
 pub mod Testing

@@ -13,8 +13,8 @@ use lib.ListN.{length, getD, set, take, length-set}
 use lib.Seq.{getD-set-same, getD-set-other, getD-take, length-take-le}
 use borrow.Author.Count.{below-none, below-more}
 use borrow.Author.Tests.{lt-ltb, le-ltb, ltb-true, ltb-false, eqb-true, eqb-false, eq-eqb, ne-eqb}
-use Rattle.quantity.specs.Choice.{pick}
-use Rattle.quantity.specs.Sums.{listOf}
+use Rattle.quantity.specs.Choice.{pick, both, either}
+use Rattle.quantity.specs.Sums.{every, listOf}
 use Rattle.quantity.proofs.Sums.{every-holds, every-fails, every-same, listOf-ext}
 use Rattle.ledger.specs.Records.{among, placeAmong, allDiffer}
 
@@ -127,6 +127,16 @@ module _ (numbers : ℕ → ℕ) (number : ℕ) where
             le-ltb (placeAmong numbers n number) n last ∙ sym (not-among n (λ k less. before-place n k (omega arith)))
       ]
 
+not-both : (a b : Bool) → not (both a (not b)) ≡ either (not a) b
+not-both true true = refl
+not-both true false = refl
+not-both false b = refl
+
+-- one number more
+pub among-suc : (numbers : ℕ → ℕ) (number n : ℕ) → among numbers (suc n) number ≡ either (among numbers n number) (eqb (numbers n) number)
+unfolding among every
+among-suc numbers number n = not-both (every (λ j. not (eqb (numbers j) number)) n) (eqb (numbers n) number)
+
 -- numbers that agree below n
 module _ (f g : ℕ → ℕ) (n : ℕ) (same : (k : ℕ) → k < n → f k ≡ g k) where
   pub place-among-same : (number : ℕ) → placeAmong f n number ≡ placeAmong g n number
@@ -157,6 +167,3 @@ module _ (xs : List ℕ) (numbers : ℕ → ℕ) (n : ℕ) (fits : n ≤ length 
 
   pub place-in-front : (number : ℕ) → placeAmong (λ k. getD (take (n - 0) xs) k 0) (length (take (n - 0) xs)) number ≡ placeAmong numbers n number
   place-in-front number = rw (sub-zero, length-take-le n xs fits) (place-among-same (λ k. getD (take n xs) k 0) numbers n front-at number)
-
-  pub all-differ-in-front : allDiffer (λ k. getD (take (n - 0) xs) k 0) (length (take (n - 0) xs)) ≡ allDiffer numbers n
-  all-differ-in-front = rw (sub-zero, length-take-le n xs fits) (all-differ-same (λ k. getD (take n xs) k 0) numbers n front-at)

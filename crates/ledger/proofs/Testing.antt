@@ -2,23 +2,25 @@
 use mathlib.Core.Path.{_≡_, refl, ap, sym, _∙_}
 use mathlib.Core.Bool.{Bool, true, false}
 use mathlib.Core.List.{List, []}
-use Prim.Native.Nat.{ℕ, _-_, _≤_, _<_}
+use Prim.Native.Nat.{ℕ, _≤_, _<_}
 use native.Mathlib.Omega.{arith}
-use lib.ListN.{length, getD, take}
-use lib.Dec.{leb, eqb}
+use lib.ListN.{length, getD}
+use lib.Dec.{leb, ltb, eqb}
+use borrow.Author.Tests.{lt-ltb}
 use Rattle.quantity.specs.Choice.{both}
 use Rattle.quantity.specs.Sums.{every, listOf}
+use Rattle.quantity.specs.Ranges.{inRange, pathNumberRange}
 use Rattle.quantity.specs.declared.Rate.{Rate}
-use Rattle.quantity.proofs.Laws.{pick-true, pick-false}
-use Rattle.quantity.proofs.Sums.{getD-listOf, length-listOf, every-same}
+use Rattle.quantity.proofs.Laws.{pick-true, pick-false, le-largest}
+use Rattle.quantity.proofs.Sums.{both-true, getD-listOf, every-at, every-same}
 use Rattle.ledger.specs.declared.Record.{Record}
 use Rattle.ledger.specs.declared.Ledger.{Ledger}
 use Rattle.ledger.specs.declared.test.Tested.{Tested}
 use Rattle.ledger.specs.declared.records.Loaded.{Loaded}
 use Rattle.ledger.specs.Records.{numberAt, reserved, allDiffer}
-use Rattle.ledger.specs.Ledgers.{recordCount, linkCount, capacityOf, totalOf, linkFits, totalKept}
-use Rattle.ledger.specs.Steps.{loadedRecords, rateAt, reservedRates, notTested, testedOf}
-use Rattle.ledger.proofs.Numbers.{all-differ-in-front}
+use Rattle.ledger.specs.Ledgers.{recordCount, linkCount, capacityOf, totalOf, recordInRange, recordFits, linkFits, totalKept}
+use Rattle.ledger.specs.Steps.{loadedRecords, noNumber, rateAt, reservedRates, notTested, testedOf}
+use Rattle.ledger.proofs.Numbers.{all-differ-same}
 use Rattle.ledger.proofs.UsableLedger.{UsableLedger, ledger-usable, ledger-unusable}
 
 -- what `a && b` answers, where b is asked only if a holds
@@ -42,13 +44,19 @@ module _ (ledger : Ledger) (records : List Record) where
   unfolding testedOf
   tested-usable passed = sym (pick-false _ notTested tested (ledger-usable ledger records passed))
 
--- the numbers of the standing records, lent as a part of all, differ as they do
-pub numbers-differ : (records : List Record) (count : ℕ) → count ≤ recordCount →
-    let numbers = listOf (numberAt records) recordCount in
-    allDiffer (λ k. getD (take (count - 0) numbers) k 0) (length (take (count - 0) numbers)) ≡ allDiffer (numberAt records) count
-numbers-differ records count few =
-    all-differ-in-front (listOf (numberAt records) recordCount) (numberAt records) count (rw length-listOf few)
-    (λ k less. getD-listOf 0 (numberAt records) recordCount k (omega arith))
+-- the numbers of the standing records differ as they do, and each is below the one that is none
+module _ (records : List Record) (count : ℕ) (few : count ≤ recordCount) where
+  number-listed : (k : ℕ) → k < count → getD (listOf (numberAt records) recordCount) k 0 ≡ numberAt records k
+  number-listed k less = getD-listOf 0 (numberAt records) recordCount k (omega arith)
+
+  pub numbers-differ : allDiffer (λ k. getD (listOf (numberAt records) recordCount) k 0) count ≡ allDiffer (numberAt records) count
+  numbers-differ = all-differ-same (λ k. getD (listOf (numberAt records) recordCount) k 0) (numberAt records) count number-listed
+
+  pub numbers-below : every (recordFits count records) recordCount ≡ true → (k : ℕ) → k < count → getD (listOf (numberAt records) recordCount) k 0 < noNumber
+  unfolding recordFits recordInRange
+  numbers-below fit k less =
+      let fits = sym (pick-true (ltb k count) _ _ (lt-ltb k count less)) ∙ every-at (recordFits count records) recordCount fit k (omega arith) in
+      omega (arith, number-listed k less, le-largest pathNumberRange (numberAt records k) (both-true (inRange pathNumberRange (numberAt records k)) _ fits .0))
 
 -- and the links fit, and their totals are kept, as their reserved rates say
 module _ (ledger : Ledger) (records : List Record) where

@@ -58,6 +58,14 @@ filled records count with = replicate count with ++ drop count records
 
 -- Test.
 
+-- above every path number
+abbrev pub noNumber : ℕ
+noNumber = 65536
+
+-- numbers behind 64 that are none
+unfoldable pub behindNone : List ℕ → ℕ → ℕ
+behindNone numbers j = pick (ltb j recordCount) noNumber (getD numbers (j - recordCount) 0)
+
 abbrev pub rateAt : List Rate → ℕ → Rate
 rateAt rates link = getD rates link (record { 0 = 0 })
 

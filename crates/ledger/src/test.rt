@@ -7,14 +7,17 @@ use quantity::LinkCapacity;
 use quantity::Rate;
 ghost use mathlib.Core.Path.{_≡_};
 ghost use mathlib.Core.Bool.{true};
-ghost use Prim.Native.Nat.{_≤_};
+ghost use Prim.Native.Nat.{ℕ, _≤_, _<_};
 ghost use lib.ListN.{length, getD};
 ghost use lib.Dec.{leb, eqb};
 ghost use Rattle.quantity.specs.Choice.{pick, both};
 ghost use Rattle.quantity.specs.Sums.{every, listOf};
-ghost use Rattle.ledger.specs.Records.{recordAt, numberAt, placeAmong, allDiffer};
+ghost use Rattle.ledger.specs.Records.{recordAt, numberAt, among, placeAmong, allDiffer};
 ghost use Rattle.ledger.specs.Ledgers.{linkCount, recordCount, recordInRange, recordClear, recordFits, capacitiesFit};
-ghost use Rattle.ledger.specs.Steps.{loadedRecords, rateAt, charged, reservedRates, notTested, testedOf};
+ghost use Rattle.ledger.specs.Steps.{loadedRecords, noNumber, behindNone, rateAt, charged, reservedRates, notTested, testedOf};
+
+// No path's number: it is above them all.
+const NO_NUMBER: u32 = 65536;
 
 // Whether what is lent and stored can be used; then the records' numbers.
 pub struct Tested {
@@ -41,7 +44,7 @@ pub(crate) fn test(ledger: Ledger, loaded: Loaded) -> Tested
         return not_tested();
     }
     let numbers = numbers_of(records);
-    if !all_differ(&numbers[0..count]) {
+    if !all_differ(numbers, count) {
         return not_tested();
     }
     let reserved = reserve(records, count);
@@ -144,13 +147,44 @@ pub(crate) fn find(numbers: &[u32], number: u32) -> usize
     j
 }
 
-fn all_differ(numbers: &[u32]) -> bool
-    ensures { λ r. ⌜ r ≡ allDiffer (λ j. getD (now (numbers .entry)) j 0) (length (now (numbers .entry))) ⌝ }
+// Whether a number is among some. All are compared, so that the loop has no branch.
+fn is_among(numbers: &[u32], number: u32) -> bool
+    ensures { λ r. ⌜ r ≡ among (λ j. getD (now (numbers .entry)) j 0) (length (now (numbers .entry))) number ⌝ }
 {
+    let mut met: u32 = 0;
     let mut j = 0;
     while j < numbers.len() {
+        let same = if numbers[j] == number { 1 } else { 0 };
+        met = met | same;
+        j += 1;
+    }
+    met != 0
+}
+
+// The numbers behind 64 that are none: so each has 64 in front of it.
+fn behind_none(numbers: [u32; 64]) -> [u32; 128]
+    ensures { λ r. ⌜ r ≡ listOf (behindNone numbers) 128 ⌝ }
+{
+    let mut all = [NO_NUMBER; 128];
+    let mut j = 0;
+    while j < crate::RECORDS {
+        all[j + crate::RECORDS] = numbers[j];
+        j += 1;
+    }
+    all
+}
+
+// Each number is compared with the 64 in front of it, whatever its place.
+fn all_differ(numbers: [u32; 64], count: usize) -> bool
+    requires { ⌜ (count ≤ recordCount) × ((j : ℕ) → j < count → getD numbers j 0 < noNumber) ⌝ }
+    ensures { λ r. ⌜ r ≡ allDiffer (λ j. getD numbers j 0) count ⌝ }
+{
+    let all = behind_none(numbers);
+    let mut j = 0;
+    while j < count {
         let number = numbers[j];
-        if find(&numbers[0..j], number) < j {
+        let end = j + crate::RECORDS;
+        if is_among(&all[j..end], number) {
             return false;
         }
         j += 1;

@@ -13,7 +13,7 @@ use Rattle.quantity.specs.declared.Rate.{Rate}
 use Rattle.ledger.specs.Records.{numberAt, allDiffer}
 use Rattle.ledger.specs.Ledgers.{recordCount, linkCount, capacityOf, totalOf, recordFits, linkFits, totalKept}
 use Rattle.ledger.specs.Steps.{rateAt}
-use Rattle.ledger.proofs.Testing.{numbers-differ, links-fit-reserved, totals-kept-reserved, tested-unsized, tested-held-not, tested-held}
+use Rattle.ledger.proofs.Testing.{numbers-differ, numbers-below, links-fit-reserved, totals-kept-reserved, tested-unsized, tested-held-not, tested-held}
 use Rattle.ledger.proofs.UsableLedger.{UsableLedger}
 use Rattle.ledger.proofs.test.test.Statement.{statement}
 use Rattle.ledger.proofs.test.test.Tie as tie
@@ -29,7 +29,7 @@ abbrev counted : tie.Else4 → tie.Else2
 counted c = c .before .before .before .before .before .before
 
 abbrev numbered : tie.After-all-differ → tie.Else4
-numbered c = c .before .before .before .before
+numbered c = c .before .before
 
 -- what each test answers
 sized : (c : tie.Start) → length (c .args .loaded .records) ≡ recordCount
@@ -51,7 +51,7 @@ differing c =
     let args = start (passed .before) .args in
     let count = args .ledger .count in
     c .all-differ .ensures
-    ∙ ap (λ (numbers : List ℕ). allDiffer (λ k. getD (take (count - 0) numbers) k 0) (length (take (count - 0) numbers))) (c .before .before .before .numbers-of .ensures)
+    ∙ ap (λ (numbers : List ℕ). allDiffer (λ k. getD numbers k 0) count) (c .before .numbers-of .ensures)
     ∙ numbers-differ (args .loaded .records) count (passed .if2 .left)
 
 linked : (c : tie.After-totals-fit) →
@@ -119,17 +119,12 @@ returns-4 c =
 numbers-of-requires : tie.Need-numbers-of-requires
 numbers-of-requires c κs = search needs
 
-sub-all-differ : tie.Need-sub-all-differ
-sub-all-differ c = search needs
-
-part-all-differ-start : tie.Need-part-all-differ-start
-part-all-differ-start c = search needs
-
-part-all-differ-end : tie.Need-part-all-differ-end
-part-all-differ-end c = search needs
-
 all-differ-requires : tie.Need-all-differ-requires
-all-differ-requires c κs = search needs
+all-differ-requires c κs =
+    let passed = counted (c .before) in
+    let args = start (passed .before) .args in
+    let few = passed .if2 .left in
+    (few, rw (c .numbers-of .ensures) (numbers-below (args .loaded .records) (args .ledger .count) few (fit (c .before))))
 
 not-tested-requires-5 : tie.Need-not-tested-requires-5
 not-tested-requires-5 c κs = search needs
@@ -190,7 +185,7 @@ returns-8 c =
       links-fit = sym (linked linked-at) ∙ not-false _ (c .before .before .before .if6 .left);
       totals-kept = sym (kept (c .before)) ∙ not-false _ (c .if7 .left);
     } in
-    ap (λ (numbers : List ℕ). record { usable = true; numbers = numbers }) (tested .before .before .before .numbers-of .ensures)
+    ap (λ (numbers : List ℕ). record { usable = true; numbers = numbers }) (tested .before .numbers-of .ensures)
     ∙ tested-held (args .ledger) (args .loaded) (lent (passed .before)) usable
 
 pub test-spec : {M : Type 1} → statement M
@@ -208,9 +203,6 @@ test-spec =
     not-tested-requires-4
     returns-4
     numbers-of-requires
-    sub-all-differ
-    part-all-differ-start
-    part-all-differ-end
     all-differ-requires
     not-tested-requires-5
     returns-5
