@@ -3,7 +3,7 @@ use mathlib.Core.Path.{_≡_, ap, ap₂, sym, subst, _∙_}
 use mathlib.Core.Bool.{Bool, true, false, not}
 use mathlib.Core.List.{List, [], _∷_, _++_, append-nil}
 use Prim.Native.Nat.{ℕ, zero, suc, _+_, _-_, _^_, _≤_, _<_}
-use native.Mathlib.Nat.{div-le-self}
+use native.Mathlib.Nat.{div-le-self, mod-eq-of-lt}
 use native.Mathlib.Decide.{decLt}
 use native.Mathlib.Omega.{arith}
 use lib.ListN.{length, getD, replicate, length-replicate, getD-replicate, List·getD-eq-default}
@@ -99,9 +99,8 @@ module _ (ledger : Ledger) (records : List Record) (usable : ledgerUnusable ledg
   charged-path number =
       listOf-same _ _ linkCount
       (λ link less.
-      let more : Rate = record { 0 = share (recordOf number path markHeld) link } in
       ap (λ (n : ℕ). record { 0 = n })
-      (rates-sum (rateAt (ledger .totals) link) more (omega (arith, sum-fits link less, share-path link)) ∙ ap (λ (n : ℕ). totalOf ledger link + n) (share-named number path markHeld link less)))
+      (mod-eq-of-lt (omega (arith, sum-fits link less, share-path link)) ∙ ap (λ (n : ℕ). totalOf ledger link + n) (share-named number path markHeld link less)))
     where
       share-path : (link : ℕ) → share (recordOf number path markHeld) link ≤ rateOf path
       share-path link = share-at-most (recordOf number path markHeld) link

@@ -1,27 +1,24 @@
--- A record's share of a link by the bits halved link times, and the sums of shares: 64 rates of 65,535 stay far below where a sum of rates stops.
+-- A record's share charged or discharged link by link, and the sums of shares: 64 rates of 65,535 stay far below where a sum of 32 bits wraps.
 use mathlib.Core.Path.{_≡_, refl, ap, ap₂, sym, _∙_}
 use mathlib.Core.Bool.{Bool, true, false}
 use mathlib.Core.List.{List, [], _∷_, _++_}
-use Prim.Native.Nat.{ℕ, zero, suc, _+_, _*_, _/_, _%_, _^_, _≤_, _<_}
-use native.Mathlib.Nat.{div-one, pow-suc, div-div-eq-div-mul, mul-suc}
-use native.Mathlib.Numerals.{add-one}
+use Prim.Native.Nat.{ℕ, zero, suc, _+_, _*_, _≤_, _<_}
+use native.Mathlib.Nat.{mod-eq-of-lt, mul-suc}
 use native.Mathlib.Omega.{arith}
 use lib.ListN.{length, set, replicate}
 use lib.Seq.{getD-set-other}
 use lib.Dec.{ltb, eqb}
-use borrow.Author.Tests.{eq-eqb, ne-eqb, eqb-true}
+use borrow.Author.Tests.{eqb-true}
 use Rattle.quantity.specs.Choice.{pick}
 use Rattle.quantity.specs.Sums.{total, every, listOf}
 use Rattle.quantity.specs.Ranges.{inRange, rateRange, pathNumberRange}
-use Rattle.quantity.specs.Quantities.{ratesSum}
 use Rattle.quantity.specs.declared.Rate.{Rate}
-use Rattle.quantity.proofs.Laws.{pick-true, pick-false, le-largest}
+use Rattle.quantity.proofs.Laws.{le-largest}
 use Rattle.quantity.proofs.Sums.{total-zero, total-suc, total-next, both-true, every-at, getD-listOf}
-use Rattle.quantity.proofs.Quantities.{rates-sum}
 use Rattle.ledger.specs.declared.Record.{Record}
 use Rattle.ledger.specs.Records.{recordAt, hasLink, share, reserved}
 use Rattle.ledger.specs.Ledgers.{recordCount, linkCount, recordInRange, recordClear, recordFits}
-use Rattle.ledger.specs.Steps.{rateAt, charged, reservedRates}
+use Rattle.ledger.specs.Steps.{rateAt, wrapped, charged, reservedRates}
 use Rattle.ledger.proofs.Numbers.{Written, written-first, written-next, written-all}
 
 abbrev none : Rate
@@ -39,32 +36,19 @@ module _ (change : Rate → Rate → Rate) (rates : List Rate) (r : Record) wher
   abbrev pub changedAt : ℕ → Rate
   changedAt link = change (rateAt rates link) (shareRate r link)
 
-  pub record Charging (sums : List Rate) (bits link : ℕ) : Type 0 where
+  pub record Charging (sums : List Rate) (link : ℕ) : Type 0 where
     pub written : Written none changedAt linkCount sums link
     pub given : (k : ℕ) → link ≤ k → rateAt sums k ≡ rateAt rates k
-    pub halved : bits ≡ r .links / 2 ^ link
 
-  pub charging-first : length rates ≡ linkCount → Charging rates (r .links) 0
-  charging-first sized = record { written = written-first _ changedAt linkCount sized; given = λ k from. refl; halved = sym (div-one (r .links)) }
+  pub charging-first : length rates ≡ linkCount → Charging rates 0
+  charging-first sized = record { written = written-first _ changedAt linkCount sized; given = λ k from. refl }
 
-  module _ {sums : List Rate} {bits link : ℕ} (charging : Charging sums bits link) where
-    -- the lowest bit tells whether the record reserves its rate on the link
-    pub share-named : bits % 2 ≡ 1 → r .rate ≡ shareRate r link
-    unfolding share hasLink
-    share-named odd =
-        ap (λ (n : ℕ). record { 0 = n }) (sym (pick-true _ (r .rate .0) 0 (eq-eqb (r .links / 2 ^ link % 2) 1 (rw (charging .halved) at odd))))
-
-    pub share-none : (bits % 2 ≡ 1 → ⊥) → none ≡ shareRate r link
-    unfolding share hasLink
-    share-none even =
-        ap (λ (n : ℕ). record { 0 = n }) (sym (pick-false _ (r .rate .0) 0 (ne-eqb (r .links / 2 ^ link % 2) 1 (rw (charging .halved) at even))))
-
-    pub charging-next : link < linkCount → {sum more : Rate} → sum ≡ change (rateAt sums link) more → more ≡ shareRate r link → Charging (set sums link sum) (bits / 2) (link + 1)
+  module _ {sums : List Rate} {link : ℕ} (charging : Charging sums link) where
+    pub charging-next : link < linkCount → {sum more : Rate} → sum ≡ change (rateAt sums link) more → more ≡ shareRate r link → Charging (set sums link sum) (link + 1)
     charging-next less {sum} {more} added shared =
         record {
           written = written-next _ changedAt linkCount (charging .written) less (added ∙ ap₂ change (charging .given link (omega arith)) shared);
           given = λ k from. getD-set-other sums link k sum none (λ same. omega arith) ∙ charging .given k (omega arith);
-          halved = rw (charging .halved, add-one, pow-suc, div-div-eq-div-mul);
         }
 
     pub charging-all : linkCount ≤ link → sums ≡ listOf changedAt linkCount
@@ -128,9 +112,9 @@ module _ (records : List Record) (count : ℕ) (fit : every (recordFits count re
   unfolding charged reservedRates
   charged-next n less = listOf-same _ _ linkCount each
     where
-      each : (link : ℕ) → link < linkCount → ratesSum (rateAt (reservedRates records n) link) (shareRate (recordAt records n) link) ≡ reservedRate records (n + 1) link
+      each : (link : ℕ) → link < linkCount → wrapped (rateAt (reservedRates records n) link) (shareRate (recordAt records n) link) ≡ reservedRate records (n + 1) link
       each link inside =
           let more = shareRate (recordAt records n) link in
-          ap (λ (a : Rate). ratesSum a more) (getD-listOf none (reservedRate records n) linkCount link inside)
+          ap (λ (a : Rate). wrapped a more) (getD-listOf none (reservedRate records n) linkCount link inside)
           ∙ ap (λ (m : ℕ). record { 0 = m })
-          (rates-sum (reservedRate records n link) more (omega (arith, reserved-at-most n link (omega arith), share-fits n link less)) ∙ sym (reserved-next records n link))
+          (mod-eq-of-lt (omega (arith, reserved-at-most n link (omega arith), share-fits n link less)) ∙ sym (reserved-next records n link))

@@ -1,7 +1,7 @@
 -- Serves the private contracts of the ledger, and need not be believed: no public call cites it.
 -- The steps of the calls, as the code takes them: the lent records by value, what the test finds, what is decided, what is written, and what asking finds of the links.
 use mathlib.Core.Path.{_≡_}
-use Prim.Native.Nat.{ℕ, _+_, _-_, _≤_, _<_}
+use Prim.Native.Nat.{ℕ, _+_, _-_, _%_, _^_, _≤_, _<_}
 use mathlib.Core.Bool.{Bool, true, false, not}
 use mathlib.Core.List.{List, [], _++_}
 use lib.ListN.{length, getD, set, drop, replicate}
@@ -69,9 +69,13 @@ behindNone numbers j = pick (ltb j recordCount) noNumber (getD numbers (j - reco
 abbrev pub rateAt : List Rate → ℕ → Rate
 rateAt rates link = getD rates link (record { 0 = 0 })
 
+-- a rate with another, 32 bits wide
+abbrev pub wrapped : Rate → Rate → Rate
+wrapped a b = record { 0 = (a .0 + b .0) % 2 ^ 32 }
+
 -- each link's sum with a record's share
 unfoldable pub charged : List Rate → Record → List Rate
-charged rates r = listOf (λ link. ratesSum (rateAt rates link) (record { 0 = share r link })) linkCount
+charged rates r = listOf (λ link. wrapped (rateAt rates link) (record { 0 = share r link })) linkCount
 
 -- and without it
 unfoldable pub discharged : List Rate → Record → List Rate

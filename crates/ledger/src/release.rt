@@ -7,6 +7,7 @@ use crate::records::Loaded;
 use crate::records::close_up;
 use crate::records::load;
 use crate::test::find;
+use crate::test::share_on;
 use crate::test::test;
 use quantity::CheckedPathNumber;
 use quantity::PathNumber;
@@ -101,13 +102,11 @@ fn discharge(totals: [Rate; 16], gone: Record) -> [Rate; 16]
     ensures { λ r. ⌜ r ≡ discharged totals gone ⌝ }
 {
     let mut left = totals;
-    let mut bits = gone.links;
     let mut link = 0;
     while link < crate::LINKS {
         let total = left[link];
-        let share = if bits % 2 == 1 { gone.rate } else { Rate(0) };
+        let share = share_on(gone, link);
         left[link] = Rate(total.0 - share.0);
-        bits /= 2;
         link += 1;
     }
     left

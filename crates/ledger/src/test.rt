@@ -5,6 +5,7 @@ use crate::Record;
 use crate::records::Loaded;
 use quantity::LinkCapacity;
 use quantity::Rate;
+use std::num::wrapping_add_u32;
 ghost use mathlib.Core.Path.{_≡_};
 ghost use mathlib.Core.Bool.{true};
 ghost use Prim.Native.Nat.{ℕ, _≤_, _<_};
@@ -12,7 +13,7 @@ ghost use lib.ListN.{length, getD};
 ghost use lib.Dec.{leb, eqb};
 ghost use Rattle.quantity.specs.Choice.{pick, both};
 ghost use Rattle.quantity.specs.Sums.{every, listOf};
-ghost use Rattle.ledger.specs.Records.{recordAt, numberAt, among, placeAmong, allDiffer};
+ghost use Rattle.ledger.specs.Records.{recordAt, numberAt, share, among, placeAmong, allDiffer};
 ghost use Rattle.ledger.specs.Ledgers.{linkCount, recordCount, recordInRange, recordClear, recordFits, capacitiesFit};
 ghost use Rattle.ledger.specs.Steps.{loadedRecords, noNumber, behindNone, rateAt, charged, reservedRates, notTested, testedOf};
 
@@ -192,18 +193,28 @@ fn all_differ(numbers: [u32; 64], count: usize) -> bool
     true
 }
 
-// Each link's total with a record's share: its rate on the links that its bits name.
+// What a record reserves on a link: its rate where the link's bit is set.
+pub(crate) fn share_on(entry: Record, link: usize) -> Rate
+    requires { ⌜ link < linkCount ⌝ }
+    ensures { λ r. ⌜ r ≡ record { 0 = share entry link } ⌝ }
+{
+    if (entry.links >> link) % 2 == 1 {
+        entry.rate
+    } else {
+        Rate(0)
+    }
+}
+
+// Each link's total with a record's share. A sum of 32 bits would wrap; in a ledger that can be used none does.
 pub(crate) fn charge(rates: [Rate; 16], entry: Record) -> [Rate; 16]
     ensures { λ r. ⌜ r ≡ charged rates entry ⌝ }
 {
     let mut sums = rates;
-    let mut bits = entry.links;
     let mut link = 0;
     while link < crate::LINKS {
         let sum = sums[link];
-        let share = if bits % 2 == 1 { entry.rate } else { Rate(0) };
-        sums[link] = sum.plus(share);
-        bits /= 2;
+        let share = share_on(entry, link);
+        sums[link] = Rate(wrapping_add_u32(sum.0, share.0));
         link += 1;
     }
     sums

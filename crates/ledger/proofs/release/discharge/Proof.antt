@@ -1,13 +1,12 @@
--- The totals of the links passed are without the record's share; its bits are halved at each.
+-- The totals of the links passed are without the record's share.
 use Prim.Native.Nat.{_-_}
-use mathlib.Core.Path.{_≡_, refl, ap, _∙_}
-use mathlib.Core.Logic.{⊎-elim}
+use mathlib.Core.Path.{_≡_, refl, ap}
+use borrow.Author.Needs.{needs}
 use native.Mathlib.Omega.{arith}
 use Rattle.quantity.specs.declared.Rate.{Rate}
-use Rattle.ledger.specs.Records.{share}
 use Rattle.ledger.specs.Ledgers.{linkCount}
 use Rattle.ledger.specs.Steps.{discharged}
-use Rattle.ledger.proofs.Reserving.{Charging, charging-first, charging-next, charging-all, share-named, share-none}
+use Rattle.ledger.proofs.Reserving.{Charging, charging-first, charging-next, charging-all}
 use Rattle.ledger.proofs.release.discharge.Statement.{statement}
 use Rattle.ledger.proofs.release.discharge.Tie as tie
 
@@ -16,19 +15,14 @@ abbrev lessened : Rate → Rate → Rate
 lessened a b = record { 0 = a .0 - b .0 }
 
 abbrev Inv-loop : tie.InvT-loop
-Inv-loop gone left₀ bits₀ link₀ left bits link = Charging lessened left₀ gone left bits link
+Inv-loop gone left₀ link₀ left link = Charging lessened left₀ gone left link
 
 abbrev μ-loop : tie.MeasureT-loop
-μ-loop gone left₀ bits₀ link₀ left bits link = linkCount - link
+μ-loop gone left₀ link₀ left link = linkCount - link
 
--- the turn begun, and the share of the record on its link
+-- the turn begun
 abbrev turn : tie.After-struct-known2 Inv-loop μ-loop → tie.In-loop Inv-loop μ-loop
 turn c = c .before .before .before .before
-
-shared : (c : tie.After-struct-known2 Inv-loop μ-loop) → c .before .before .if1 .share ≡ record { 0 = share (turn c .before .before .args .gone) (turn c .before .loop .link) }
-shared c =
-    let charging = turn c .before .loop .inv in
-    ⊎-elim (λ w. w .2 ∙ share-named _ _ _ charging (w .0 .taken)) (λ w. w .1 ∙ share-none _ _ _ charging (w .0 .left)) (c .before .before .if1 .came)
 
 loop-holds : tie.Need-loop-holds Inv-loop μ-loop
 loop-holds c = charging-first lessened (c .args .totals) (c .args .gone) (omega arith)
@@ -39,12 +33,15 @@ mul-total c = omega arith
 array-copy-out-total : tie.Need-array-copy-out-total Inv-loop μ-loop
 array-copy-out-total c = omega arith
 
-sub-t13 : tie.Need-sub-t13 Inv-loop μ-loop
-sub-t13 c =
+share-on-requires : tie.Need-share-on-requires Inv-loop μ-loop
+share-on-requires c κs = search needs
+
+sub-t12 : tie.Need-sub-t12 Inv-loop μ-loop
+sub-t12 c =
     let at = turn c .before in
     omega (
       arith,
-      ap (λ (r : Rate). r .0) (shared c),
+      ap (λ (r : Rate). r .0) (c .before .before .share-on .ensures),
       ap (λ (r : Rate). r .0) (at .loop .inv .given (at .loop .link) (omega arith)),
       at .before .pre (at .loop .link) (turn c .loop-test .taken),
     )
@@ -64,7 +61,7 @@ loop-less c = omega arith
 loop-again : tie.Need-loop-again Inv-loop μ-loop
 loop-again c =
     let at = turn c .before in
-    charging-next lessened (at .before .args .totals) (at .before .args .gone) (at .loop .inv) (turn c .loop-test .taken) refl (shared c)
+    charging-next lessened (at .before .args .totals) (at .before .args .gone) (at .loop .inv) (turn c .loop-test .taken) refl (c .before .before .share-on .ensures)
 
 returns : tie.Need-returns Inv-loop μ-loop
 unfolding discharged
@@ -81,7 +78,8 @@ discharge-spec =
     loop-holds
     mul-total
     array-copy-out-total
-    sub-t13
+    share-on-requires
+    sub-t12
     mul-left
     array-set-from-left
     add-link
