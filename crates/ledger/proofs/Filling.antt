@@ -57,18 +57,18 @@ each-out (x ∷ xs) (u ∷ us) s = (s .0, each-out xs us (s .1))
 array-out : (xs : List Record) (vs : List Val) → Is (Array T.the-row 64) xs vs → Is (Array (T.the-field .row) 64) (map (T.the-field .into) xs) vs
 array-out xs vs p = (p .0, ((p .1 .0 .0, length-map xs (T.the-field .into) ∙ p .1 .0 .1), each-out xs (p .0) (p .1 .1)))
 
-pub held-is : (sized : Bool) (records : List Record) (v : Val) → Is (Array T.the-row 64) records (v ∷ []) → Is N.the-row (record { sized = sized; records = records }) (vstruct (vcons (vbool sized) (vcons v vnil)) ∷ [])
-held-is sized records v is = ((vbool sized ∷ [], (v ∷ [], tt)), (refl, (refl, (array-out records (v ∷ []) is, tt))))
+pub held-is : (sized : Bool) (records : List Record) (v : Val) → Is (Array T.the-row 64) records (v ∷ []) → Is N.the-row (record { records = records; sized = sized }) (vstruct (vcons v (vcons (vbool sized) vnil)) ∷ [])
+held-is sized records v is = ((v ∷ [], (vbool sized ∷ [], tt)), (refl, (array-out records (v ∷ []) is, (refl, tt))))
 
 passed-over : {A : Type 0} (t : Bool) (a b : A) → T (not t) → b ≡ pick t a b
 passed-over true a b h = absurd h
 passed-over false a b h = refl
 
-pub held-all : (records : List Record) → length records ≡ 64 → record { sized = true; records = records } ≡ loadedOf records
+pub held-all : (records : List Record) → length records ≡ 64 → record { records = records; sized = true } ≡ loadedOf records
 unfolding loadedOf
 held-all records e = sym (pick-true (eqb (length records) 64) _ _ (eq-eqb (length records) 64 e))
 
-pub held-none : (records : List Record) → T (not (eqb (length records) 64)) → record { sized = false; records = replicate 64 noRecord } ≡ loadedOf records
+pub held-none : (records : List Record) → T (not (eqb (length records) 64)) → record { records = replicate 64 noRecord; sized = false } ≡ loadedOf records
 unfolding loadedOf
 held-none records h = passed-over (eqb (length records) 64) _ _ h
 

@@ -38,7 +38,7 @@ module _ (ledger : Ledger) (records : List Record) where
   tested-not fails = sym (pick-true _ notTested _ (ledger-unusable ledger records fails))
 
   abbrev pub tested : Tested
-  tested = record { usable = true; numbers = listOf (numberAt records) recordCount }
+  tested = record { numbers = listOf (numberAt records) recordCount; usable = true }
 
   pub tested-usable : UsableLedger ledger records → tested ≡ testedOf ledger records
   unfolding testedOf

@@ -40,7 +40,7 @@ use Rattle.ledger.specs.Spare.{linksUnusable}
 -- The lent records.
 
 unfoldable pub loadedOf : List Record → Loaded
-loadedOf records = pick (eqb (length records) recordCount) (record { sized = true; records = records }) (record { sized = false; records = replicate recordCount noRecord })
+loadedOf records = pick (eqb (length records) recordCount) (record { records = records; sized = true }) (record { records = replicate recordCount noRecord; sized = false })
 
 -- the records that a value stands for: none where 64 were not lent
 unfoldable pub loadedRecords : Loaded → List Record
@@ -85,11 +85,11 @@ unfoldable pub reservedRates : List Record → ℕ → List Rate
 reservedRates records count = listOf (λ link. record { 0 = reserved records count link }) linkCount
 
 abbrev pub notTested : Tested
-notTested = record { usable = false; numbers = replicate recordCount 0 }
+notTested = record { numbers = replicate recordCount 0; usable = false }
 
 unfoldable pub testedOf : Ledger → List Record → Tested
 testedOf ledger records =
-    pick (ledgerUnusable ledger records) notTested (record { usable = true; numbers = listOf (numberAt records) recordCount })
+    pick (ledgerUnusable ledger records) notTested (record { numbers = listOf (numberAt records) recordCount; usable = true })
 
 -- Decide.
 

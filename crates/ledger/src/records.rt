@@ -11,8 +11,8 @@ ghost use Rattle.ledger.specs.Release.{closedUp};
 
 // The lent records by value, clear ones where there are not 64.
 pub struct Loaded {
-    pub sized: bool,
     pub records: [Record; 64],
+    pub sized: bool,
 }
 
 pub(crate) fn load(records: &[Record]) -> Loaded
@@ -26,8 +26,8 @@ pub(crate) fn load(records: &[Record]) -> Loaded
     }; 64];
     if records.len() != crate::RECORDS {
         return Loaded {
-            sized: false,
             records: list,
+            sized: false,
         };
     }
     let mut j: usize = 0;
@@ -36,8 +36,8 @@ pub(crate) fn load(records: &[Record]) -> Loaded
         j += 1;
     }
     Loaded {
-        sized: true,
         records: list,
+        sized: true,
     }
 }
 

@@ -22,8 +22,8 @@ const NO_NUMBER: u32 = 65536;
 
 // Whether what is lent and stored can be used; then the records' numbers.
 pub struct Tested {
-    pub usable: bool,
     pub numbers: [u32; 64],
+    pub usable: bool,
 }
 
 pub(crate) fn test(ledger: Ledger, loaded: Loaded) -> Tested
@@ -57,8 +57,8 @@ pub(crate) fn test(ledger: Ledger, loaded: Loaded) -> Tested
         return not_tested();
     }
     Tested {
-        usable: true,
         numbers,
+        usable: true,
     }
 }
 
@@ -66,8 +66,8 @@ fn not_tested() -> Tested
     ensures { λ r. ⌜ r ≡ notTested ⌝ }
 {
     Tested {
-        usable: false,
         numbers: [0; 64],
+        usable: false,
     }
 }
 

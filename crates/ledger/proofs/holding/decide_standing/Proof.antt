@@ -24,7 +24,7 @@ required c = c .pre
 
 -- sixty-four numbers were tested
 full : (c : tie.Start) → length (c .args .tested .numbers) ≡ recordCount
-full c = sym (length-map (c .args .tested .numbers) _) ∙ c .good .1 .0 .1 .1 .1 .0 .1 .0 .1
+full c = sym (length-map (c .args .tested .numbers) _) ∙ c .good .1 .0 .1 .1 .0 .1 .0 .1
 
 -- the places passed: the call, the number sought, the room found, the links tested
 abbrev start : tie.After-find → tie.Start

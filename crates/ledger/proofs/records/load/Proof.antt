@@ -89,7 +89,7 @@ abbrev clear : Val
 clear = arrayVal (replicate 64 (only (vals₁ noRecord)))
 
 abbrev answer : Bool → List Record → Loaded
-answer t l = record { sized = t; records = l }
+answer t l = record { records = l; sized = t }
 
 module _ {M : Type 1} (𝓤 : URA M) (H : Heap 𝓤) (A : Atoms 𝓤) (W : Given 𝓤 H A) (at-mem : Memory → SProp 𝓤) (run : Routine → Fun 𝓤) (κ : Lft) (q : Share) (b o : ℕ) (γ : GName) (ys : List Record) where
   abbrev a : RefT (List Record) × Unit {0}
@@ -113,7 +113,7 @@ module _ {M : Type 1} (𝓤 : URA M) (H : Heap 𝓤) (A : Atoms 𝓤) (W : Given
       suffices ! _ (ends-at 𝓤 H A f.ended stayed (f.clauses 𝓤 H A at-mem run) W (((κ, tt), (q, tt), tt, a, vals), tt) w r (tt, tt) (tt, tt)) $ says ! e $
       nothing ! $ move ! (1 ∷ 0 ∷ []) $ join ! $ frame ! $ nothing ! $ nothing ! $ fjoin ! $ frame ! $ done !
 
-  answer-typed : (t : Bool) (l : List Record) (v : Val) → Is (Array T.the-row 64) l (v ∷ []) → T (hasTy N′.mir (vstruct (vcons (vbool t) (vcons v vnil)))) × WT (vstruct (vcons (vbool t) (vcons v vnil)))
+  answer-typed : (t : Bool) (l : List Record) (v : Val) → Is (Array T.the-row 64) l (v ∷ []) → T (hasTy N′.mir (vstruct (vcons v (vcons (vbool t) vnil)))) × WT (vstruct (vcons v (vcons (vbool t) vnil)))
   answer-typed t l v is = LL.lawful N.the-type N′.the-laws 𝓤 H A W .typed (answer t l) _ (held-is t l v is) .0
 
   module _ (𝓣 : Tables 𝓤 H) (l₀ l₁ l₂ l₃ l₄ l₅ l₆ l₇ l₈ l₉ l₁₀ l₁₁ l₁₂ l₁₃ l₁₄ l₁₅ l₁₆ l₁₇ : ℕ) where
@@ -198,7 +198,7 @@ module _ {M : Type 1} (𝓤 : URA M) (H : Heap 𝓤) (A : Atoms 𝓤) (W : Given
           peeks ! (Array T.the-row 64) (Is (Array T.the-row 64)) (shows 𝓤 H A (Array T.the-row 64)) ys (mach ∷ []) (λ is.
           -- [what the list owns; _2; records; _3; _10; …; _16; _1 (11); room for _0; room for _17 (13); the open borrow; …]
           assigns ! (of-opd ! (load ! (from ! (stop !)) (look ! 1 refl))) (from ! (stop !)) (init ! 13 refl (typed ys mach is)) $
-          assigns ! (agg ! (and-then ! (true-lit !) (and-then ! (load ! (from ! (stop !)) (look ! 13 refl)) (no-more !)))) (from ! (stop !)) (init ! 12 refl (answer-typed true ys mach is)) $
+          assigns ! (agg ! (and-then ! (load ! (from ! (stop !)) (look ! 13 refl)) (and-then ! (true-lit !) (no-more !)))) (from ! (stop !)) (init ! 12 refl (answer-typed true ys mach is)) $
           move ! (2 ∷ 14 ∷ []) $ shuts-slice ! tt T.the-row q′ ys b o $
           returns ! (look ! 12 refl) $ forget ! 2 refl $ forget ! 3 refl $ forget ! 4 refl $ forget ! 11 refl $ forget ! 12 refl $ forget ! 13 refl $
           owned ! N.the-row (Is N.the-row) (LL.makes N.the-type N′.the-plain 𝓤 H A) (answer true ys) _ (held-is true ys mach is) $
@@ -227,7 +227,7 @@ module _ {M : Type 1} (𝓤 : URA M) (H : Heap 𝓤) (A : Atoms 𝓤) (W : Given
         -- there are not 64
         (λ h.
         assigns ! (of-opd ! (load ! (from ! (stop !)) (look ! 1 refl))) (from ! (stop !)) (init ! 10 refl (typed zs clear is)) $
-        assigns ! (agg ! (and-then ! (false-lit !) (and-then ! (load ! (from ! (stop !)) (look ! 10 refl)) (no-more !)))) (from ! (stop !)) (init ! 4 refl (answer-typed false zs clear is)) $
+        assigns ! (agg ! (and-then ! (load ! (from ! (stop !)) (look ! 10 refl)) (and-then ! (false-lit !) (no-more !)))) (from ! (stop !)) (init ! 4 refl (answer-typed false zs clear is)) $
         returns-within ! Post refl (look ! 4 refl) $ forget ! 1 refl $ forget ! 2 refl $ forget ! 3 refl $ forget ! 4 refl $ forget ! 10 refl $
         move ! (19 ∷ []) $ split ! $ owned ! N.the-row (Is N.the-row) (LL.makes N.the-type N′.the-plain 𝓤 H A) (answer false zs) _ (held-is false zs clear is) $
         keep ! (7 ∷ 23 ∷ 6 ∷ 24 ∷ 4 ∷ 25 ∷ 8 ∷ 26 ∷ 9 ∷ 27 ∷ 10 ∷ 28 ∷ 11 ∷ 29 ∷ 12 ∷ 30 ∷ 5 ∷ 31 ∷ 13 ∷ 32 ∷ 14 ∷ 33 ∷ 15 ∷ 34 ∷ 16 ∷ 35 ∷ 17 ∷ 36 ∷ 18 ∷ 37 ∷ 19 ∷ 38 ∷ 20 ∷ 39 ∷ 21 ∷ 40 ∷ 1 ∷ 0 ∷ []) $

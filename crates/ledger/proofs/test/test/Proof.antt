@@ -33,7 +33,7 @@ numbered c = c .before .before
 
 -- what each test answers
 sized : (c : tie.Start) → length (c .args .loaded .records) ≡ recordCount
-sized c = sym (length-map (c .args .loaded .records) _) ∙ c .good .1 .0 .1 .1 .1 .0 .1 .0 .1
+sized c = sym (length-map (c .args .loaded .records) _) ∙ c .good .1 .0 .1 .1 .0 .1 .0 .1
 
 lent : (c : tie.Else1) → start c .args .loaded .sized ≡ true
 lent c = not-false _ (c .if1 .left)
@@ -185,7 +185,7 @@ returns-8 c =
       links-fit = sym (linked linked-at) ∙ not-false _ (c .before .before .before .if6 .left);
       totals-kept = sym (kept (c .before)) ∙ not-false _ (c .if7 .left);
     } in
-    ap (λ (numbers : List ℕ). record { usable = true; numbers = numbers }) (tested .before .numbers-of .ensures)
+    ap (λ (numbers : List ℕ). record { numbers = numbers; usable = true }) (tested .before .numbers-of .ensures)
     ∙ tested-held (args .ledger) (args .loaded) (lent (passed .before)) usable
 
 pub test-spec : {M : Type 1} → statement M
