@@ -4,6 +4,7 @@ pub mod ClosingUp
 pub mod MarkingOne
 pub mod Numbers
 pub mod Differing
+pub mod Fitting
 pub mod Reserving
 pub mod UsableLedger
 pub mod Testing

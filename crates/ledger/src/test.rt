@@ -6,12 +6,13 @@ use crate::records::Loaded;
 use quantity::LinkCapacity;
 use quantity::Rate;
 use std::num::wrapping_add_u32;
+use std::num::wrapping_sub_u32;
 ghost use mathlib.Core.Path.{_≡_};
 ghost use mathlib.Core.Bool.{true};
 ghost use Prim.Native.Nat.{ℕ, _≤_, _<_};
 ghost use lib.ListN.{length, getD};
 ghost use lib.Dec.{leb, eqb};
-ghost use Rattle.quantity.specs.Choice.{pick, both};
+ghost use Rattle.quantity.specs.Choice.{both};
 ghost use Rattle.quantity.specs.Sums.{every, listOf};
 ghost use Rattle.ledger.specs.Records.{recordAt, numberAt, share, among, placeAmong, allDiffer};
 ghost use Rattle.ledger.specs.Ledgers.{linkCount, recordCount, recordInRange, recordClear, recordFits, capacitiesFit};
@@ -40,15 +41,14 @@ pub(crate) fn test(ledger: Ledger, loaded: Loaded) -> Tested
     if !capacities_fit(capacities) {
         return not_tested();
     }
-    let records = loaded.records;
-    if !records_fit(records, count) {
+    if !records_fit(loaded, count) {
         return not_tested();
     }
-    let numbers = numbers_of(records);
+    let numbers = numbers_of(loaded);
     if !all_differ(numbers, count) {
         return not_tested();
     }
-    let reserved = reserve(records, count);
+    let reserved = reserve(loaded, count);
     if !totals_fit(capacities, reserved) {
         return not_tested();
     }
@@ -91,42 +91,69 @@ pub(crate) fn and(a: bool, b: bool) -> bool
     if a { b } else { false }
 }
 
-// A record that stands has its values in their ranges, and any other is 0.
-fn record_fits(entry: Record, standing: bool) -> bool
-    ensures { λ r. ⌜ r ≡ pick standing (recordInRange entry) (recordClear entry) ⌝ }
+// What a standing record has beyond its ranges, as bits: 0 just where it is in them. A rate of 0, less 1, wraps.
+fn excess_of_standing(entry: Record) -> u32
+    ensures { λ r. ⌜ eqb r 0 ≡ recordInRange entry ⌝ }
 {
     let number = entry.number;
     let rate = entry.rate;
-    if standing {
-        let marked = and(entry.links <= 65535, entry.mark <= crate::CONFIRMED);
-        and(number.in_range(), and(rate.in_range(), marked))
-    } else {
-        let unmarked = and(entry.links == 0, entry.mark == 0);
-        and(number.0 == 0, and(rate.0 == 0, unmarked))
-    }
+    let rates = rate.0 | wrapping_sub_u32(rate.0, 1);
+    (number.0 | (rates | entry.links)) / 65536 | entry.mark / 2
 }
 
-fn records_fit(records: [Record; 64], count: usize) -> bool
-    ensures { λ r. ⌜ r ≡ every (recordFits count records) recordCount ⌝ }
+// Any other is 0.
+fn excess_of_clear(entry: Record) -> u32
+    ensures { λ r. ⌜ eqb r 0 ≡ recordClear entry ⌝ }
 {
+    let number = entry.number;
+    let rate = entry.rate;
+    number.0 | (rate.0 | (entry.links | entry.mark))
+}
+
+// The excess of all standing records is joined, so that the loop has no branch.
+fn standing_excess(loaded: Loaded, count: usize) -> u32
+    requires { ⌜ count ≤ recordCount ⌝ }
+    ensures { λ r. ⌜ eqb r 0 ≡ every (recordFits count (loaded .records)) count ⌝ }
+{
+    let mut excess: u32 = 0;
     let mut j = 0;
-    while j < crate::RECORDS {
-        let entry = records[j];
-        if !record_fits(entry, j < count) {
-            return false;
-        }
+    while j < count {
+        let entry = loaded.records[j];
+        excess = excess | excess_of_standing(entry);
         j += 1;
     }
-    true
+    excess
 }
 
-fn numbers_of(records: [Record; 64]) -> [u32; 64]
-    ensures { λ r. ⌜ r ≡ listOf (numberAt records) recordCount ⌝ }
+// And that of the others.
+fn clear_excess(loaded: Loaded, count: usize) -> u32
+    requires { ⌜ count ≤ recordCount ⌝ }
+    ensures { λ r. ⌜ both (every (recordFits count (loaded .records)) count) (eqb r 0) ≡ every (recordFits count (loaded .records)) recordCount ⌝ }
+{
+    let mut excess: u32 = 0;
+    let mut j = count;
+    while j < crate::RECORDS {
+        let entry = loaded.records[j];
+        excess = excess | excess_of_clear(entry);
+        j += 1;
+    }
+    excess
+}
+
+fn records_fit(loaded: Loaded, count: usize) -> bool
+    requires { ⌜ count ≤ recordCount ⌝ }
+    ensures { λ r. ⌜ r ≡ every (recordFits count (loaded .records)) recordCount ⌝ }
+{
+    standing_excess(loaded, count) | clear_excess(loaded, count) == 0
+}
+
+fn numbers_of(loaded: Loaded) -> [u32; 64]
+    ensures { λ r. ⌜ r ≡ listOf (numberAt (loaded .records)) recordCount ⌝ }
 {
     let mut numbers = [0; 64];
     let mut j = 0;
     while j < crate::RECORDS {
-        let entry = records[j];
+        let entry = loaded.records[j];
         let number = entry.number;
         numbers[j] = number.0;
         j += 1;
@@ -221,15 +248,15 @@ pub(crate) fn charge(rates: [Rate; 16], entry: Record) -> [Rate; 16]
 }
 
 // The reserved total of each link.
-fn reserve(records: [Record; 64], count: usize) -> [Rate; 16]
-    requires { ⌜ (count ≤ recordCount) × (every (recordFits count records) recordCount ≡ true) ⌝ }
-    ensures { λ r. ⌜ r ≡ reservedRates records count ⌝ }
+fn reserve(loaded: Loaded, count: usize) -> [Rate; 16]
+    requires { ⌜ (count ≤ recordCount) × (every (recordFits count (loaded .records)) recordCount ≡ true) ⌝ }
+    ensures { λ r. ⌜ r ≡ reservedRates (loaded .records) count ⌝ }
 {
     let none = Rate(0);
     let mut rates = [none; 16];
     let mut j = 0;
     while j < count {
-        let entry = records[j];
+        let entry = loaded.records[j];
         let charged = charge(rates, entry);
         rates = charged;
         j += 1;
