@@ -53,8 +53,7 @@ fn decide(ledger: Ledger, loaded: Loaded, number: u32) -> Marking
             if at == count {
                 return refused(Refusal::PathNumberWrong);
             }
-            let records = loaded.records;
-            let entry = records[at];
+            let entry = loaded.records[at];
             if entry.mark == crate::CONFIRMED {
                 return refused(Refusal::ConfirmedAlready);
             }

@@ -62,8 +62,7 @@ fn decide(ledger: Ledger, loaded: Loaded, number: u32) -> Releasing
             if at == count {
                 return refused(ledger, Refusal::PathNumberWrong);
             }
-            let records = loaded.records;
-            let gone = records[at];
+            let gone = loaded.records[at];
             let totals = ledger.totals;
             let left = discharge(totals, gone);
             let capacities = ledger.capacities;

@@ -35,20 +35,20 @@ checked : (c : tie.After-number) → (inRange pathNumberRange (start c .args .nu
 checked c = number-inside (start c .args .number) (c .before .before .checked .ensures) (c .number .given .1)
 
 -- whether the ledger can be used
-refuses : (c : tie.After-test) → let args = start (numbered c) .args in not (c .test .result .usable) ≡ ledgerUnusable (args .ledger) (loadedRecords (args .loaded))
-refuses c = let args = start (numbered c) .args in tested-refuses (args .ledger) (loadedRecords (args .loaded)) (c .test .ensures)
+refuses : (c : tie.After-test) → let args = start (numbered c) .args in not (c .test .result .usable) ≡ ledgerUnusable (args .ledger) (loadedRecords (args .t2))
+refuses c = let args = start (numbered c) .args in tested-refuses (args .ledger) (loadedRecords (args .t2)) (c .test .ensures)
 
-usable : (c : tie.Else1) → let args = start (numbered (tested c)) .args in ledgerUnusable (args .ledger) (loadedRecords (args .loaded)) ≡ false
+usable : (c : tie.Else1) → let args = start (numbered (tested c)) .args in ledgerUnusable (args .ledger) (loadedRecords (args .t2)) ≡ false
 usable c = sym (refuses (tested c)) ∙ c .if1 .left
 
 -- the place that was found
 place : (c : tie.After-find) →
     let args = start (numbered (tested (passed c))) .args in
-    c .find .result ≡ placeAmong (numberAt (loadedRecords (args .loaded))) (args .ledger .count) (args .number)
+    c .find .result ≡ placeAmong (numberAt (loadedRecords (args .t2))) (args .ledger .count) (args .number)
 place c =
     let before = tested (passed c) in
     let args = start (numbered before) .args in
-    let records = loadedRecords (args .loaded) in
+    let records = loadedRecords (args .t2) in
     c .find .ensures
     ∙ place-found (args .ledger) records (before .test .ensures) (usable (passed c)) _
     ∙ ap (placeAmong (numberAt records) (args .ledger .count)) (checked (numbered before) .1)
@@ -58,22 +58,22 @@ below : (c : tie.Else2) → c .before .find .result < start (numbered (tested (p
 below c =
     let before = tested (passed (c .before)) in
     let args = start (numbered before) .args in
-    confirm-below (args .ledger) (loadedRecords (args .loaded)) (args .number) (checked (numbered before) .0) (usable (passed (c .before))) (place (c .before)) (c .if2 .left)
+    confirm-below (args .ledger) (loadedRecords (args .t2)) (args .number) (checked (numbered before) .0) (usable (passed (c .before))) (place (c .before)) (c .if2 .left)
 
-within : (c : tie.After-records) → c .before .before .find .result < recordCount
+within : (c : tie.Else2) → c .before .find .result < recordCount
 within c =
-    let args = start (numbered (tested (passed (c .before .before)))) .args in
-    omega (arith, below (c .before), count-few (args .ledger) (loadedRecords (args .loaded)) (usable (passed (c .before .before))))
+    let args = start (numbered (tested (passed (c .before)))) .args in
+    omega (arith, below c, count-few (args .ledger) (loadedRecords (args .t2)) (usable (passed (c .before))))
 
 -- and the records are those lent
-held : (c : tie.Else1) → let args = start (numbered (tested c)) .args in args .loaded .records ≡ loadedRecords (args .loaded)
+held : (c : tie.Else1) → let args = start (numbered (tested c)) .args in args .t2 .records ≡ loadedRecords (args .t2)
 held c =
     let args = start (numbered (tested c)) .args in
-    held-records (args .ledger) (args .loaded) (usable-sized (args .ledger) (args .loaded) (usable-ledger (args .ledger) (loadedRecords (args .loaded)) (usable c)))
+    held-records (args .ledger) (args .t2) (usable-sized (args .ledger) (args .t2) (usable-ledger (args .ledger) (loadedRecords (args .t2)) (usable c)))
 
 -- the record that was read is the one at the place
-read : (c : tie.After-records) → let args = start (numbered (tested (passed (c .before .before)))) .args in recordAt (args .loaded .records) (c .before .before .find .result) ≡ recordAt (loadedRecords (args .loaded)) (c .before .before .find .result)
-read c = ap (λ (records : List Record). recordAt records (c .before .before .find .result)) (held (passed (c .before .before)))
+read : (c : tie.Else2) → let args = start (numbered (tested (passed (c .before)))) .args in recordAt (args .t2 .records) (c .before .find .result) ≡ recordAt (loadedRecords (args .t2)) (c .before .find .result)
+read c = ap (λ (records : List Record). recordAt records (c .before .find .result)) (held (passed (c .before)))
 
 checked-requires : tie.Need-checked-requires
 checked-requires c κs = search needs
@@ -98,7 +98,7 @@ returns c =
     let before = c .before .before .before in
     let args = start (numbered before) .args in
     c .refused2 .ensures
-    ∙ confirm-unusable (args .ledger) (loadedRecords (args .loaded)) (args .number) (checked (numbered before) .0) (sym (refuses before) ∙ c .before .if1 .taken)
+    ∙ confirm-unusable (args .ledger) (loadedRecords (args .t2)) (args .number) (checked (numbered before) .0) (sym (refuses before) ∙ c .before .if1 .taken)
 
 sub-find : tie.Need-sub-find
 sub-find c = search needs
@@ -110,7 +110,7 @@ part-find-end : tie.Need-part-find-end
 part-find-end c =
     let before = tested (c .before .before) in
     let args = start (numbered before) .args in
-    numbers-whole (args .ledger) (loadedRecords (args .loaded)) (before .test .ensures) (usable (c .before .before))
+    numbers-whole (args .ledger) (loadedRecords (args .t2)) (before .test .ensures) (usable (c .before .before))
 
 find-requires : tie.Need-find-requires
 find-requires c κs = search needs
@@ -123,39 +123,37 @@ returns-2 c =
     let found = c .before .before in
     let args = start (numbered (tested (passed found))) .args in
     c .refused3 .ensures
-    ∙ confirm-unknown (args .ledger) (loadedRecords (args .loaded)) (args .number) (checked (numbered (tested (passed found))) .0) (usable (passed found)) (place found) (c .before .if2 .taken)
+    ∙ confirm-unknown (args .ledger) (loadedRecords (args .t2)) (args .number) (checked (numbered (tested (passed found))) .0) (usable (passed found)) (place found) (c .before .if2 .taken)
 
 mul-entry : tie.Need-mul-entry
 mul-entry c = omega (arith, within c)
 
-array-copy-out-entry : tie.Need-array-copy-out-entry
-array-copy-out-entry c = within c
+element-copy-out-entry : tie.Need-element-copy-out-entry
+element-copy-out-entry c = within c
 
 refused-requires-4 : tie.Need-refused-requires-4
 refused-requires-4 c κs = search needs
 
 returns-3 : tie.Need-returns-3
 returns-3 c =
-    let taken = c .before .before .before .before in
-    let other = taken .before in
+    let other = c .before .before .before .before in
     let found = other .before in
     let args = start (numbered (tested (passed found))) .args in
     c .refused4 .ensures
-    ∙ confirm-already (args .ledger) (loadedRecords (args .loaded)) (args .number) (checked (numbered (tested (passed found))) .0) (usable (passed found)) (place found) (other .if2 .left) (read taken) (c .before .if3 .taken)
+    ∙ confirm-already (args .ledger) (loadedRecords (args .t2)) (args .number) (checked (numbered (tested (passed found))) .0) (usable (passed found)) (place found) (other .if2 .left) (read other) (c .before .if3 .taken)
 
 returns-4 : tie.Need-returns-4
 returns-4 c =
     let args = c .before .before .before .before .args in
     c .refused .ensures
-    ∙ confirm-outside (args .ledger) (loadedRecords (args .loaded)) (args .number) (number-outside (args .number) (c .before .before .before .checked .ensures) (c .before .enum-told .given .1))
+    ∙ confirm-outside (args .ledger) (loadedRecords (args .t2)) (args .number) (number-outside (args .number) (c .before .before .before .checked .ensures) (c .before .enum-told .given .1))
 
 returns-5 : tie.Need-returns-5
 returns-5 c =
-    let taken = c .before .before .before in
-    let other = taken .before in
+    let other = c .before .before .before in
     let found = other .before in
     let args = start (numbered (tested (passed found))) .args in
-    confirm-held (args .ledger) (loadedRecords (args .loaded)) (args .number) (checked (numbered (tested (passed found))) .0) (usable (passed found)) (place found) (other .if2 .left) (read taken) (c .if3 .left)
+    confirm-held (args .ledger) (loadedRecords (args .t2)) (args .number) (checked (numbered (tested (passed found))) .0) (usable (passed found)) (place found) (other .if2 .left) (read other) (c .if3 .left)
 
 pub decide-spec : {M : Type 1} → statement M
 decide-spec =
@@ -175,7 +173,7 @@ decide-spec =
     refused-requires-3
     returns-2
     mul-entry
-    array-copy-out-entry
+    element-copy-out-entry
     refused-requires-4
     returns-3
     returns-4

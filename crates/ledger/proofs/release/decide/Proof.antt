@@ -34,20 +34,20 @@ checked : (c : tie.After-number) → (inRange pathNumberRange (start c .args .nu
 checked c = number-inside (start c .args .number) (c .before .before .checked .ensures) (c .number .given .1)
 
 -- whether the ledger can be used
-refuses : (c : tie.After-test) → let args = start (numbered c) .args in not (c .test .result .usable) ≡ ledgerUnusable (args .ledger) (loadedRecords (args .loaded))
-refuses c = let args = start (numbered c) .args in tested-refuses (args .ledger) (loadedRecords (args .loaded)) (c .test .ensures)
+refuses : (c : tie.After-test) → let args = start (numbered c) .args in not (c .test .result .usable) ≡ ledgerUnusable (args .ledger) (loadedRecords (args .t2))
+refuses c = let args = start (numbered c) .args in tested-refuses (args .ledger) (loadedRecords (args .t2)) (c .test .ensures)
 
-usable : (c : tie.Else1) → let args = start (numbered (tested c)) .args in ledgerUnusable (args .ledger) (loadedRecords (args .loaded)) ≡ false
+usable : (c : tie.Else1) → let args = start (numbered (tested c)) .args in ledgerUnusable (args .ledger) (loadedRecords (args .t2)) ≡ false
 usable c = sym (refuses (tested c)) ∙ c .if1 .left
 
 -- the place that was found
 place : (c : tie.After-find) →
     let args = start (numbered (tested (passed c))) .args in
-    c .find .result ≡ placeAmong (numberAt (loadedRecords (args .loaded))) (args .ledger .count) (args .number)
+    c .find .result ≡ placeAmong (numberAt (loadedRecords (args .t2))) (args .ledger .count) (args .number)
 place c =
     let before = tested (passed c) in
     let args = start (numbered before) .args in
-    let records = loadedRecords (args .loaded) in
+    let records = loadedRecords (args .t2) in
     c .find .ensures
     ∙ place-found (args .ledger) records (before .test .ensures) (usable (passed c)) _
     ∙ ap (placeAmong (numberAt records) (args .ledger .count)) (checked (numbered before) .1)
@@ -57,18 +57,18 @@ below : (c : tie.Else2) → c .before .find .result < start (numbered (tested (p
 below c =
     let before = tested (passed (c .before)) in
     let args = start (numbered before) .args in
-    place-below (args .ledger) (loadedRecords (args .loaded)) (args .number) (checked (numbered before) .0) (usable (passed (c .before))) (place (c .before)) (c .if2 .left)
+    place-below (args .ledger) (loadedRecords (args .t2)) (args .number) (checked (numbered before) .0) (usable (passed (c .before))) (place (c .before)) (c .if2 .left)
 
-within : (c : tie.After-records) → c .before .before .find .result < recordCount
+within : (c : tie.Else2) → c .before .find .result < recordCount
 within c =
-    let args = start (numbered (tested (passed (c .before .before)))) .args in
-    omega (arith, below (c .before), count-few (args .ledger) (loadedRecords (args .loaded)) (usable (passed (c .before .before))))
+    let args = start (numbered (tested (passed (c .before)))) .args in
+    omega (arith, below c, count-few (args .ledger) (loadedRecords (args .t2)) (usable (passed (c .before))))
 
 -- and the records are those held
-held : (c : tie.Else1) → let args = start (numbered (tested c)) .args in args .loaded .records ≡ loadedRecords (args .loaded)
+held : (c : tie.Else1) → let args = start (numbered (tested c)) .args in args .t2 .records ≡ loadedRecords (args .t2)
 held c =
     let args = start (numbered (tested c)) .args in
-    held-records (args .ledger) (args .loaded) (usable-sized (args .ledger) (args .loaded) (usable-ledger (args .ledger) (loadedRecords (args .loaded)) (usable c)))
+    held-records (args .ledger) (args .t2) (usable-sized (args .ledger) (args .t2) (usable-ledger (args .ledger) (loadedRecords (args .t2)) (usable c)))
 
 checked-requires : tie.Need-checked-requires
 checked-requires c κs = search needs
@@ -93,7 +93,7 @@ returns c =
     let before = c .before .before .before in
     let args = start (numbered before) .args in
     c .refused2 .ensures
-    ∙ release-unusable (args .ledger) (loadedRecords (args .loaded)) (args .number) (checked (numbered before) .0) (sym (refuses before) ∙ c .before .if1 .taken)
+    ∙ release-unusable (args .ledger) (loadedRecords (args .t2)) (args .number) (checked (numbered before) .0) (sym (refuses before) ∙ c .before .if1 .taken)
 
 sub-find : tie.Need-sub-find
 sub-find c = search needs
@@ -105,7 +105,7 @@ part-find-end : tie.Need-part-find-end
 part-find-end c =
     let before = tested (c .before .before) in
     let args = start (numbered before) .args in
-    numbers-whole (args .ledger) (loadedRecords (args .loaded)) (before .test .ensures) (usable (c .before .before))
+    numbers-whole (args .ledger) (loadedRecords (args .t2)) (before .test .ensures) (usable (c .before .before))
 
 find-requires : tie.Need-find-requires
 find-requires c κs = search needs
@@ -118,22 +118,22 @@ returns-2 c =
     let found = c .before .before in
     let args = start (numbered (tested (passed found))) .args in
     c .refused3 .ensures
-    ∙ release-unknown (args .ledger) (loadedRecords (args .loaded)) (args .number) (checked (numbered (tested (passed found))) .0) (usable (passed found)) (place found) (c .before .if2 .taken)
+    ∙ release-unknown (args .ledger) (loadedRecords (args .t2)) (args .number) (checked (numbered (tested (passed found))) .0) (usable (passed found)) (place found) (c .before .if2 .taken)
 
 mul-gone : tie.Need-mul-gone
 mul-gone c = omega (arith, within c)
 
-array-copy-out-gone : tie.Need-array-copy-out-gone
-array-copy-out-gone c = within c
+element-copy-out-gone : tie.Need-element-copy-out-gone
+element-copy-out-gone c = within c
 
 discharge-requires : tie.Need-discharge-requires
 discharge-requires c κs link less =
-    let other = c .before .before .before in
+    let other = c .before .before in
     let args = start (numbered (tested (passed (other .before)))) .args in
-    rw (held (passed (other .before))) (share-le (args .ledger) (loadedRecords (args .loaded)) (usable (passed (other .before))) _ link (below other) less)
+    rw (held (passed (other .before))) (share-le (args .ledger) (loadedRecords (args .t2)) (usable (passed (other .before))) _ link (below other) less)
 
-sub-t23 : tie.Need-sub-t23
-sub-t23 c = omega (arith, below (c .before .before .before .before .before))
+sub-t24 : tie.Need-sub-t24
+sub-t24 c = omega (arith, below (c .before .before .before .before))
 
 no-record-requires : tie.Need-no-record-requires
 no-record-requires c κs = search needs
@@ -142,15 +142,15 @@ returns-3 : tie.Need-returns-3
 returns-3 c =
     let args = c .before .before .before .before .args in
     c .refused .ensures
-    ∙ release-outside (args .ledger) (loadedRecords (args .loaded)) (args .number) (number-outside (args .number) (c .before .before .before .checked .ensures) (c .before .enum-told .given .1))
+    ∙ release-outside (args .ledger) (loadedRecords (args .t2)) (args .number) (number-outside (args .number) (c .before .before .before .checked .ensures) (c .before .enum-told .given .1))
 
 returns-4 : tie.Need-returns-4
 returns-4 c =
-    let other = c .before .before .before .before .before .before in
+    let other = c .before .before .before .before .before in
     let found = other .before in
     let args = start (numbered (tested (passed found))) .args in
     rw (c .no-record .ensures)
-    (release-stands (args .ledger) (loadedRecords (args .loaded)) (args .number) (checked (numbered (tested (passed found))) .0) (usable (passed found)) (place found) (other .if2 .left) (ap (λ (records : List Record). recordAt records (found .find .result)) (held (passed found))) (c .before .before .discharge .ensures))
+    (release-stands (args .ledger) (loadedRecords (args .t2)) (args .number) (checked (numbered (tested (passed found))) .0) (usable (passed found)) (place found) (other .if2 .left) (ap (λ (records : List Record). recordAt records (found .find .result)) (held (passed found))) (c .before .before .discharge .ensures))
 
 pub decide-spec : {M : Type 1} → statement M
 decide-spec =
@@ -170,9 +170,9 @@ decide-spec =
     refused-requires-3
     returns-2
     mul-gone
-    array-copy-out-gone
+    element-copy-out-gone
     discharge-requires
-    sub-t23
+    sub-t24
     no-record-requires
     returns-3
     returns-4)
