@@ -1,6 +1,6 @@
 -- Bits joined by "or" are 0 just where each is, and at most 2^k − 1 just where each is: so a record's excess is 0 just where the record fits.
 use mathlib.Core.Path.{_≡_, refl, ap, ap₂, sym, _∙_}
-use mathlib.Core.Bool.{Bool, true, false}
+use mathlib.Core.Bool.{Bool}
 use mathlib.Core.List.{List, [], _∷_}
 use Prim.Native.Nat.{ℕ, zero, suc, _+_, _/_, _^_, _≤_, _<_, zero-le}
 use native.Mathlib.Nat.{div-eq-of-lt, div-lt-iff-lt-mul, lt-of-not-le}
@@ -26,7 +26,7 @@ use Rattle.ledger.proofs.Sparing.{left-below}
 abbrev two : ℕ → ℕ → ℕ → ℕ
 two a b j = getD (a ∷ b ∷ []) j 0
 
-pub or-clear : (a b : ℕ) → eqb (bitOr a b) 0 ≡ both (eqb a 0) (eqb b 0)
+or-clear : (a b : ℕ) → eqb (bitOr a b) 0 ≡ both (eqb a 0) (eqb b 0)
 unfolding joined every
 or-clear a b = joined-clear (two a b) 2
 
@@ -89,10 +89,6 @@ module _ (r : Record) where
       or-clear (r .number .0) (bitOr (r .rate .0) (bitOr (r .links) (r .mark)))
       ∙ ap (both (eqb (r .number .0) 0)) (or-clear (r .rate .0) (bitOr (r .links) (r .mark)) ∙ ap (both (eqb (r .rate .0) 0)) (or-clear (r .links) (r .mark)))
 
-both-true-end : (a : Bool) → both a true ≡ a
-both-true-end true = refl
-both-true-end false = refl
-
 -- The records passed: those that stand, and then the others.
 module _ (count : ℕ) (records : List Record) where
   abbrev fits : ℕ → Bool
@@ -103,12 +99,7 @@ module _ (count : ℕ) (records : List Record) where
   standing-next excess more j less before here =
       or-clear excess more ∙ ap₂ both before (here ∙ sym (pick-true (ltb j count) _ _ (lt-ltb j count less))) ∙ sym (every-next fits j)
 
-  pub clear-first : both (every fits count) (eqb 0 0) ≡ every fits count
-  clear-first = both-true-end (every fits count)
-
-  pub clear-next : (excess more j : ℕ) → count ≤ j → both (every fits count) (eqb excess 0) ≡ every fits j → eqb more 0 ≡ recordClear (recordAt records j)
-      → both (every fits count) (eqb (bitOr excess more) 0) ≡ every fits (j + 1)
+  pub clear-next : (excess more j : ℕ) → count ≤ j → eqb excess 0 ≡ every fits j → eqb more 0 ≡ recordClear (recordAt records j) → eqb (bitOr excess more) 0 ≡ every fits (j + 1)
   unfolding recordFits
   clear-next excess more j past before here =
-      ap (both (every fits count)) (or-clear excess more) ∙ sym (both-assoc (every fits count) (eqb excess 0) (eqb more 0))
-      ∙ ap₂ both before (here ∙ sym (pick-false (ltb j count) _ _ (le-ltb j count past))) ∙ sym (every-next fits j)
+      or-clear excess more ∙ ap₂ both before (here ∙ sym (pick-false (ltb j count) _ _ (le-ltb j count past))) ∙ sym (every-next fits j)

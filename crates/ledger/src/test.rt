@@ -41,14 +41,15 @@ pub(crate) fn test(ledger: Ledger, loaded: Loaded) -> Tested
     if !capacities_fit(capacities) {
         return not_tested();
     }
-    if !records_fit(loaded, count) {
+    let records = loaded.records;
+    if !records_fit(records, count) {
         return not_tested();
     }
-    let numbers = numbers_of(loaded);
+    let numbers = numbers_of(records);
     if !all_differ(numbers, count) {
         return not_tested();
     }
-    let reserved = reserve(loaded, count);
+    let reserved = reserve(records, count);
     if !totals_fit(capacities, reserved) {
         return not_tested();
     }
@@ -110,50 +111,33 @@ fn excess_of_clear(entry: Record) -> u32
     number.0 | (rate.0 | (entry.links | entry.mark))
 }
 
-// The excess of all standing records is joined, so that the loop has no branch.
-fn standing_excess(loaded: Loaded, count: usize) -> u32
+// The excess of all records is joined, so that neither loop has a branch.
+fn records_fit(records: [Record; 64], count: usize) -> bool
     requires { ⌜ count ≤ recordCount ⌝ }
-    ensures { λ r. ⌜ eqb r 0 ≡ every (recordFits count (loaded .records)) count ⌝ }
+    ensures { λ r. ⌜ r ≡ every (recordFits count records) recordCount ⌝ }
 {
     let mut excess: u32 = 0;
     let mut j = 0;
     while j < count {
-        let entry = loaded.records[j];
+        let entry = records[j];
         excess = excess | excess_of_standing(entry);
         j += 1;
     }
-    excess
-}
-
-// And that of the others.
-fn clear_excess(loaded: Loaded, count: usize) -> u32
-    requires { ⌜ count ≤ recordCount ⌝ }
-    ensures { λ r. ⌜ both (every (recordFits count (loaded .records)) count) (eqb r 0) ≡ every (recordFits count (loaded .records)) recordCount ⌝ }
-{
-    let mut excess: u32 = 0;
-    let mut j = count;
     while j < crate::RECORDS {
-        let entry = loaded.records[j];
+        let entry = records[j];
         excess = excess | excess_of_clear(entry);
         j += 1;
     }
-    excess
+    excess == 0
 }
 
-fn records_fit(loaded: Loaded, count: usize) -> bool
-    requires { ⌜ count ≤ recordCount ⌝ }
-    ensures { λ r. ⌜ r ≡ every (recordFits count (loaded .records)) recordCount ⌝ }
-{
-    standing_excess(loaded, count) | clear_excess(loaded, count) == 0
-}
-
-fn numbers_of(loaded: Loaded) -> [u32; 64]
-    ensures { λ r. ⌜ r ≡ listOf (numberAt (loaded .records)) recordCount ⌝ }
+fn numbers_of(records: [Record; 64]) -> [u32; 64]
+    ensures { λ r. ⌜ r ≡ listOf (numberAt records) recordCount ⌝ }
 {
     let mut numbers = [0; 64];
     let mut j = 0;
     while j < crate::RECORDS {
-        let entry = loaded.records[j];
+        let entry = records[j];
         let number = entry.number;
         numbers[j] = number.0;
         j += 1;
@@ -248,15 +232,15 @@ pub(crate) fn charge(rates: [Rate; 16], entry: Record) -> [Rate; 16]
 }
 
 // The reserved total of each link.
-fn reserve(loaded: Loaded, count: usize) -> [Rate; 16]
-    requires { ⌜ (count ≤ recordCount) × (every (recordFits count (loaded .records)) recordCount ≡ true) ⌝ }
-    ensures { λ r. ⌜ r ≡ reservedRates (loaded .records) count ⌝ }
+fn reserve(records: [Record; 64], count: usize) -> [Rate; 16]
+    requires { ⌜ (count ≤ recordCount) × (every (recordFits count records) recordCount ≡ true) ⌝ }
+    ensures { λ r. ⌜ r ≡ reservedRates records count ⌝ }
 {
     let none = Rate(0);
     let mut rates = [none; 16];
     let mut j = 0;
     while j < count {
-        let entry = loaded.records[j];
+        let entry = records[j];
         let charged = charge(rates, entry);
         rates = charged;
         j += 1;

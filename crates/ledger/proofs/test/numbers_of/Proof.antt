@@ -10,19 +10,19 @@ use Rattle.ledger.proofs.test.numbers_of.Statement.{statement}
 use Rattle.ledger.proofs.test.numbers_of.Tie as tie
 
 abbrev Inv-loop : tie.InvT-loop
-Inv-loop loaded numbers₀ j₀ numbers j = Written 0 (numberAt (loaded .records)) recordCount numbers j
+Inv-loop records numbers₀ j₀ numbers j = Written 0 (numberAt records) recordCount numbers j
 
 abbrev μ-loop : tie.MeasureT-loop
-μ-loop loaded numbers₀ j₀ numbers j = recordCount - j
+μ-loop records numbers₀ j₀ numbers j = recordCount - j
 
 loop-holds : tie.Need-loop-holds Inv-loop μ-loop
-loop-holds c = written-first 0 (numberAt (c .args .t1 .records)) recordCount (length-replicate {A = ℕ} recordCount 0)
+loop-holds c = written-first 0 (numberAt (c .args .t1)) recordCount (length-replicate {A = ℕ} recordCount 0)
 
 mul-entry : tie.Need-mul-entry Inv-loop μ-loop
 mul-entry c = omega arith
 
-element-copy-out-entry : tie.Need-element-copy-out-entry Inv-loop μ-loop
-element-copy-out-entry c = omega arith
+array-copy-out-entry : tie.Need-array-copy-out-entry Inv-loop μ-loop
+array-copy-out-entry c = omega arith
 
 mul-numbers : tie.Need-mul-numbers Inv-loop μ-loop
 mul-numbers c = omega arith
@@ -39,12 +39,12 @@ loop-less c = omega arith
 loop-again : tie.Need-loop-again Inv-loop μ-loop
 loop-again c =
     let at = c .before .before .before in
-    written-next 0 (numberAt (at .before .args .t1 .records)) recordCount (at .loop .inv) (c .before .before .loop-test .taken) refl
+    written-next 0 (numberAt (at .before .args .t1)) recordCount (at .loop .inv) (c .before .before .loop-test .taken) refl
 
 returns : tie.Need-returns Inv-loop μ-loop
 returns c =
     let at = c .before in
-    written-all 0 (numberAt (at .before .args .t1 .records)) recordCount (at .loop .inv) (c .loop-test .left)
+    written-all 0 (numberAt (at .before .args .t1)) recordCount (at .loop .inv) (c .loop-test .left)
 
 pub numbers-of-spec : {M : Type 1} → statement M
 numbers-of-spec =
@@ -54,7 +54,7 @@ numbers-of-spec =
     μ-loop
     loop-holds
     mul-entry
-    element-copy-out-entry
+    array-copy-out-entry
     mul-numbers
     array-write-numbers
     add-j

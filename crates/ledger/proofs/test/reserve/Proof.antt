@@ -12,10 +12,10 @@ use Rattle.ledger.proofs.test.reserve.Statement.{statement}
 use Rattle.ledger.proofs.test.reserve.Tie as tie
 
 abbrev Inv-loop : tie.InvT-loop
-Inv-loop count loaded rates₀ j₀ rates j = (j ≤ count) × (rates ≡ reservedRates (loaded .records) j)
+Inv-loop count records rates₀ j₀ rates j = (j ≤ count) × (rates ≡ reservedRates records j)
 
 abbrev μ-loop : tie.MeasureT-loop
-μ-loop count loaded rates₀ j₀ rates j = count - j
+μ-loop count records rates₀ j₀ rates j = count - j
 
 loop-holds : tie.Need-loop-holds Inv-loop μ-loop
 loop-holds c = (omega arith, reserved-first _)
@@ -23,8 +23,8 @@ loop-holds c = (omega arith, reserved-first _)
 mul-entry : tie.Need-mul-entry Inv-loop μ-loop
 mul-entry c = omega arith
 
-element-copy-out-entry : tie.Need-element-copy-out-entry Inv-loop μ-loop
-element-copy-out-entry c = omega arith
+array-copy-out-entry : tie.Need-array-copy-out-entry Inv-loop μ-loop
+array-copy-out-entry c = omega arith
 
 charge-requires : tie.Need-charge-requires Inv-loop μ-loop
 charge-requires c κs = search needs
@@ -39,7 +39,7 @@ loop-again : tie.Need-loop-again Inv-loop μ-loop
 loop-again c =
     let at = c .before .before .before in
     let start = at .before in
-    let records = start .args .t1 .records in
+    let records = start .args .t1 in
     let j = at .loop .j in (
       omega arith,
       c .charge .ensures
@@ -51,7 +51,7 @@ returns : tie.Need-returns Inv-loop μ-loop
 returns c =
     let at = c .before in
     let done : at .loop .j ≡ at .before .args .count = omega arith in
-    at .loop .inv .1 ∙ ap (reservedRates (at .before .args .t1 .records)) done
+    at .loop .inv .1 ∙ ap (reservedRates (at .before .args .t1)) done
 
 pub reserve-spec : {M : Type 1} → statement M
 reserve-spec =
@@ -61,7 +61,7 @@ reserve-spec =
     μ-loop
     loop-holds
     mul-entry
-    element-copy-out-entry
+    array-copy-out-entry
     charge-requires
     add-j
     loop-less

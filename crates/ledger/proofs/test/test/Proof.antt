@@ -26,7 +26,7 @@ abbrev start : tie.Else1 → tie.Start
 start c = c .before .before
 
 abbrev counted : tie.Else4 → tie.Else2
-counted c = c .before .before .before .before .before
+counted c = c .before .before .before .before .before .before
 
 abbrev numbered : tie.After-all-differ → tie.Else4
 numbered c = c .before .before
@@ -103,7 +103,7 @@ returns-3 c =
     (λ usable. contradiction (tested .capacities-fit .ensures ∙ usable .capacities-fit) (not-true _ (c .before .if3 .taken)))
 
 records-fit-requires : tie.Need-records-fit-requires
-records-fit-requires c κs = c .before .before .before .if2 .left
+records-fit-requires c κs = c .before .before .before .before .if2 .left
 
 not-tested-requires-4 : tie.Need-not-tested-requires-4
 not-tested-requires-4 c κs = search needs
@@ -111,7 +111,7 @@ not-tested-requires-4 c κs = search needs
 returns-4 : tie.Need-returns-4
 returns-4 c =
     let tested = c .before .before in
-    let passed = tested .before .before .before .before .before in
+    let passed = tested .before .before .before .before .before .before in
     c .not-tested4 .ensures
     ∙ tested-held-not (start passed .args .ledger) (start passed .args .loaded) (lent passed)
     (λ usable. contradiction (tested .records-fit .ensures ∙ usable .records-fit) (not-true _ (c .before .if4 .taken)))
@@ -179,7 +179,7 @@ returns-8 c =
     let usable : UsableLedger (args .ledger) (args .loaded .records) = record {
       sized = sized (start (passed .before));
       few = passed .if2 .left;
-      capacities-fit = sym (numbered tested .before .before .before .capacities-fit .ensures) ∙ not-false _ (numbered tested .before .before .if3 .left);
+      capacities-fit = sym (numbered tested .before .before .before .before .capacities-fit .ensures) ∙ not-false _ (numbered tested .before .before .before .if3 .left);
       records-fit = fit (numbered tested);
       all-differ = sym (differing tested) ∙ not-false _ (linked-at .before .before .if5 .left);
       links-fit = sym (linked linked-at) ∙ not-false _ (c .before .before .before .if6 .left);
