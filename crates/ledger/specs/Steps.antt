@@ -62,9 +62,18 @@ filled records count with = replicate count with ++ drop count records
 abbrev pub noNumber : ℕ
 noNumber = 65536
 
--- numbers behind 64 that are none
-unfoldable pub behindNone : List ℕ → ℕ → ℕ
-behindNone numbers j = pick (ltb j recordCount) noNumber (getD numbers (j - recordCount) 0)
+-- the first so many numbers and none behind them, as a ring of 64 whose first half comes once more
+unfoldable pub standingAt : List ℕ → ℕ → ℕ → ℕ
+standingAt numbers count j = pick (ltb j count) (getD numbers j 0) noNumber
+
+abbrev pub half : ℕ
+half = 32
+
+abbrev pub ringSize : ℕ
+ringSize = 96
+
+unfoldable pub ringAt : List ℕ → ℕ → ℕ → ℕ
+ringAt numbers count j = pick (ltb j recordCount) (standingAt numbers count j) (standingAt numbers count (j - recordCount))
 
 abbrev pub rateAt : List Rate → ℕ → Rate
 rateAt rates link = getD rates link (record { 0 = 0 })

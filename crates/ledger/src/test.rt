@@ -16,10 +16,13 @@ ghost use Rattle.quantity.specs.Choice.{both};
 ghost use Rattle.quantity.specs.Sums.{every, listOf};
 ghost use Rattle.ledger.specs.Records.{recordAt, numberAt, share, among, placeAmong, allDiffer};
 ghost use Rattle.ledger.specs.Ledgers.{linkCount, recordCount, recordInRange, recordClear, recordFits, capacitiesFit};
-ghost use Rattle.ledger.specs.Steps.{loadedRecords, noNumber, behindNone, rateAt, charged, reservedRates, notTested, testedOf};
+ghost use Rattle.ledger.specs.Steps.{loadedRecords, noNumber, ringSize, ringAt, rateAt, charged, reservedRates, notTested, testedOf};
 
 // No path's number: it is above them all.
 const NO_NUMBER: u32 = 65536;
+
+// Half of the records.
+const HALF: usize = 32;
 
 // Whether what is lent and stored can be used; then the records' numbers.
 pub struct Tested {
@@ -173,30 +176,37 @@ fn is_among(numbers: &[u32], number: u32) -> bool
     met != 0
 }
 
-// The numbers behind 64 that are none: so each has 64 in front of it.
-fn behind_none(numbers: [u32; 64]) -> [u32; 128]
-    ensures { λ r. ⌜ r ≡ listOf (behindNone numbers) 128 ⌝ }
+// The numbers in a ring of 64, with none behind them, and its first 32 once more.
+fn ring_of(numbers: [u32; 64], count: usize) -> [u32; 96]
+    requires { ⌜ count ≤ recordCount ⌝ }
+    ensures { λ r. ⌜ r ≡ listOf (ringAt numbers count) ringSize ⌝ }
 {
-    let mut all = [NO_NUMBER; 128];
+    let mut ring = [NO_NUMBER; 96];
     let mut j = 0;
-    while j < crate::RECORDS {
-        all[j + crate::RECORDS] = numbers[j];
+    while j < count {
+        ring[j] = numbers[j];
         j += 1;
     }
-    all
+    let mut k = 0;
+    while k < HALF {
+        ring[k + crate::RECORDS] = ring[k];
+        k += 1;
+    }
+    ring
 }
 
-// Each number is compared with the 64 in front of it, whatever its place.
+// Each number is compared with the 32 behind it in the ring: of two, one is among those behind the other.
 fn all_differ(numbers: [u32; 64], count: usize) -> bool
     requires { ⌜ (count ≤ recordCount) × ((j : ℕ) → j < count → getD numbers j 0 < noNumber) ⌝ }
     ensures { λ r. ⌜ r ≡ allDiffer (λ j. getD numbers j 0) count ⌝ }
 {
-    let all = behind_none(numbers);
+    let ring = ring_of(numbers, count);
     let mut j = 0;
     while j < count {
         let number = numbers[j];
-        let end = j + crate::RECORDS;
-        if is_among(&all[j..end], number) {
+        let next = j + 1;
+        let end = next + HALF;
+        if is_among(&ring[next..end], number) {
             return false;
         }
         j += 1;
