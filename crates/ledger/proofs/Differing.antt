@@ -26,7 +26,7 @@ use Rattle.ledger.proofs.Reserving.{listOf-same}
 abbrev pub oneIf : Bool → ℕ
 oneIf t = pick t 1 0
 
-pub one-or : (a b : Bool) → bitOr (oneIf a) (oneIf b) ≡ oneIf (either a b)
+one-or : (a b : Bool) → bitOr (oneIf a) (oneIf b) ≡ oneIf (either a b)
 one-or true true = refl
 one-or true false = refl
 one-or false true = refl

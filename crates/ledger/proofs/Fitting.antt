@@ -10,7 +10,7 @@ use lib.Bits.{bitOr}
 use lib.Dec.{leb, ltb, eqb}
 use lib.ListN.{getD}
 use borrow.Author.Tests.{le-leb, lt-leb, lt-ltb, le-ltb, eq-eqb, ne-eqb}
-use Rattle.quantity.specs.Choice.{pick, both}
+use Rattle.quantity.specs.Choice.{both}
 use Rattle.quantity.specs.Sums.{every}
 use Rattle.quantity.specs.Ranges.{inRange, rateRange, pathNumberRange}
 use Rattle.quantity.proofs.Laws.{pick-true, pick-false}

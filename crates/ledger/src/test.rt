@@ -14,7 +14,7 @@ ghost use lib.ListN.{length, getD};
 ghost use lib.Dec.{leb, eqb};
 ghost use Rattle.quantity.specs.Choice.{both};
 ghost use Rattle.quantity.specs.Sums.{every, listOf};
-ghost use Rattle.ledger.specs.Records.{recordAt, numberAt, share, among, placeAmong, allDiffer};
+ghost use Rattle.ledger.specs.Records.{numberAt, share, among, placeAmong, allDiffer};
 ghost use Rattle.ledger.specs.Ledgers.{linkCount, recordCount, recordInRange, recordClear, recordFits, capacitiesFit};
 ghost use Rattle.ledger.specs.Steps.{loadedRecords, noNumber, ringSize, ringAt, rateAt, charged, reservedRates, notTested, testedOf};
 
