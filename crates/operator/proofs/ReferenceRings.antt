@@ -1,5 +1,6 @@
 -- What the programs do not say of a delayer's ring, as tables that are computed from the definitions: totals just before and after they wrap, worked out by hand, and words that no slot wrote.
 use mathlib.Core.Path.{_≡_, refl}
+use mathlib.Core.Bool.{Bool, true, false}
 use mathlib.Core.List.{List, [], _∷_, _++_}
 use Prim.Native.Nat.{ℕ}
 use lib.ListN.{replicate}
@@ -11,10 +12,8 @@ use Rattle.operator.specs.Operators.{greatestOutput, heldAfter, numberIn
 use Rattle.operator.specs.Single.{usesHeld, usesBeside, wordsUsed}
 use Rattle.operator.specs.Ring
 use Rattle.operator.specs.declared.Operator.{Operator}
-use Rattle.operator.specs.declared.parts.Stored.{Stored}
 use Rattle.operator.specs.declared.parts.Decided.{Decided}
 use Rattle.operator.specs.declared.ring.PathOperator.{PathOperator}
-use Rattle.operator.specs.declared.ring.PathKept.{PathKept}
 
 -- an operator with its next slot and its totals
 abbrev pub counting : Operator → ℕ → ℕ → ℕ → PathOperator
@@ -75,9 +74,9 @@ unfolding said expectedSaid before beforeWords after afterWords listOf usesHeld 
 reference-said = refl
 
 -- the slot in its parts: a ring's words may be above the limit on amounts, for the limit is on what is held
-pub reference-stored : Ring.pathStoredOf before beforeWords ≡ Stored.Holds (record { 0 = 30 })
-unfolding before beforeWords every storedFits usesHeld usesBeside wordsUsed Ring.totalLess Ring.ringHeld Ring.pathHolds Ring.wordUnused Ring.totalsFit Ring.pathUnusable Ring.pathStoredOf
-reference-stored = refl
+pub reference-usable : Ring.pathUnusable before beforeWords ≡ false
+unfolding before beforeWords every storedFits usesHeld usesBeside wordsUsed Ring.totalLess Ring.ringHeld Ring.wordUnused Ring.totalsFit Ring.pathUnusable
+reference-usable = refl
 
 -- choices from 3 to the greatest, 40 less 5, and one above
 pub decisions : List Decided
@@ -94,12 +93,12 @@ pub reference-decisions : decisions ≡ expectedDecisions
 unfolding decisions expectedDecisions before beforeWords inRange numberInRange greatestOutput delayerGreatest heldAfter delayerAfter usesHeld wordsUsed Ring.totalLess Ring.ringHeld Ring.ringRecent Ring.pathHolds Ring.pathLeast Ring.pathGreatest Ring.pathUndecidable Ring.pathSent Ring.pathChoiceAbove Ring.pathHoldsNext Ring.pathDecidedOf
 reference-decisions = refl
 
-pub reference-kept : Ring.pathKeptOf before beforeWords 10 8 32 0 ≡ PathKept.Next after
-unfolding before beforeWords after inRange numberInRange usesHeld Ring.totalMore Ring.totalNext Ring.pathKeepUnfit Ring.pathStateKept Ring.pathKeptOf
+pub reference-kept : Ring.pathStateKept before 10 8 32 0 ≡ after
+unfolding before after usesHeld Ring.totalMore Ring.totalNext Ring.pathStateKept
 reference-kept = refl
 
-pub reference-words : Ring.ringKept before beforeWords 10 32 0 ≡ afterWords
-unfolding before beforeWords afterWords listOf inRange numberInRange usesHeld wordsUsed Ring.totalMore Ring.pathKeepUnfit Ring.ringWordNext Ring.ringKept
+pub reference-words : Ring.ringNoted (Ring.pathAdvanced before 10 8 32 0) beforeWords ≡ afterWords
+unfolding before beforeWords afterWords inRange numberInRange usesHeld wordsUsed Ring.totalMore Ring.totalNext Ring.pathStateKept Ring.pathAdvanced Ring.ringNoted
 reference-words = refl
 
 -- Words that no slot wrote: of the 10 that are held a word says that 5 entered after slot t − d, another that 4,294,967,291 did, which leaves nothing to send.
@@ -114,27 +113,17 @@ pub reference-leasts : leasts ≡ 5 ∷ 0 ∷ 6 ∷ []
 unfolding leasts usesHeld wordsUsed Ring.totalLess Ring.ringHeld Ring.ringRecent Ring.pathLeast
 reference-leasts = refl
 
--- more held than the limit; a word behind the ring; totals of an operator that has none; too few words
-pub unusables : List Stored
+-- the most that may be held, and more; a word behind the ring; totals of an operator that has none; too few words
+pub unusables : List Bool
 unusables =
-    Ring.pathStoredOf (counting (delayer 3) 7 1_073_741_813 4_294_967_286) beforeWords
-    ∷ Ring.pathStoredOf (counting (delayer 3) 7 1_073_741_814 4_294_967_286) beforeWords
-    ∷ Ring.pathStoredOf before (clearBehind (0 ∷ 0 ∷ 0 ∷ 1 ∷ []) 60)
-    ∷ Ring.pathStoredOf (counting (limiter 3) 7 1 0) (clearBehind [] 64)
-    ∷ Ring.pathStoredOf (counting (limiter 3) 7 0 1) (clearBehind [] 64)
-    ∷ Ring.pathStoredOf before (clearBehind [] 63)
+    Ring.pathUnusable (counting (delayer 3) 7 1_073_741_813 4_294_967_286) beforeWords
+    ∷ Ring.pathUnusable (counting (delayer 3) 7 1_073_741_814 4_294_967_286) beforeWords
+    ∷ Ring.pathUnusable before (clearBehind (0 ∷ 0 ∷ 0 ∷ 1 ∷ []) 60)
+    ∷ Ring.pathUnusable (counting (limiter 3) 7 1 0) (clearBehind [] 64)
+    ∷ Ring.pathUnusable (counting (limiter 3) 7 0 1) (clearBehind [] 64)
+    ∷ Ring.pathUnusable before (clearBehind [] 63)
     ∷ []
 
-pub expectedUnusables : List Stored
-expectedUnusables =
-    Stored.Holds (record { 0 = 1_073_741_823 })
-    ∷ Stored.Unusable
-    ∷ Stored.Unusable
-    ∷ Stored.Unusable
-    ∷ Stored.Unusable
-    ∷ Stored.Unusable
-    ∷ []
-
-pub reference-unusables : unusables ≡ expectedUnusables
-unfolding unusables expectedUnusables before beforeWords every storedFits usesHeld usesBeside wordsUsed Ring.totalLess Ring.ringHeld Ring.pathHolds Ring.wordUnused Ring.totalsFit Ring.pathUnusable Ring.pathStoredOf
+pub reference-unusables : unusables ≡ false ∷ true ∷ true ∷ true ∷ true ∷ true ∷ []
+unfolding unusables before beforeWords every storedFits usesHeld usesBeside wordsUsed Ring.totalLess Ring.ringHeld Ring.wordUnused Ring.totalsFit Ring.pathUnusable
 reference-unusables = refl

@@ -10,29 +10,24 @@ use lib.ListN.{length, set, take, drop, length-set, length-drop}
 use lib.Seq.{length-take-le, getD-take, getD-drop, getD-set-same, getD-set-other}
 use lib.Dec.{leb, ltb, eqb}
 use borrow.Author.Tests.{eq-eqb, ne-eqb, eqb-true, ltb-false, lt-ltb, le-ltb, le-leb, not-false}
-use Rattle.quantity.specs.Choice.{pick, both, either, anyOf}
+use Rattle.quantity.specs.Choice.{pick, both, either}
 use Rattle.quantity.specs.Limits.{largestAmount, lastSlot}
 use Rattle.quantity.specs.Ranges.{delayRange}
 use Rattle.quantity.specs.Sums.{every, listOf}
 use Rattle.quantity.proofs.Laws.{pick-true, pick-false, either-false, either-first, either-second, either-none, least-le}
 use Rattle.quantity.proofs.Sums.{every-holds, every-same, listOf-ext}
-use Rattle.words.specs.Stored.{wordAt, storedFits, wordFits}
-use Rattle.words.specs.Scanning.{scannedOf}
-use Rattle.words.proofs.StoredLaws.{unfitTests}
-use Rattle.words.proofs.ScanLaws.{scan-fits}
+use Rattle.words.specs.Stored.{wordAt, clearAt, storedFits}
 use Rattle.flow.specs.Flows.{Flow}
 use Rattle.operator.specs.Held.{Held}
 use Rattle.operator.specs.Operators.{leastOutput, greatestOutput, heldAfter, numberInRange}
 use Rattle.operator.specs.Single.{wordCount, wordsUsed, usesHeld, usesBeside}
 use Rattle.operator.specs.Parts.{undecidable}
-use Rattle.operator.specs.Ring.{wrap, totalMore, totalLess, ringHeld, ringRecent, ringPast, pathHolds, pathLeast, pathGreatest, wordUnused, totalsFit, pathUnusable, pathStoredOf, pathUndecidable, pathSent, pathChoiceAbove, pathHoldsNext, pathDecidedOf, pathKeepUnfit, totalNext, pathStateKept, ringWordNext, pathKeptOf, ringKept}
+use Rattle.operator.specs.Ring.{wrap, totalMore, totalLess, ringHeld, ringRecent, ringPast, pathHolds, pathLeast, pathGreatest, wordUnused, totalsFit, pathUnusable, pathUndecidable, pathSent, pathChoiceAbove, pathHoldsNext, pathDecidedOf, totalNext, pathStateKept, ringWordNext, pathAdvanced, ringNoted}
 use Rattle.operator.specs.declared.Operator.{Operator}
 use Rattle.operator.specs.declared.Operator.the-variants.{Limiter, Compactor, Expander, Filter, Delayer}
 use Rattle.operator.specs.declared.SingleOperator.{SingleOperator}
-use Rattle.operator.specs.declared.parts.Stored.{Stored}
 use Rattle.operator.specs.declared.parts.Decided.{Decided}
 use Rattle.operator.specs.declared.ring.PathOperator.{PathOperator}
-use Rattle.operator.specs.declared.ring.PathKept.{PathKept}
 use Rattle.operator.proofs.Steps.{after-b}
 use Rattle.operator.proofs.SingleLaws.{used-within}
 use Rattle.operator.proofs.PartsLaws.{Decidable, decidable}
@@ -59,6 +54,15 @@ delayer-used (Compactor m) inside apart = let never : _≡_ {A = ℕ} 0 1 = cc i
 delayer-used (Expander m) inside apart = let never : _≡_ {A = ℕ} 0 1 = cc in omega arith
 delayer-used (Filter R) inside apart = let never : _≡_ {A = ℕ} 0 1 = cc in omega arith
 delayer-used (Delayer d) inside apart = least-le delayRange (d .0) inside
+
+-- and one that does uses no word
+none-used : (op : Operator) → usesHeld op ≡ true → wordsUsed op ≡ 0
+unfolding usesHeld wordsUsed
+none-used (Limiter R) apart = refl
+none-used (Compactor m) apart = refl
+none-used (Expander m) apart = refl
+none-used (Filter R) apart = refl
+none-used (Delayer d) apart = let never : _≡_ {A = ℕ} 0 1 = cc in absurd (omega arith)
 
 -- What is lent and stored.
 
@@ -87,21 +91,26 @@ module _ (op : Operator) (words : List ℕ) where
     behind-length : length behind ≡ rest
     behind-length = length-take-le rest (drop used words) (omega (arith, length-drop used words))
 
-    behind-tested : (j : ℕ) → j < rest → wordFits 0 behind j ≡ wordUnused op words (used + j)
-    unfolding wordFits storedFits wordUnused
+    behind-tested : (j : ℕ) → j < rest → clearAt behind j ≡ wordUnused op words (used + j)
+    unfolding wordUnused
     behind-tested j below =
-        ap (λ (t : Bool). pick t (leb (wordAt behind j) largestAmount) (eqb (wordAt behind j) 0)) (le-ltb j 0 (omega arith))
-        ∙ ap (λ (w : ℕ). eqb w 0) (getD-take rest (drop used words) j 0 below ∙ getD-drop used words j 0)
+        ap (λ (w : ℕ). eqb w 0) (getD-take rest (drop used words) j 0 below ∙ getD-drop used words j 0)
         ∙ ap (λ (t : Bool). either t (eqb (wordAt words (used + j)) 0)) (sym (le-ltb (used + j) (wordsUsed op) (omega arith)))
 
-    pub behind-scanned : scannedOf 0 (take (length words - used) (drop used words)) .fits ≡ every (wordUnused op words) wordCount
-    behind-scanned =
+    pub behind-clear : every (clearAt (take (length words - used) (drop used words))) (length (take (length words - used) (drop used words))) ≡ every (wordUnused op words) wordCount
+    behind-clear =
         let all : used + rest ≡ wordCount = omega arith in
-        scan-fits 0 behind (omega (arith, behind-length))
-        ∙ ap (every (wordFits 0 behind)) behind-length
-        ∙ every-same (wordFits 0 behind) (λ j. wordUnused op words (used + j)) rest behind-tested
+        ap (every (clearAt behind)) behind-length
+        ∙ every-same (clearAt behind) (λ j. wordUnused op words (used + j)) rest behind-tested
         ∙ sym (every-behind (wordUnused op words) used (λ j below. word-used j (omega arith)) rest)
         ∙ ap (every (wordUnused op words)) all
+
+  pub all-clear : usesHeld op ≡ true → length words ≡ wordCount → every (clearAt words) (length words) ≡ every (wordUnused op words) wordCount
+  unfolding wordUnused
+  all-clear apart sized =
+      ap (every (clearAt words)) sized
+      ∙ every-same (clearAt words) (wordUnused op words) wordCount
+      (λ j below. ap (λ (t : Bool). either t (eqb (wordAt words j) 0)) (sym (le-ltb j (wordsUsed op) (omega (arith, none-used op apart)))))
 
 -- what is lent and stored can be used
 pub record PathUsable (x : PathOperator) (words : List ℕ) : Type 0 where
@@ -151,13 +160,13 @@ module _ (x : PathOperator) (words : List ℕ) where
       by-test true e = refl
       by-test false e = absurd (not-usable (path-usable e))
 
-  pub path-stored-refused : (PathUsable x words → ⊥) → Stored.Unusable ≡ pathStoredOf x words
-  unfolding pathStoredOf
-  path-stored-refused not-usable = sym (pick-true _ _ _ (path-stored-unusable not-usable))
+  pub refused-unusable : (PathUsable x words → ⊥) → false ≡ not (pathUnusable x words)
+  refused-unusable not-usable = sym (ap not (path-stored-unusable not-usable))
 
-  pub path-stored-found : PathUsable x words → (held : ℕ) → held ≡ pathHolds x words .b → Stored.Holds (record { 0 = held }) ≡ pathStoredOf x words
-  unfolding pathStoredOf
-  path-stored-found stored held same = ap (λ (n : ℕ). Stored.Holds (record { 0 = n })) same ∙ sym (pick-false _ _ _ (path-stored-usable stored))
+  -- the last test tells
+  pub told-usable : (t : Bool) → (t ≡ true → PathUsable x words) → (t ≡ false → PathUsable x words → ⊥) → t ≡ not (pathUnusable x words)
+  told-usable true usable unusable = sym (ap not (path-stored-usable (usable refl)))
+  told-usable false usable unusable = refused-unusable (unusable refl)
 
 -- where a delayer's ring stands, it is usable while what is held is within the limit
 module _ (d : ℕ) (r s : Flow) (n : ℕ) (x : PathOperator) (words : List ℕ) (stands : RingStands d r s n x words) where
@@ -255,68 +264,68 @@ module _ (x : PathOperator) (words : List ℕ) (input choice : ℕ) where
           in
           rw (output, stays, h-same s) (sym (pick-false _ _ _ passed ∙ pick-false _ _ _ (ap not inside) ∙ pick-false _ _ _ (choice-tested ∙ le-ltb (g - l) choice below)))
 
--- What keeping answers.
+-- What noting writes.
 
-module _ (x : PathOperator) (words : List ℕ) (input output kept beside : ℕ) where
-  -- what keeping answers, and what the words are then
-  abbrev PathKeeping : PathKept → List ℕ → Type 0
-  PathKeeping answer after = (answer ≡ pathKeptOf x words input output kept beside) × (after ≡ ringKept x words input kept beside)
+module _ (x : PathOperator) (words : List ℕ) where
+  abbrev place : ℕ
+  place = x .slot .0 % wordsUsed (x .operator)
 
-  pub path-kept-unfit : anyOf (unfitTests (length words) wordCount (x .slot .0) kept beside) ≡ true → PathKeeping PathKept.Unfit words
-  unfolding pathKeptOf ringKept pathKeepUnfit
-  path-kept-unfit test = (sym (pick-true _ _ _ test), sym (pick-true _ _ _ test))
+  pub noted-apart : usesHeld (x .operator) ≡ true → words ≡ ringNoted x words
+  unfolding ringNoted
+  noted-apart apart = sym (pick-true _ _ _ apart)
 
-  module _ (passed : anyOf (unfitTests (length words) wordCount (x .slot .0) kept beside) ≡ false) where
-    pub path-kept-outside : numberInRange (x .operator) ≡ false → PathKeeping PathKept.OutOfRange words
-    unfolding pathKeptOf ringKept pathKeepUnfit
-    path-kept-outside outside = (
-      sym (pick-false _ _ _ passed ∙ pick-true _ _ _ (ap not outside)),
-      sym (pick-false _ _ _ passed ∙ pick-true _ _ _ (ap not outside)),
-    )
+  module _ (ring : usesHeld (x .operator) ≡ false) where
+    pub noted-unsized : (length words ≡ wordCount → ⊥) → words ≡ ringNoted x words
+    unfolding ringNoted
+    noted-unsized other = sym (pick-false _ _ _ ring ∙ pick-false _ _ _ (ap (λ (t : Bool). both t (numberInRange (x .operator))) (ne-eqb (length words) wordCount other)))
 
-    module _ (inside : numberInRange (x .operator) ≡ true) where
-      path-keeping : PathKeeping (PathKept.Next (pathStateKept x input output kept beside)) (listOf (ringWordNext x words input) wordCount)
-      unfolding pathKeptOf ringKept pathKeepUnfit
-      path-keeping = (
-        sym (pick-false _ _ _ passed ∙ pick-false _ _ _ (ap not inside)),
-        sym (pick-false _ _ _ passed ∙ pick-false _ _ _ (ap not inside)),
-      )
+    module _ (sized : length words ≡ wordCount) where
+      pub noted-outside : numberInRange (x .operator) ≡ false → words ≡ ringNoted x words
+      unfolding ringNoted
+      noted-outside outside = sym (pick-false _ _ _ ring ∙ pick-false _ _ _ (ap₂ both (eq-eqb (length words) wordCount sized) outside))
 
-      module _ (sized : length words ≡ wordCount) (entered : ℕ) (entered-same : entered ≡ totalNext (x .operator) (x .entered) input) (after : List ℕ)
-          (written : after ≡ pick (usesHeld (x .operator)) words (set words (x .slot .0 % wordsUsed (x .operator)) entered)) where
-        abbrev place : ℕ
-        place = x .slot .0 % wordsUsed (x .operator)
+      pub noted-written : numberInRange (x .operator) ≡ true → set words place (x .entered) ≡ ringNoted x words
+      unfolding ringNoted
+      noted-written inside = sym (pick-false _ _ _ ring ∙ pick-true _ _ _ (ap₂ both (eq-eqb (length words) wordCount sized) inside))
 
-        length-written : (uses : Bool) → length (pick uses words (set words place entered)) ≡ length words
-        length-written true = refl
-        length-written false = length-set words place entered
+-- so an operator that has advanced notes the total with the input
+module _ (x : PathOperator) (words : List ℕ) (sized : length words ≡ wordCount) (inside : numberInRange (x .operator) ≡ true) (input output kept beside : ℕ) where
+  abbrev advanced : PathOperator
+  advanced = pathAdvanced x input output kept beside
 
-        total-ring : usesHeld (x .operator) ≡ false → entered ≡ totalMore (x .entered) input
-        unfolding totalNext
-        total-ring ring = entered-same ∙ pick-false _ _ _ ring
+  advanced-total : usesHeld (x .operator) ≡ false → advanced .entered ≡ totalMore (x .entered) input
+  unfolding pathAdvanced pathStateKept totalNext
+  advanced-total ring = pick-false _ _ _ ring
 
-        -- of an operator that is no delayer, and of a delayer
-        word-kept : (uses : Bool) → usesHeld (x .operator) ≡ uses → (j : ℕ)
-            → wordAt (pick uses words (set words place entered)) j ≡ pick (both (not uses) (eqb j place)) (totalMore (x .entered) input) (wordAt words j)
-        word-kept true apart j = refl
-        word-kept false ring j =
-            elim (ℕ-discrete j place) [
-              | yes here ↦
-                  let within : place < length words = omega (arith, mod-lt (x .slot .0) (delayer-used (x .operator) inside ring), used-within (x .operator) inside) in
-                  ap (wordAt (set words place entered)) here
-                  ∙ getD-set-same words place entered 0 within
-                  ∙ total-ring ring
-                  ∙ sym (pick-true _ _ _ (eq-eqb j place here))
-              | no other ↦ getD-set-other words place j entered 0 other ∙ sym (pick-false _ _ _ (ne-eqb j place other))
-            ]
+  noted-ring : usesHeld (x .operator) ≡ false → ringNoted advanced words ≡ set words (place x words) (totalMore (x .entered) input)
+  unfolding pathAdvanced
+  noted-ring ring = sym (noted-written advanced words ring sized inside) ∙ ap (set words (place x words)) (advanced-total ring)
 
-        words-kept : after ≡ listOf (ringWordNext x words input) wordCount
-        unfolding ringWordNext
-        words-kept =
-            listOf-ext 0 _ wordCount after (ap length written ∙ length-written (usesHeld (x .operator)) ∙ sized)
-            (λ j less. ap (λ (list : List ℕ). wordAt list j) written ∙ word-kept (usesHeld (x .operator)) refl j)
+  noted-none : usesHeld (x .operator) ≡ true → ringNoted advanced words ≡ words
+  unfolding pathAdvanced
+  noted-none apart = sym (noted-apart advanced words apart)
 
-        pub path-kept-written : (field left : ℕ) → field ≡ pick (usesHeld (x .operator)) kept 0 → left ≡ totalNext (x .operator) (x .left) output
-            → PathKeeping (PathKept.Next (record { operator = x .operator; slot = record { 0 = x .slot .0 + 1 }; held = record { 0 = field }; beside = record { 0 = beside }; entered = entered; left = left })) after
-        unfolding pathStateKept
-        path-kept-written field left field-same left-same = (rw (field-same, entered-same, left-same) (path-keeping .0), words-kept ∙ path-keeping .1)
+  -- of an operator that is no delayer, and of a delayer
+  word-noted : (uses : Bool) → usesHeld (x .operator) ≡ uses → (j : ℕ)
+      → wordAt (ringNoted advanced words) j ≡ pick (both (not uses) (eqb j (place x words))) (totalMore (x .entered) input) (wordAt words j)
+  word-noted true apart j = ap (λ (list : List ℕ). wordAt list j) (noted-none apart)
+  word-noted false ring j =
+      let at = place x words in
+      let total = totalMore (x .entered) input in
+      ap (λ (list : List ℕ). wordAt list j) (noted-ring ring)
+      ∙ elim (ℕ-discrete j at) [
+        | yes here ↦
+            let within : at < length words = omega (arith, mod-lt (x .slot .0) (delayer-used (x .operator) inside ring), used-within (x .operator) inside) in
+            ap (wordAt (set words at total)) here ∙ getD-set-same words at total 0 within ∙ sym (pick-true _ _ _ (eq-eqb j at here))
+        | no other ↦ getD-set-other words at j total 0 other ∙ sym (pick-false _ _ _ (ne-eqb j at other))
+      ]
+
+  length-noted : (uses : Bool) → usesHeld (x .operator) ≡ uses → length (ringNoted advanced words) ≡ length words
+  length-noted true apart = ap length (noted-none apart)
+  length-noted false ring = ap length (noted-ring ring) ∙ length-set words (place x words) (totalMore (x .entered) input)
+
+  pub noted-next : ringNoted advanced words ≡ listOf (ringWordNext x words input) wordCount
+  unfolding ringWordNext
+  noted-next =
+      listOf-ext 0 _ wordCount (ringNoted advanced words) (length-noted (usesHeld (x .operator)) refl ∙ sized)
+      (λ j less. word-noted (usesHeld (x .operator)) refl j)

@@ -3,7 +3,7 @@
 use Prim.Native.Nat.{ℕ, zero, suc, _+_, _-_, _%_, min}
 use mathlib.Core.Bool.{Bool, not}
 use mathlib.Core.List.{List, [], _∷_}
-use lib.ListN.{length}
+use lib.ListN.{length, set}
 use lib.Dec.{leb, ltb, eqb}
 use Rattle.quantity.specs.Choice.{pick, both, either, anyOf}
 use Rattle.quantity.specs.Sums.{every, listOf}
@@ -15,10 +15,8 @@ use Rattle.operator.specs.Operators.{leastOutput, greatestOutput, heldAf
 use Rattle.operator.specs.Single.{wordCount, wordsUsed, usesHeld, usesBeside}
 use Rattle.operator.specs.Parts.{mostOnTheWay}
 use Rattle.operator.specs.declared.Operator.{Operator}
-use Rattle.operator.specs.declared.parts.Stored.{Stored}
 use Rattle.operator.specs.declared.parts.Decided.{Decided}
 use Rattle.operator.specs.declared.ring.PathOperator.{PathOperator}
-use Rattle.operator.specs.declared.ring.PathKept.{PathKept}
 
 -- 2^32
 abbrev pub wrap : ℕ
@@ -86,10 +84,6 @@ pathUnusable x words =
     ∷ not (every (wordUnused (x .operator) words) wordCount)
     ∷ [])
 
--- Test: section 3's b, unless what is lent and stored cannot be used
-unfoldable pub pathStoredOf : PathOperator → List ℕ → Stored
-pathStoredOf x words = pick (pathUnusable x words) Stored.Unusable (Stored.Holds (record { 0 = pathHolds x words .b }))
-
 -- the words have a wrong length, no slot number is left, an amount is above its limit
 unfoldable pub pathUndecidable : PathOperator → List ℕ → ℕ → ℕ → Bool
 pathUndecidable x words input choice =
@@ -125,11 +119,6 @@ pathDecidedOf x words input choice =
     (record { 0 = pathHoldsNext x words input (pathSent x words input choice) .b })
     (record { 0 = pathHoldsNext x words input (pathSent x words input choice) .h }))))
 
--- the words have a wrong length, no slot number is left, or an amount is above the limit
-unfoldable pub pathKeepUnfit : PathOperator → List ℕ → ℕ → ℕ → Bool
-pathKeepUnfit x words kept beside =
-    anyOf (not (eqb (length words) wordCount) ∷ ltb lastSlot (x .slot .0) ∷ ltb largestAmount kept ∷ ltb largestAmount beside ∷ [])
-
 -- a delayer's totals with the slot's input and output, wrapping; another operator has none
 unfoldable pub totalNext : Operator → ℕ → ℕ → ℕ
 totalNext op total units = pick (usesHeld op) 0 (totalMore total units)
@@ -151,15 +140,23 @@ unfoldable pub ringWordNext : PathOperator → List ℕ → ℕ → ℕ → ℕ
 ringWordNext x words input j =
     pick (both (not (usesHeld (x .operator))) (eqb j (x .slot .0 % wordsUsed (x .operator)))) (totalMore (x .entered) input) (wordAt words j)
 
--- Keep: the state of the slot after
-unfoldable pub pathKeptOf : PathOperator → List ℕ → ℕ → ℕ → ℕ → ℕ → PathKept
-pathKeptOf x words input output kept beside =
-    pick (pathKeepUnfit x words kept beside) PathKept.Unfit (pick (not (numberInRange (x .operator))) PathKept.OutOfRange (PathKept.Next (pathStateKept x input output kept beside)))
+-- Advance: the state of the slot after, but for the slot, which is not counted yet
+unfoldable pub pathAdvanced : PathOperator → ℕ → ℕ → ℕ → ℕ → PathOperator
+pathAdvanced x input output kept beside =
+    record {
+      operator = x .operator;
+      slot = x .slot;
+      held = pathStateKept x input output kept beside .held;
+      beside = pathStateKept x input output kept beside .beside;
+      entered = pathStateKept x input output kept beside .entered;
+      left = pathStateKept x input output kept beside .left;
+    }
 
--- and what the words hold then; where a test stands, nothing is written
-unfoldable pub ringKept : PathOperator → List ℕ → ℕ → ℕ → ℕ → List ℕ
-ringKept x words input kept beside =
-    pick (pathKeepUnfit x words kept beside) words (pick (not (numberInRange (x .operator))) words (listOf (ringWordNext x words input) wordCount))
+-- Note: a delayer's word t mod d becomes its total; where it has not 64 words or its number is out of its range, and of another operator, nothing is written
+unfoldable pub ringNoted : PathOperator → List ℕ → List ℕ
+ringNoted x words =
+    pick (usesHeld (x .operator)) words
+    (pick (both (eqb (length words) wordCount) (numberInRange (x .operator))) (set words (x .slot .0 % wordsUsed (x .operator)) (x .entered)) words)
 
 -- The state and the words slot after slot.
 
@@ -175,7 +172,7 @@ pathNew op =
       words = listOf (λ j. 0) wordCount;
     }
 
--- once s is sent: what Keep leaves
+-- once s is sent: what a slot leaves
 unfoldable pub pathNext : PathState → ℕ → ℕ → PathState
 pathNext y input s =
     record {

@@ -4,7 +4,6 @@
 use crate::Operator;
 use crate::SingleOperator;
 use crate::parts::Decided;
-use crate::parts::Stored;
 use crate::parts::beside_after;
 use crate::parts::greatest;
 use crate::parts::held_apart;
@@ -17,16 +16,16 @@ use crate::parts::words_used;
 use quantity::Slots;
 use quantity::Units;
 ghost use mathlib.Core.Path.{_≡_};
-ghost use mathlib.Core.Bool.{true};
+ghost use mathlib.Core.Bool.{true, not};
 ghost use Prim.Native.Nat.{_+_, _%_, _≤_, _<_};
-ghost use lib.ListN.{length, set};
+ghost use lib.ListN.{length};
 ghost use Rattle.quantity.specs.Choice.{pick};
 ghost use Rattle.quantity.specs.Sums.{every};
 ghost use Rattle.quantity.specs.Limits.{largestAmount, lastSlot};
 ghost use Rattle.operator.specs.Operators.{numberInRange};
-ghost use Rattle.operator.specs.Single.{wordCount, wordsUsed, usesHeld};
+ghost use Rattle.operator.specs.Single.{wordCount, usesHeld};
 ghost use Rattle.operator.specs.Parts.{mostOnTheWay};
-ghost use Rattle.operator.specs.Ring.{totalMore, totalLess, ringHeld, ringRecent, pathHolds, pathLeast, wordUnused, totalsFit, pathStoredOf, pathDecidedOf, totalNext, pathKeptOf, ringKept};
+ghost use Rattle.operator.specs.Ring.{totalMore, totalLess, ringHeld, ringRecent, pathHolds, pathLeast, wordUnused, totalsFit, pathUnusable, pathDecidedOf, totalNext, pathAdvanced, ringNoted};
 
 // The words of an operator.
 const WORDS: usize = 64;
@@ -45,37 +44,27 @@ pub struct PathOperator {
     pub left: u32,
 }
 
-// What keeping answers: the next state.
-pub enum PathKept {
-    Next(PathOperator),
-    Unfit,
-    OutOfRange,
-}
-
-// Test: section 3's b, unless what is lent and stored cannot be used.
-pub fn stored_in(state: PathOperator, words: &[u32]) -> Stored
-    ensures { λ r. ⌜ r ≡ pathStoredOf state (now (words .entry)) ⌝ }
+// Test: whether what is lent and stored can be used.
+pub fn usable(state: PathOperator, words: &[u32]) -> bool
+    ensures { λ r. ⌜ r ≡ not (pathUnusable state (now (words .entry))) ⌝ }
 {
     if words.len() != WORDS {
-        return Stored::Unusable;
+        return false;
     }
     if Slots::LAST < state.slot.0 {
-        return Stored::Unusable;
+        return false;
     }
     let operator = state.operator;
     if !words::stored_fits(uses_held(operator), state.held.0) {
-        return Stored::Unusable;
+        return false;
     }
     if !words::stored_fits(uses_beside(operator), state.beside.0) {
-        return Stored::Unusable;
+        return false;
     }
     if !totals_fit(state) {
-        return Stored::Unusable;
+        return false;
     }
-    if !unused_clear(operator, words) {
-        return Stored::Unusable;
-    }
-    Stored::Holds(Units(units_held(state)))
+    unused_clear(operator, words)
 }
 
 // Decide, on numbers: the output, what stays and a filter's h then, whatever they are. Of a delayer's words one is read, and none is tested.
@@ -103,34 +92,51 @@ pub fn decide(state: PathOperator, words: &[u32], input: Units, choice: Units) -
     }
 }
 
-// Keep: the next state. Of a delayer's words one is written, the total with the input.
-pub fn keep(
+// Advance: the operator once it has sent, its slot not counted yet. What is kept and stands beside may be anything.
+pub fn advance(
     state: PathOperator,
-    words: &mut [u32],
     input: Units,
     output: Units,
     kept: Units,
     beside: Units,
-) -> PathKept
-    ensures { λ r. ⌜ (r ≡ pathKeptOf state (now (words .entry)) (input .0) (output .0) (kept .0) (beside .0)) × (now (words .exit) ≡ ringKept state (now (words .entry)) (input .0) (kept .0) (beside .0)) ⌝ }
+) -> PathOperator
+    ensures { λ r. ⌜ r ≡ pathAdvanced state (input .0) (output .0) (kept .0) (beside .0) ⌝ }
 {
-    if words::unfit(words.len(), WORDS, state.slot.0, kept.0, beside.0) {
-        return PathKept::Unfit;
-    }
     let operator = state.operator;
-    if !operator.number_in_range() {
-        return PathKept::OutOfRange;
-    }
-    let entered = total_next(operator, state.entered, input.0);
-    write_total(operator, words, state.slot.0, entered);
-    PathKept::Next(PathOperator {
+    let slot = state.slot;
+    PathOperator {
         operator,
-        slot: Slots(state.slot.0 + 1),
+        slot,
         held: Units(held_apart(operator, kept.0)),
         beside,
-        entered,
+        entered: total_next(operator, state.entered, input.0),
         left: total_next(operator, state.left, output.0),
-    })
+    }
+}
+
+// Note: a delayer's word t mod d becomes the total of what entered. No word of another operator changes, nor one where a test fails.
+pub fn note(state: PathOperator, words: &mut [u32])
+    ensures { λ _. ⌜ now (words .exit) ≡ ringNoted state (now (words .entry)) ⌝ }
+{
+    let operator = state.operator;
+    if uses_held(operator) {
+        return;
+    }
+    if words.len() != WORDS {
+        return;
+    }
+    if !operator.number_in_range() {
+        return;
+    }
+    let at = state.slot.0 as usize % words_used(operator);
+    words[at] = state.entered;
+}
+
+// What an operator of a path holds, for people who watch it.
+pub fn holds(state: PathOperator) -> Units
+    ensures { λ r. ⌜ r .0 ≡ pick (usesHeld (state .operator)) (state .held .0) (ringHeld state) ⌝ }
+{
+    Units(units_held(state))
 }
 
 // Section 3's b: a delayer's is what entered less what left.
@@ -164,12 +170,14 @@ fn unused_clear(operator: Operator, words: &[u32]) -> bool
     requires { ⌜ length (now words) ≡ wordCount ⌝ }
     ensures { λ r. ⌜ r ≡ every (wordUnused operator (now (words .entry))) wordCount ⌝ }
 {
+    if uses_held(operator) {
+        return words::row_clear(words);
+    }
     let used = words_used(operator);
     if WORDS <= used {
         return true;
     }
-    let scanned = words::scan(&words[used..], 0);
-    scanned.fits
+    words::row_clear(&words[used..])
 }
 
 // The state without its totals: a single operator's.
@@ -208,17 +216,6 @@ fn recent(state: PathOperator, words: &[u32], delay: usize) -> u64
 {
     let at = state.slot.0 as usize % delay;
     total_less(state.entered, words[at]) as u64
-}
-
-// A delayer's word t mod d becomes the total; no word of another operator changes.
-fn write_total(operator: Operator, words: &mut [u32], slot: u32, total: u32)
-    requires { ⌜ (numberInRange operator ≡ true) × (length (now words) ≡ wordCount) ⌝ }
-    ensures { λ _. ⌜ now (words .exit) ≡ pick (usesHeld operator) (now (words .entry)) (set (now (words .entry)) (slot % wordsUsed operator) total) ⌝ }
-{
-    if !uses_held(operator) {
-        let at = slot as usize % words_used(operator);
-        words[at] = total;
-    }
 }
 
 // A delayer's total after the slot; another operator has none.

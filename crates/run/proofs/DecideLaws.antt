@@ -1,42 +1,40 @@
--- What the loop over a run's operators has decided before operator k, and what it answers: the first choice that is above, 1 again, or the output.
+-- What the loop over a run's operators has decided before operator k, and behind the last: the first choice that is above stands, or 1 again, or nothing.
 use Prim.Native.Nat.{ℕ, zero, suc, _+_, _-_, _*_, _≤_, _<_}
 use mathlib.Core.Path.{_≡_, refl, sym, ap, ap₂, _∙_}
 use mathlib.Core.Bool.{Bool, true, false, not}
 use mathlib.Core.List.{List, [], _∷_, _++_}
-use mathlib.Core.Logic.{inl, inr, ⊎-elim}
+use mathlib.Core.Logic.{_⊎_, inl, inr, ⊎-elim}
 use native.Mathlib.Nat.{not-suc-le-zero, le-of-suc-le-suc, eq-or-lt-of-le}
 use native.Mathlib.Numerals.{add-one}
 use native.Mathlib.Omega.{arith}
-use borrow.Author.Tests.{ltb-true, ltb-false, le-leb, lt-leb, leb-true, eqb-true, eqb-false, not-false}
-use lib.Dec.{leb, ltb, eqb}
-use lib.ListN.{length, getD, set, replicate, take, drop, length-set}
+use borrow.Author.Tests.{ltb-true, ltb-false, le-leb, lt-leb, leb-true, eqb-true, not-false}
+use lib.Dec.{leb, ltb}
+use lib.ListN.{length, getD, set, take, drop, length-set}
 use lib.Seq.{getD-set-same, getD-set-other}
 use Rattle.quantity.specs.Choice.{pick, both, either}
 use Rattle.quantity.specs.Limits.{largestAmount, mostOperators}
 use Rattle.quantity.specs.Sums.{every}
 use Rattle.quantity.specs.Refusals.{Case, _⇒_}
-use Rattle.quantity.specs.declared.Slots.{Slots}
 use Rattle.quantity.specs.declared.Units.{Units}
 use Rattle.quantity.specs.declared.refusal.Refusal.{Refusal}
 use Rattle.quantity.specs.declared.refusal.Refusal.the-variants.{Unusable, ChoiceAboveGreatest}
 use Rattle.quantity.proofs.Laws.{picked-true, either-false}
-use Rattle.quantity.proofs.Sums.{every-at, every-next}
-use Rattle.quantity.proofs.Refusals.{NoneStands, none-of-both, firstOf-none, FirstIs, first-answered, first-of-more}
+use Rattle.quantity.proofs.Sums.{every-at, every-next, listOf-ext}
+use Rattle.quantity.proofs.Refusals.{NoneStands, none-of-both, FirstIs, first-of-more}
 use Rattle.operator.specs.Operators.{numberInRange}
 use Rattle.operator.specs.Single.{wordCount}
-use Rattle.operator.specs.Ring.{pathHolds, pathDecidedOf}
+use Rattle.operator.specs.Ring.{pathHolds, pathDecidedOf, pathAdvanced}
 use Rattle.operator.specs.declared.ring.PathOperator.{PathOperator}
 use Rattle.operator.specs.declared.parts.Decided.{Decided}
 use Rattle.operator.proofs.RingLaws.{PathUsable}
 use Rattle.sheet.specs.Bodies.{part}
 use Rattle.run.specs.declared.Stage.{Stage}
 use Rattle.run.specs.declared.Run.{Run}
-use Rattle.run.specs.declared.slot.Outcome.{Outcome}
-use Rattle.run.specs.declared.decide.Move.{Move}
 use Rattle.run.specs.Calls.{Call, choiceFor, choicesMiscounted, amountTooLarge, callOf}
 use Rattle.run.specs.Runs.{operatorAtWord, operatorWords, noStage, stageAt, operatorOf, operatorIn, runUnusable}
-use Rattle.run.specs.Slots.{inputInto, choiceAboveAt, choiceCases, runHoldsNext, leavesTooMuchAt, slotLeavesTooMuch, slotOutput}
-use Rattle.run.specs.Steps.{noMove, moveOf, storable, planOf}
+use Rattle.run.specs.Slots.{inputInto, choiceAboveAt, choiceCases, runHoldsNext, leavesTooMuchAt, slotLeavesTooMuch, operatorNext, stageNext}
+use Rattle.run.specs.Steps.{stageKept, runAdvanced, storable, decisionCases}
+use Rattle.run.proofs.UpTo.{UpTo, up-to-none, up-to-here, up-to-next}
 use Rattle.run.proofs.PathAnswers.{path-sent-fits, path-b-le, path-decided-next}
 use Rattle.run.proofs.UsableRun.{UsableRun, usable-run, stage-usable, stage-number, fits-at}
 
@@ -48,8 +46,8 @@ lent-words : (words : List ℕ) (k : ℕ) → lent words k ≡ operatorWords wor
 unfolding operatorWords part
 lent-words words k = let width : operatorAtWord k + wordCount - operatorAtWord k ≡ wordCount = omega arith in ap (λ (n : ℕ). take n (drop (operatorAtWord k) words)) width
 
-pub decided-lent : (words : List ℕ) (k input choice : ℕ) {x y : PathOperator} {decided : Decided} → x ≡ y → decided ≡ pathDecidedOf x (lent words k) input choice → decided ≡ pathDecidedOf y (operatorWords words k) input choice
-decided-lent words k input choice same e = e ∙ ap₂ (λ (x : PathOperator) (ws : List ℕ). pathDecidedOf x ws input choice) same (lent-words words k)
+pub decided-lent : (words : List ℕ) (k input choice : ℕ) (x : PathOperator) {decided : Decided} → decided ≡ pathDecidedOf x (lent words k) input choice → decided ≡ pathDecidedOf x (operatorWords words k) input choice
+decided-lent words k input choice x e = e ∙ ap (λ (ws : List ℕ). pathDecidedOf x ws input choice) (lent-words words k)
 
 -- The test of what is stored.
 
@@ -82,21 +80,17 @@ both-first {r} {s} t taken e = e ∙ sym (ap (λ (x : Bool). both x s) taken)
 pub both-none : (t s : Bool) → t ≡ false → t ≡ both t s
 both-none t s left = left ∙ sym (ap (λ (x : Bool). both x s) left)
 
--- what the loop has of the run and of the call, and what is known of them
-pub record Given (words choices : List ℕ) (stages : List Stage) (slot : Slots) (count : ℕ) (input : Units) (run : Run) : Type 0 where
+-- what is known of the run and the call
+pub record Given (run : Run) (words : List ℕ) (input : Units) (choices : List ℕ) : Type 0 where
   pub usable : UsableRun run words
-  pub stages-same : stages ≡ run .stages
-  pub slot-same : slot ≡ run .slot
-  pub count-same : count ≡ run .count
-  pub counted : length choices ≡ count
+  pub counted : length choices ≡ run .count
   pub input-le : input .0 ≤ largestAmount
-  pub choice-le : (k : ℕ) → k < count → getD choices k 0 ≤ largestAmount
+  pub choice-le : (k : ℕ) → k < run .count → getD choices k 0 ≤ largestAmount
 
--- so at the call
 pub given : (run : Run) (words : List ℕ) (input : Units) (choices : List ℕ)
     → runUnusable run words ≡ false
     → choicesMiscounted (run .count) (callOf input choices) ≡ false → amountTooLarge (callOf input choices) ≡ false
-    → Given words choices (run .stages) (run .slot) (run .count) input run
+    → Given run words input choices
 unfolding choicesMiscounted amountTooLarge
 given run words input choices passed miscounted large =
     let counted : length choices ≡ run .count = eqb-true (length choices) (run .count) (not-false _ miscounted) in
@@ -104,34 +98,37 @@ given run words input choices passed miscounted large =
     let each = every-at (λ k. leb (choiceFor (callOf input choices) k) largestAmount) (length choices) (not-false _ rest) in
     record {
       usable = usable-run run words passed;
-      stages-same = refl;
-      slot-same = refl;
-      count-same = refl;
       counted = counted;
       input-le = ltb-false largestAmount (input .0) first;
       choice-le = λ k less. leb-true (getD choices k 0) largestAmount (each k (rw counted less));
     }
 
--- what holds before operator k
-pub record Deciding (run : Run) (words : List ℕ) (call : Call) (k : ℕ) (arriving : Units) (fits : Bool) (moves : List Move) : Type 0 where
+-- a run with other stages
+abbrev withStages : Run → List Stage → Run
+withStages run stages = record { declaration = run .declaration; slot = run .slot; block = run .block; count = run .count; stages = stages }
+
+-- what holds before operator k: those before it have advanced
+pub record Deciding (run : Run) (words : List ℕ) (call : Call) (k : ℕ) (arriving : Units) (fits : Bool) (next : Run) : Type 0 where
   pub arrives : arriving .0 ≡ inputInto run words call k
   pub small : arriving .0 ≤ largestAmount * (k + 1)
   pub passed : NoneStands (choiceCases run words call k)
   pub stored : fits ≡ every (λ j. not (leavesTooMuchAt run words call j)) k
-  pub long : length moves ≡ mostOperators
-  pub written : (j : ℕ) → j < k → getD moves j noMove ≡ moveOf run words call j
+  pub beside : next ≡ withStages run (next .stages)
+  pub long : length (next .stages) ≡ mostOperators
+  pub advanced : UpTo mostOperators (stageNext run words call) (stageAt run) k (λ i. getD (next .stages) i noStage)
 
 -- before operator 0
-pub deciding-start : (run : Run) (words choices : List ℕ) (input : Units) (move : Move) → input .0 ≤ largestAmount → Deciding run words (callOf input choices) 0 input true (replicate mostOperators move)
-unfolding inputInto choiceCases every
-deciding-start run words choices input move small =
+pub deciding-start : (run : Run) (words choices : List ℕ) (input : Units) → input .0 ≤ largestAmount → length (run .stages) ≡ mostOperators → Deciding run words (callOf input choices) 0 input true run
+unfolding inputInto choiceCases every stageAt
+deciding-start run words choices input small full =
     record {
       arrives = refl;
       small = omega arith;
       passed = tt;
       stored = refl;
-      long = refl;
-      written = λ j less. absurd (not-suc-le-zero less);
+      beside = refl;
+      long = full;
+      advanced = up-to-none mostOperators (stageNext run words (callOf input choices)) (stageAt run) (λ i. getD (run .stages) i noStage) (λ i less. refl);
     }
 
 -- what is decided of operator k
@@ -163,6 +160,12 @@ module _ (run : Run) (words : List ℕ) (call : Call) (k : ℕ) where
       let (below, (out, (keeps, holds))) = sends-picked (choiceAboveAt run words call k) _ _ _ decided in
       record { below = below; out = out; keeps = keeps; holds = holds }
 
+-- an operator that has advanced, as the run keeps it
+stage-advanced : (run : Run) (words : List ℕ) (call : Call) (k : ℕ)
+    → stageKept (pathAdvanced (operatorIn run k) (inputInto run words call k) (inputInto run words call (suc k)) (runHoldsNext run words call k .b) (runHoldsNext run words call k .h)) ≡ stageNext run words call k
+unfolding stageKept pathAdvanced stageNext operatorNext operatorIn
+stage-advanced run words call k = refl
+
 -- the first of two lists that stands, where none of the first list does
 first-behind : (why : Refusal) (cs ds : List Case) → NoneStands cs → FirstIs ds why → FirstIs (cs ++ ds) why
 first-behind why [] ds none first = first
@@ -182,78 +185,55 @@ module _ (run : Run) (words : List ℕ) (call : Call) where
   abbrev last : List Case
   last = (slotLeavesTooMuch run words call ⇒ Unusable) ∷ []
 
-  abbrev cases : List Case
-  cases = choiceCases run words call (run .count) ++ last
-
-  abbrev output : Outcome
-  output = Outcome.Sent (record { 0 = slotOutput run words call })
-
-  first-plan : (why : Refusal) → FirstIs cases why → Outcome.Refused why ≡ planOf run words call
-  unfolding planOf
-  first-plan why first = sym (first-answered Outcome.Refused output why cases first)
-
   -- 14 of operator k
-  pub refused-plan : (k : ℕ) → NoneStands (choiceCases run words call k) → choiceAboveAt run words call k ≡ true → k < run .count → Outcome.Refused (ChoiceAboveGreatest k) ≡ planOf run words call
-  refused-plan k passed above less =
-      first-plan (ChoiceAboveGreatest k) (first-of-more (ChoiceAboveGreatest k) (choiceCases run words call (run .count)) last (first-above k passed above (run .count) less))
+  pub above-decided : (k : ℕ) → NoneStands (choiceCases run words call k) → choiceAboveAt run words call k ≡ true → k < run .count → FirstIs (decisionCases run words call) (ChoiceAboveGreatest k)
+  above-decided k passed above less = first-of-more (ChoiceAboveGreatest k) (choiceCases run words call (run .count)) last (first-above k passed above (run .count) less)
 
   -- behind the last operator
-  module _ {arriving : Units} {fits : Bool} {moves : List Move} (deciding : Deciding run words call (run .count) arriving fits moves) where
-    pub unusable-plan : fits ≡ false → Outcome.Refused Unusable ≡ planOf run words call
+  module _ {arriving : Units} {fits : Bool} {next : Run} (deciding : Deciding run words call (run .count) arriving fits next) where
+    pub unusable-decided : fits ≡ false → FirstIs (decisionCases run words call) Unusable
     unfolding slotLeavesTooMuch
-    unusable-plan misfits =
-        first-plan Unusable (first-behind Unusable (choiceCases run words call (run .count)) last (deciding .passed) (inl (ap not (sym (deciding .stored) ∙ misfits), refl)))
+    unusable-decided misfits = first-behind Unusable (choiceCases run words call (run .count)) last (deciding .passed) (inl (ap not (sym (deciding .stored) ∙ misfits), refl))
 
-    pub sent-plan : fits ≡ true → Outcome.Sent arriving ≡ planOf run words call
-    unfolding planOf slotLeavesTooMuch
-    sent-plan fit =
-        ap (λ (n : ℕ). Outcome.Sent (record { 0 = n })) (deciding .arrives)
-        ∙ sym (firstOf-none Outcome.Refused output cases (none-of-both (choiceCases run words call (run .count)) last (deciding .passed) (ap not (sym (deciding .stored) ∙ fit), tt)))
+    pub none-decided : fits ≡ true → NoneStands (decisionCases run words call)
+    unfolding slotLeavesTooMuch
+    none-decided fit = none-of-both (choiceCases run words call (run .count)) last (deciding .passed) (ap not (sym (deciding .stored) ∙ fit), tt)
+
+    pub run-advanced : next ≡ runAdvanced run words call
+    unfolding runAdvanced
+    run-advanced = deciding .beside ∙ ap (withStages run) (listOf-ext noStage _ mostOperators (next .stages) (deciding .long) (deciding .advanced))
 
 -- one operator on
-module _ {words choices : List ℕ} {stages : List Stage} {slot : Slots} {count : ℕ} {input : Units} {run : Run} (known : Given words choices stages slot count input run)
-    {k : ℕ} {arriving : Units} {fits : Bool} {moves : List Move} (deciding : Deciding run words (callOf input choices) k arriving fits moves) (here : k < count) where
+module _ {run : Run} {words choices : List ℕ} {input : Units} (known : Given run words input choices)
+    {k : ℕ} {arriving : Units} {fits : Bool} {next : Run} (deciding : Deciding run words (callOf input choices) k arriving fits next) (here : k < run .count) where
   abbrev call : Call
   call = callOf input choices
 
-  inside : k < run .count
-  inside = rw (← known .count-same) here
-
   below : k < mostOperators
-  below = let few = known .usable .few in omega (arith, inside)
+  below = let few = known .usable .few in omega (arith, here)
 
   stored : PathUsable (operatorIn run k) (operatorWords words k)
   stored = stage-usable run words k (fits-at run words (known .usable) k below)
 
   number : numberInRange (operatorIn run k .operator) ≡ true
-  number = stage-number run words k (fits-at run words (known .usable) k below) inside
+  number = stage-number run words k (fits-at run words (known .usable) k below) here
 
-  operator-same : operatorOf (getD stages k noStage) slot ≡ operatorIn run k
-  unfolding operatorIn stageAt
-  operator-same = rw (known .stages-same, known .slot-same)
+  -- stage k has not advanced yet
+  pub operator-same : operatorOf (getD (next .stages) k noStage) (run .slot) ≡ operatorIn run k
+  unfolding operatorIn
+  operator-same = ap (λ (stage : Stage). operatorOf stage (run .slot)) (up-to-here mostOperators (stageNext run words call) (stageAt run) k (λ i. getD (next .stages) i noStage) (deciding .advanced) below)
 
-  -- what stage k with its words decides is operator k's decision
-  pub decided-here : {decided : Decided} → decided ≡ pathDecidedOf (operatorOf (getD stages k noStage) slot) (operatorWords words k) (arriving .0) (getD choices k 0)
-      → decided ≡ decidedAt run words call k
+  -- what it decides with its words is operator k's decision
+  pub decided-here : {x : PathOperator} → x ≡ operatorOf (getD (next .stages) k noStage) (run .slot)
+      → {decided : Decided} → decided ≡ pathDecidedOf x (operatorWords words k) (arriving .0) (getD choices k 0) → decided ≡ decidedAt run words call k
   unfolding choiceAboveAt inputInto runHoldsNext
-  decided-here {decided} e =
+  decided-here same e =
       let x = operatorIn run k in
       let ws = operatorWords words k in
       e
-      ∙ ap₂ (λ (x : PathOperator) (r : ℕ). pathDecidedOf x ws r (getD choices k 0)) operator-same (deciding .arrives)
+      ∙ ap₂ (λ (x : PathOperator) (r : ℕ). pathDecidedOf x ws r (getD choices k 0)) (same ∙ operator-same) (deciding .arrives)
       ∙ path-decided-next x ws stored number (inputInto run words call k) (getD choices k 0)
       (omega (arith, deciding .arrives, deciding .small, below)) (known .choice-le k here)
-
-  move-next : {next : Move} → next ≡ moveOf run words call k → (j : ℕ) → j < k + 1 → (t : Bool) → eqb j k ≡ t → getD (set moves k next) j noMove ≡ moveOf run words call j
-  move-next {next} e j less true same =
-      let at-k = eqb-true j k same in
-      rw at-k (getD-set-same moves k next noMove (rw (deciding .long) below) ∙ e)
-  move-next {next} e j less false other =
-      let differ = eqb-false j k other in
-      getD-set-other moves k j next noMove differ ∙ deciding .written j (earlier differ)
-    where
-      earlier : (j ≡ k → ⊥) → j < k
-      earlier differ = ⊎-elim (λ same. absurd (differ same)) (λ sooner. sooner) (eq-or-lt-of-le (le-of-suc-le-suc (rw add-one at less)))
 
   module _ {output kept beside : Units} (sending : Sending run words call k output kept beside) where
     output-same : output .0 ≡ inputInto run words call (suc k)
@@ -263,9 +243,13 @@ module _ {words choices : List ℕ} {stages : List Stage} {slot : Slots} {count 
     unfolding inputInto choiceAboveAt
     into-le = path-sent-fits (operatorIn run k) (operatorWords words k) (inputInto run words call k) (choiceFor call k) (sending .below)
 
-    move-same : record { input = arriving; output = output; kept = kept; beside = beside } ≡ moveOf run words call k
-    unfolding moveOf
-    move-same = let into : arriving ≡ record { 0 = inputInto run words call k } = ap (λ (n : ℕ). record { 0 = n }) (deciding .arrives) in rw (into, sending .out, sending .keeps, sending .holds)
+    -- what it keeps is the stage of the slot after
+    stage-same : {x : PathOperator} → x ≡ operatorOf (getD (next .stages) k noStage) (run .slot)
+        → stageKept (pathAdvanced x (arriving .0) (output .0) (kept .0) (beside .0)) ≡ stageNext run words call k
+    stage-same same = rw (same ∙ operator-same, deciding .arrives, sending .out, sending .keeps, sending .holds) kept-here
+      where
+        kept-here : stageKept (pathAdvanced (operatorIn run k) (inputInto run words call k) (inputInto run words call (suc k)) (runHoldsNext run words call k .b) (runHoldsNext run words call k .h)) ≡ stageNext run words call k
+        kept-here = stage-advanced run words call k
 
     stored-next : {fits-too : Bool} → fits-too ≡ both fits (storable (kept .0) (beside .0)) → fits-too ≡ every (λ j. not (leavesTooMuchAt run words call j)) (k + 1)
     stored-next e =
@@ -277,14 +261,24 @@ module _ {words choices : List ℕ} {stages : List Stage} {slot : Slots} {count 
     unfolding choiceCases
     passed-next = rw add-one (none-of-both (choiceCases run words call k) _ (deciding .passed) (sending .below, tt))
 
-    pub deciding-next : {fits-too : Bool} → fits-too ≡ both fits (storable (kept .0) (beside .0))
-        → Deciding run words call (k + 1) output fits-too (set moves k (record { input = arriving; output = output; kept = kept; beside = beside }))
-    deciding-next e =
+    stages-beside : (stage : Stage) (i : ℕ) → (i < k) ⊎ (k < i) → getD (set (next .stages) k stage) i noStage ≡ getD (next .stages) i noStage
+    stages-beside stage i (inl under) = getD-set-other (next .stages) k i stage noStage (omega arith)
+    stages-beside stage i (inr over) = getD-set-other (next .stages) k i stage noStage (omega arith)
+
+    pub deciding-next : {x : PathOperator} → x ≡ operatorOf (getD (next .stages) k noStage) (run .slot)
+        → {y : PathOperator} → y ≡ pathAdvanced x (arriving .0) (output .0) (kept .0) (beside .0)
+        → {stage : Stage} → stage ≡ stageKept y
+        → {fits-too : Bool} → fits-too ≡ both fits (storable (kept .0) (beside .0))
+        → Deciding run words call (k + 1) output fits-too (withStages next (set (next .stages) k stage))
+    deciding-next same advances {stage} keeps e =
         record {
           arrives = rw add-one output-same;
           small = omega (arith, output-same, into-le, deciding .arrives, deciding .small, path-b-le (operatorIn run k) (operatorWords words k) stored);
           passed = passed-next;
           stored = stored-next e;
-          long = length-set moves k _ ∙ deciding .long;
-          written = λ j less. move-next move-same j less (eqb j k) refl;
+          beside = ap (λ (there : Run). withStages there (set (next .stages) k stage)) (deciding .beside);
+          long = length-set (next .stages) k stage ∙ deciding .long;
+          advanced =
+              up-to-next mostOperators (stageNext run words call) (stageAt run) k (λ i. getD (next .stages) i noStage) (λ i. getD (set (next .stages) k stage) i noStage) (deciding .advanced)
+              (getD-set-same (next .stages) k stage noStage (rw (deciding .long) below) ∙ keeps ∙ ap stageKept advances ∙ stage-same same) (λ i inside. stages-beside stage i);
         }

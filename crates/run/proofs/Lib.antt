@@ -12,8 +12,10 @@ pub mod NeverLate
 pub mod ByAge
 pub mod Taking
 mod Writing
+mod UpTo
 mod DecideLaws
 mod TestLaws
+mod WatchLaws
 mod OpeningLaws
 mod WithPart
 mod WriteLaws

@@ -1,4 +1,4 @@
--- What the parts of an operator within a path answer where what is stored can be used: what it holds is within the limit, what is decided goes by the choice alone, and what is kept is written.
+-- What the parts of an operator within a path answer where what is stored can be used: what it holds is within the limit, and what is decided goes by the choice alone.
 use mathlib.Core.Path.{_≡_, refl, ap, sym, _∙_}
 use mathlib.Core.Bool.{Bool, true, false, not}
 use mathlib.Core.List.{List}
@@ -9,8 +9,6 @@ use lib.Dec.{ltb, eqb}
 use borrow.Author.Tests.{leb-true, ltb-false, le-ltb, eq-eqb}
 use Rattle.quantity.specs.Choice.{pick}
 use Rattle.quantity.specs.Limits.{largestAmount, lastSlot}
-use Rattle.quantity.specs.Sums.{listOf}
-use Rattle.quantity.specs.declared.Units.{Units}
 use Rattle.quantity.proofs.Laws.{pick-true, pick-false, either-none}
 use Rattle.words.proofs.StoredLaws.{stored-le}
 use Rattle.operator.specs.Held.{Held}
@@ -18,34 +16,13 @@ use Rattle.operator.specs.Operators.{leastOutput, greatestOutput, numberInRange
 use Rattle.operator.specs.Whole.{Whole}
 use Rattle.operator.specs.Single.{wordCount, wordsUsed, usesHeld}
 use Rattle.operator.specs.Parts.{mostOnTheWay}
-use Rattle.operator.specs.Ring.{ringHeld, ringRecent, pathHolds, pathLeast, pathGreatest, totalsFit, pathUnusable, pathStoredOf, pathUndecidable, pathSent, pathChoiceAbove, pathHoldsNext, pathDecidedOf, pathKeepUnfit, pathStateKept, ringWordNext, pathKeptOf, ringKept}
+use Rattle.operator.specs.Ring.{ringHeld, ringRecent, pathHolds, pathLeast, pathGreatest, totalsFit, pathUndecidable, pathSent, pathChoiceAbove, pathHoldsNext, pathDecidedOf}
 use Rattle.operator.specs.declared.Operator.{Operator}
 use Rattle.operator.specs.declared.Operator.the-variants.{Limiter, Compactor, Expander, Filter, Delayer}
-use Rattle.operator.specs.declared.parts.Stored.{Stored}
 use Rattle.operator.specs.declared.parts.Decided.{Decided}
 use Rattle.operator.specs.declared.ring.PathOperator.{PathOperator}
-use Rattle.operator.specs.declared.ring.PathKept.{PathKept}
 use Rattle.operator.proofs.Laws.{greatest-le-there, least-le-greatest}
 use Rattle.operator.proofs.RingLaws.{PathUsable}
-
--- What the test of what is stored answers.
-
-module _ (x : PathOperator) (words : List ℕ) where
-  holds-picked : (t : Bool) (b : ℕ) (held : Units) → Stored.Holds held ≡ pick t Stored.Unusable (Stored.Holds (record { 0 = b })) → (t ≡ false) × (held .0 ≡ b)
-  holds-picked true b held e = let z : _≡_ {A = Bool} true false = cc in (z, (cc))
-  holds-picked false b held e = let same : held ≡ record { 0 = b } = cc in (refl, ap (λ (u : Units). u .0) same)
-
-  pub path-stored-holds : {held : Units} → Stored.Holds held ≡ pathStoredOf x words → (pathUnusable x words ≡ false) × (held .0 ≡ pathHolds x words .b)
-  unfolding pathStoredOf
-  path-stored-holds {held} answered = holds-picked (pathUnusable x words) (pathHolds x words .b) held answered
-
-  unusable-picked : (t : Bool) (held : Units) → Stored.Unusable ≡ pick t Stored.Unusable (Stored.Holds held) → t ≡ true
-  unusable-picked true held e = refl
-  unusable-picked false held e = cc
-
-  pub path-stored-not : Stored.Unusable ≡ pathStoredOf x words → pathUnusable x words ≡ true
-  unfolding pathStoredOf
-  path-stored-not answered = unusable-picked (pathUnusable x words) _ answered
 
 -- An operator that uses its field is no delayer, so what it holds is whole.
 whole-apart : (op : Operator) → usesHeld op ≡ true → (y : Held) → Whole op y
@@ -131,20 +108,3 @@ module _ (x : PathOperator) (words : List ℕ) (stored : PathUsable x words) whe
         (either-none (ltb mostOnTheWay input) _ (le-ltb mostOnTheWay input within)
         (either-none (ltb largestAmount choice) _ (le-ltb largestAmount choice fits) refl))))))
         ∙ pick-false _ _ _ (ap not inside)
-
-    -- what is within the limit is kept
-    module _ (input output b h : ℕ) (b-fits : b ≤ largestAmount) (h-fits : h ≤ largestAmount) where
-      keep-fits : pathKeepUnfit x words b h ≡ false
-      unfolding pathKeepUnfit
-      keep-fits =
-          either-none (not (eqb (length words) wordCount)) _ (ap not (eq-eqb (length words) wordCount (stored .sized)))
-          (either-none (ltb lastSlot (x .slot .0)) _ (le-ltb lastSlot (x .slot .0) (stored .slot-left))
-          (either-none (ltb largestAmount b) _ (le-ltb largestAmount b b-fits)
-          (either-none (ltb largestAmount h) _ (le-ltb largestAmount h h-fits) refl)))
-
-      pub path-kept-next : (pathKeptOf x words input output b h ≡ PathKept.Next (pathStateKept x input output b h)) × (ringKept x words input b h ≡ listOf (ringWordNext x words input) wordCount)
-      unfolding pathKeptOf ringKept
-      path-kept-next = (
-        pick-false _ _ _ keep-fits ∙ pick-false _ _ _ (ap not inside),
-        pick-false _ _ _ keep-fits ∙ pick-false _ _ _ (ap not inside),
-      )

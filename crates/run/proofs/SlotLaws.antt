@@ -1,50 +1,38 @@
 -- What a slot answers at each of its ways out: the first refusal of its list, or the next run with its words.
 use mathlib.Core.Path.{_≡_, refl, ap, ap₂, sym, _∙_, fun-ext}
 use mathlib.Core.Bool.{Bool, true, false, not}
-use mathlib.Core.List.{List, [], _∷_, _++_}
-use mathlib.Core.Logic.{inl, inr, ⊎-elim}
-use Prim.Native.Nat.{ℕ, _+_, _≤_, _<_}
+use mathlib.Core.List.{List}
+use mathlib.Core.Logic.{inl, inr}
+use Prim.Native.Nat.{ℕ, _≤_, _<_}
 use native.Mathlib.Omega.{arith}
 use lib.Dec.{leb, ltb}
-use lib.ListN.{length, getD}
+use lib.ListN.{length}
 use borrow.Author.Tests.{lt-ltb, le-ltb, eq-eqb, ne-eqb}
 use Rattle.quantity.specs.Choice.{pick, both}
-use Rattle.quantity.specs.Limits.{largestAmount, mostOperators}
+use Rattle.quantity.specs.Limits.{largestAmount}
 use Rattle.quantity.specs.Sums.{every, listOf}
-use Rattle.quantity.specs.Refusals.{Case, _⇒_, firstOf}
+use Rattle.quantity.specs.Refusals.{Case}
 use Rattle.quantity.specs.declared.Units.{Units}
 use Rattle.quantity.specs.declared.refusal.Refusal.{Refusal}
 use Rattle.quantity.specs.declared.refusal.Refusal.the-variants.{Unusable, InputBreaksDeclaration}
-use Rattle.quantity.proofs.Sums.{every-next}
-use Rattle.quantity.proofs.Refusals.{NoneStands, none-where-result, firstOf-none, FirstIs, none-or-first, first-answered}
+use Rattle.quantity.proofs.Refusals.{NoneStands, firstOf-none, FirstIs, first-answered}
 use Rattle.meter.proofs.PartsLaws.{within-breaks}
 use Rattle.run.proofs.UsableRun.{usable-run}
 use Rattle.run.specs.declared.Run.{Run}
-use Rattle.run.specs.declared.decide.Move.{Move}
 use Rattle.run.specs.declared.slot.Outcome.{Outcome}
 use Rattle.run.specs.declared.slot.Slotted.{Slotted}
 use Rattle.run.specs.declared.test.Tested.{Tested}
 use Rattle.run.specs.Calls.{Call, choiceFor, choicesMiscounted, amountTooLarge}
 use Rattle.run.specs.Runs.{runWordCount, meterWords, meterIn, runUnusable}
-use Rattle.run.specs.Slots.{slotBreaks, choiceCases, slotLeavesTooMuch, slotCases, slotOutput, refusedSlot, takenSlot, slottedOf, wordsSlotted}
-use Rattle.run.specs.Steps.{notTested, belowIn, testedOf, noMove, moveOf, planOf, runWritten, wordWritten}
-use Rattle.run.specs.Taking.{Took}
-use Rattle.run.specs.Watching.{unitsHeld}
-use Rattle.run.proofs.SlotAnswers.{slot-taken, words-taken, slot-refused, words-refused}
+use Rattle.run.specs.Slots.{slotBreaks, slotCases, slotOutput, wordNext, refusedSlot, takenSlot, slottedOf, wordsSlotted}
+use Rattle.run.specs.Steps.{notTested, belowIn, testedOf, runAdvanced, runWritten, wordWritten, decisionCases, tookOf, wordsTook}
+use Rattle.run.proofs.SlotAnswers.{slot-refused, words-refused}
 use Rattle.run.proofs.Writing.{run-written, word-written}
 
 never : _≡_ {A = Bool} true false → ⊥
 never e = let z : _≡_ {A = ℕ} 0 1 = cc in omega arith
 
 -- The arguments.
-
--- one more amount is tested, unless one did not fit
-module _ (test : ℕ → Bool) (k : ℕ) {fit next : Bool} (passed : fit ≡ every test k) where
-  pub test-more : fit ≡ true → next ≡ test k → next ≡ every test (k + 1)
-  test-more fits here = here ∙ sym (every-next test k ∙ ap (λ (t : Bool). both t (test k)) (sym passed ∙ fits))
-
-  pub test-none : fit ≡ false → next ≡ fit → next ≡ every test (k + 1)
-  test-none fails same = same ∙ fails ∙ sym (every-next test k ∙ ap (λ (t : Bool). both t (test k)) (sym passed ∙ fails))
 
 module _ (operators : ℕ) (call : Call) where
   abbrev pub Fit : Bool → Type 0
@@ -83,12 +71,12 @@ module _ (operators : ℕ) (call : Call) where
 
 module _ (run : Run) (words : List ℕ) where
   abbrev passing : Tested
-  passing = record { usable = true; below = record { 0 = belowIn run words }; held = listOf (unitsHeld run words) mostOperators }
+  passing = record { usable = true; below = record { 0 = belowIn run words } }
 
   module _ {tested : Tested} (found : tested ≡ testedOf run words) where
-    unusable-then : tested .usable ≡ false → runUnusable run words ≡ true
+    pub stored-fails : tested .usable ≡ false → runUnusable run words ≡ true
     unfolding testedOf
-    unusable-then unfit = by-test (runUnusable run words) found
+    stored-fails unfit = by-test (runUnusable run words) found
       where
         by-test : (t : Bool) → tested ≡ pick t notTested passing → t ≡ true
         by-test true same = refl
@@ -123,7 +111,7 @@ module _ (run : Run) (words : List ℕ) (call : Call) where
 
   module _ (counted : choicesMiscounted (run .count) call ≡ false) (small : amountTooLarge call ≡ false) where
     pub refused-stored : {tested : Tested} → tested ≡ testedOf run words → tested .usable ≡ false → {answer : Slotted} → answer ≡ refusedSlot run Unusable → Answer answer words
-    refused-stored found unfit = refused-first (inr (counted, inr (small, inl (unusable-then run words found unfit, refl))))
+    refused-stored found unfit = refused-first (inr (counted, inr (small, inl (stored-fails run words found unfit, refl))))
 
     module _ (usable : runUnusable run words ≡ false) {below : ℕ} (same-below : below ≡ belowIn run words) where
       breaks-tested : not (ltb (call .input) below) ≡ slotBreaks run words call
@@ -133,52 +121,41 @@ module _ (run : Run) (words : List ℕ) (call : Call) where
       pub refused-input : below ≤ call .input → {answer : Slotted} → answer ≡ refusedSlot run InputBreaksDeclaration → Answer answer words
       refused-input above = refused-first (inr (counted, inr (small, inr (usable, inl (sym breaks-tested ∙ ap not (le-ltb (call .input) below above), refl)))))
 
-      module _ (keeps : call .input < below) {planned : Outcome} (plan : planned ≡ planOf run words call) where
-        abbrev decisions : List Case
-        decisions = choiceCases run words call (run .count) ++ ((slotLeavesTooMuch run words call ⇒ Unusable) ∷ [])
+      pub input-keeps : call .input < below → slotBreaks run words call ≡ false
+      input-keeps keeps = sym breaks-tested ∙ ap not (lt-ltb (call .input) below keeps)
 
-        abbrev sends : Outcome
-        sends = Outcome.Sent (record { 0 = slotOutput run words call })
+    -- what is left to decide
+    module _ (usable : runUnusable run words ≡ false) (keeps : slotBreaks run words call ≡ false) where
+      abbrev decisions : List Case
+      decisions = decisionCases run words call
 
-        decided : planned ≡ firstOf decisions Outcome.Refused sends
-        unfolding planOf
-        decided = plan
+      pub took : {answer : Slotted} → answer ≡ tookOf run words call → {after : List ℕ} → after ≡ wordsTook run words call → Answer answer after
+      unfolding tookOf wordsTook slottedOf wordsSlotted refusedSlot takenSlot
+      took same left = (same ∙ rw (counted, small, usable, keeps), left ∙ rw (counted, small, usable, keeps))
 
-        kept-declared : slotBreaks run words call ≡ false
-        kept-declared = sym breaks-tested ∙ ap not (lt-ltb (call .input) below keeps)
+      -- one stands
+      pub took-refused : (why : Refusal) → FirstIs decisions why → {answer : Slotted} → answer ≡ refusedSlot run why → (answer ≡ tookOf run words call) × (words ≡ wordsTook run words call)
+      unfolding tookOf wordsTook
+      took-refused why first same = (
+        same ∙ sym (first-answered (refusedSlot run) (takenSlot run words call) why decisions first),
+        sym (first-answered (λ why. words) (listOf (wordNext run words call) runWordCount) why decisions first),
+      )
 
-        pub refused-planned : {why : Refusal} → Outcome.Refused why ≡ planned → {answer : Slotted} → answer ≡ refusedSlot run why → Answer answer words
-        refused-planned {why} refused = refused-first (inr (counted, inr (small, inr (usable, inr (kept-declared, ⊎-elim sent first (none-or-first decisions))))))
-          where
-            sent : NoneStands decisions → FirstIs decisions why
-            sent none = let same : Outcome.Refused why ≡ sends = refused ∙ decided ∙ firstOf-none Outcome.Refused sends decisions none in
-                absurd (let z : _≡_ {A = ℕ} 0 1 = cc in omega arith)
+      -- none stands
+      module _ (none : NoneStands decisions) where
+        none-stands : NoneStands (slotCases run words call)
+        none-stands = (counted, (small, (usable, (keeps, none))))
 
-            first : ((other : Refusal) × FirstIs decisions other) → FirstIs decisions why
-            first (other, stands) =
-                let same : Outcome.Refused why ≡ Outcome.Refused other = refused ∙ decided ∙ first-answered Outcome.Refused sends other decisions stands in
-                let why-same : why ≡ other = cc in
-                rw why-same stands
-
-        module _ {output : Units} (sent : Outcome.Sent output ≡ planned) where
-          took : Took planned
-          took = rw (← sent) tt
-
-          none-decided : NoneStands decisions
-          none-decided = none-where-result Outcome.Refused sends Took (λ why refused. refused) decisions (rw decided at took)
-
-          none-stands : NoneStands (slotCases run words call)
-          none-stands = (counted, (small, (usable, (kept-declared, none-decided))))
-
-          module _ (moves : List Move) (moved : Took planned → (k : ℕ) → k < run .count → getD moves k noMove ≡ moveOf run words call k) where
-            pub taken : {next : Run} → next ≡ runWritten run words (call .input) moves → {after : List ℕ} → after ≡ listOf (wordWritten run words (call .input) moves) runWordCount
-                → Answer (record { outcome = Outcome.Sent output; run = next }) after
-            unfolding takenSlot
-            taken made left = (
-              ap₂ (λ (outcome : Outcome) (run : Run). record { outcome = outcome; run = run }) (sent ∙ decided ∙ firstOf-none Outcome.Refused sends decisions none-decided)
-                  (made ∙ run-written run words call none-stands moves (moved took))
-                  ∙ sym (slot-taken run words call none-stands),
-              left
-                  ∙ ap (λ (word : ℕ → ℕ). listOf word runWordCount) (fun-ext (word-written run words call none-stands moves (moved took)))
-                  ∙ sym (words-taken run words call none-stands),
-            )
+        pub took-taken : {output : Units} → output .0 ≡ slotOutput run words call → {advanced : Run} → advanced ≡ runAdvanced run words call
+            → {next : Run} → next ≡ runWritten advanced words (call .input) → {after : List ℕ} → after ≡ listOf (wordWritten advanced words (call .input)) runWordCount
+            → (record { outcome = Outcome.Sent output; run = next } ≡ tookOf run words call) × (after ≡ wordsTook run words call)
+        unfolding tookOf wordsTook takenSlot
+        took-taken sent same made left = (
+          ap₂ (λ (n : ℕ) (run : Run). record { outcome = Outcome.Sent (record { 0 = n }); run = run }) sent
+              (made ∙ ap (λ (run : Run). runWritten run words (call .input)) same ∙ run-written run words call none-stands)
+              ∙ sym (firstOf-none (refusedSlot run) (takenSlot run words call) decisions none),
+          left
+              ∙ ap (λ (run : Run). listOf (wordWritten run words (call .input)) runWordCount) same
+              ∙ ap (λ (word : ℕ → ℕ). listOf word runWordCount) (fun-ext (word-written run words call none-stands))
+              ∙ sym (firstOf-none (λ why. words) (listOf (wordNext run words call) runWordCount) decisions none),
+        )

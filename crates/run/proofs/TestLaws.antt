@@ -1,176 +1,240 @@
--- What the test of a run's stages finds: each fits or not, what those that fit hold, and what is answered of the run then.
-use mathlib.Core.Path.{_≡_, refl, ap, sym, _∙_}
+-- What the test of a run's stages finds: those of the path's operators one by one, and those behind them empty with their words 0; and what is answered of the run then.
+use mathlib.Core.Path.{_≡_, refl, ap, ap₂, sym, _∙_}
 use mathlib.Core.Bool.{Bool, true, false, not}
 use mathlib.Core.List.{List}
-use Prim.Native.Nat.{ℕ, _+_, _≤_, _<_}
+use Prim.Native.Nat.{ℕ, _+_, _-_, _*_, _/_, _%_, _≤_, _<_}
+use native.Mathlib.Nat.{div-add-mod', mod-lt}
+use native.Mathlib.Decide.{decLt}
 use native.Mathlib.Omega.{arith}
-use lib.ListN.{length, getD, set, replicate, length-set, length-replicate}
-use lib.Seq.{getD-set-same, getD-set-other}
+use lib.ListN.{length, getD, take, drop, length-drop}
+use lib.Seq.{length-take-le, getD-take, getD-drop}
+use lib.Bits.{bitOr}
 use lib.Dec.{ltb, eqb}
-use borrow.Author.Count.{below-none, below-more}
-use borrow.Author.Tests.{eqb-true, not-false}
-use Rattle.quantity.specs.Limits.{mostOperators}
-use Rattle.quantity.specs.Choice.{pick, both}
-use Rattle.quantity.specs.Sums.{every, listOf}
-use Rattle.quantity.specs.declared.Slots.{Slots}
+use borrow.Author.Tests.{eq-eqb, eqb-true, lt-ltb, le-ltb, le-leb}
+use Rattle.quantity.specs.Limits.{mostOperators, lastSlot}
+use Rattle.quantity.specs.Choice.{pick, both, either}
+use Rattle.quantity.specs.Sums.{every}
 use Rattle.quantity.specs.declared.Units.{Units}
-use Rattle.quantity.specs.declared.refusal.Refusal.the-variants.{Unusable}
-use Rattle.quantity.proofs.Laws.{pick-true, pick-false}
-use Rattle.quantity.proofs.Sums.{both-true, every-next, length-listOf, getD-listOf, listOf-ext, every-fails, every-same}
-use Rattle.operator.specs.Single.{usesHeld}
-use Rattle.operator.specs.Ring.{pathHolds, pathUnusable, pathStoredOf}
+use Rattle.quantity.proofs.Laws.{pick-true, pick-false, either-first, either-second}
+use Rattle.quantity.proofs.Sums.{both-true, every-at, every-holds}
+use Rattle.words.specs.Stored.{wordAt, clearAt, storedFits}
+use Rattle.words.proofs.JoinLaws.{or-clear}
+use Rattle.operator.specs.Single.{wordCount, wordsUsed, usesHeld, usesBeside}
+use Rattle.operator.specs.Ring.{totalsFit, wordUnused, pathUnusable}
 use Rattle.operator.specs.Operators.{numberInRange}
 use Rattle.flow.specs.Declarations.{declarationInRange, rowsInOrder}
 use Rattle.meter.specs.Meter.{meterUnusable}
 use Rattle.meter.specs.Parts.{countedOf}
 use Rattle.operator.specs.declared.Operator.{Operator}
 use Rattle.operator.specs.declared.Operator.the-variants.{Limiter, Compactor, Expander, Filter, Delayer}
-use Rattle.operator.specs.declared.ring.PathOperator.{PathOperator}
-use Rattle.operator.specs.declared.parts.Stored.{Stored}
 use Rattle.meter.specs.declared.SourceMeter.{SourceMeter}
 use Rattle.meter.specs.declared.parts.Counted.{Counted}
 use Rattle.meter.specs.declared.parts.Counted.the-variants.{Below}
+use Rattle.operator.proofs.RingLaws.{PathUsable, path-stored-usable}
 use Rattle.meter.proofs.PartsLaws.{counted-unusable, counted-outside, counted-unordered, counted-next}
-use Rattle.sheet.specs.declared.read.Verdict.{Verdict}
 use Rattle.run.specs.declared.Stage.{Stage}
 use Rattle.run.specs.declared.Run.{Run}
-use Rattle.run.specs.declared.test.Tested.{Tested}
-use Rattle.run.specs.declared.watch.Watched.{Watched}
-use Rattle.run.specs.Runs.{meterIn, meterWords, operatorWords, noStage, noOperator, stageAt, operatorOf, operatorIn, stageMisplaced, stageUnusable, stageFits, runUnusable}
-use Rattle.run.specs.Watching.{runHolds, unitsHeld, watchedOf}
-use Rattle.run.specs.Steps.{notTested, belowIn, testedOf}
-use Rattle.run.proofs.PathAnswers.{path-stored-holds, path-stored-not}
-use Rattle.run.proofs.UsableRun.{UsableRun, run-usable, run-unusable}
+use Rattle.run.specs.Runs.{runWordCount, meterIn, meterWords, operatorAtWord, operatorWords, noStage, noOperator, stageAt, operatorOf, operatorIn, stageMisplaced, stageUnusable, stageFits}
+use Rattle.run.specs.Steps.{stageEmpty, emptyBehind, notTested, belowIn, testedOf}
+use Rattle.run.proofs.Parts.{length-operatorWords, operator-word}
+use Rattle.run.proofs.UsableRun.{UsableRun, run-usable, run-unusable, stage-usable, stage-none}
 
-abbrev none : Units
-none = record { 0 = 0 }
+-- An operator that is none is a limiter: it keeps its b in its field, has no h and uses no word.
 
--- the empty operator's b is in its field
-none-uses : (op : Operator) → noOperator op ≡ true → usesHeld op ≡ true
-unfolding noOperator usesHeld
-none-uses (Limiter R) e = refl
-none-uses (Compactor m) e = refl
-none-uses (Expander m) e = refl
-none-uses (Filter R) e = refl
-none-uses (Delayer d) e = e
+none-uses : (op : Operator) → noOperator op ≡ true → (usesHeld op ≡ true) × ((usesBeside op ≡ false) × (wordsUsed op ≡ 0))
+unfolding noOperator usesHeld usesBeside wordsUsed
+none-uses (Limiter R) e = (refl, (refl, refl))
+none-uses (Compactor m) e = let never : _≡_ {A = ℕ} 0 1 = cc in absurd (omega arith)
+none-uses (Expander m) e = let never : _≡_ {A = ℕ} 0 1 = cc in absurd (omega arith)
+none-uses (Filter R) e = let never : _≡_ {A = ℕ} 0 1 = cc in absurd (omega arith)
+none-uses (Delayer d) e = let never : _≡_ {A = ℕ} 0 1 = cc in absurd (omega arith)
 
--- what the test of a stage's place answers
-module _ (stage : Stage) {named : Bool} where
-  pub misplaced-named : named ≡ true → not (numberInRange (stage .operator)) ≡ stageMisplaced stage named
-  unfolding stageMisplaced
-  misplaced-named e = rw e
+-- The tests of the code.
 
-  pub misplaced-other : named ≡ false → noOperator (stage .operator) ≡ false → true ≡ stageMisplaced stage named
-  unfolding stageMisplaced
-  misplaced-other e other = rw (e, other)
+-- a stage is empty by its operator and its fields joined
+module _ (stage : Stage) where
+  pub empty-operator : noOperator (stage .operator) ≡ false → false ≡ stageEmpty stage
+  unfolding stageEmpty
+  empty-operator e = rw e
 
-  pub misplaced-holds : named ≡ false → noOperator (stage .operator) ≡ true → not (eqb (stage .held .0) 0) ≡ stageMisplaced stage named
-  unfolding stageMisplaced
-  misplaced-holds e empty = rw (e, empty)
+  pub empty-fields : noOperator (stage .operator) ≡ true → eqb (bitOr (bitOr (stage .held .0) (stage .beside .0)) (bitOr (stage .entered) (stage .left))) 0 ≡ stageEmpty stage
+  unfolding stageEmpty
+  empty-fields none =
+      or-clear (bitOr (stage .held .0) (stage .beside .0)) (bitOr (stage .entered) (stage .left))
+      ∙ ap₂ both (or-clear (stage .held .0) (stage .beside .0)) (or-clear (stage .entered) (stage .left))
+      ∙ sym (ap (λ (t : Bool). both t (both (both (eqb (stage .held .0) 0) (eqb (stage .beside .0) 0)) (both (eqb (stage .entered) 0) (eqb (stage .left) 0)))) none)
 
-module _ (stage : Stage) (slot : Slots) (words : List ℕ) where
-  -- a stage in its place behind the path's operators holds nothing
-  behind-nothing : stageMisplaced stage false ≡ false → pathHolds (operatorOf stage slot) words .b ≡ 0
-  unfolding stageMisplaced pathHolds
-  behind-nothing e =
-      let (empty, nothing) = both-true (noOperator (stage .operator)) (eqb (stage .held .0) 0) (not-false _ e) in
-      pick-true (usesHeld (stage .operator)) _ _ (none-uses (stage .operator) empty) ∙ eqb-true (stage .held .0) 0 nothing
+not-not : (t : Bool) → not (not t) ≡ t
+not-not true = refl
+not-not false = refl
 
-  -- so what a stage in its place holds is the answer of all sixteen
-  placed-units : (named : Bool) → stageMisplaced stage named ≡ false → pathHolds (operatorOf stage slot) words .b ≡ pick named (pathHolds (operatorOf stage slot) words .b) 0
-  placed-units true e = refl
-  placed-units false e = behind-nothing e
-
-module _ (stages : List Stage) (slot : Slots) (count : ℕ) (words : List ℕ) where
-  abbrev at : ℕ → Stage
-  at k = getD stages k noStage
-
-  abbrev operator : ℕ → PathOperator
-  operator k = operatorOf (at k) slot
-
-  -- stage k fits
-  unfoldable pub fitsIn : ℕ → Bool
-  fitsIn k = both (not (stageMisplaced (at k) (ltb k count))) (not (pathUnusable (operator k) (operatorWords words k)))
-
-  -- and what it holds
-  unfoldable pub unitsIn : ℕ → Units
-  unitsIn k = record { 0 = pick (ltb k count) (pathHolds (operator k) (operatorWords words k) .b) 0 }
-
-  -- the first k stages fit, and what each holds is found
-  pub record Found (held : List Units) (k : ℕ) : Type 0 where
-    pub few : k ≤ mostOperators
-    pub sized : length held ≡ mostOperators
-    pub fit : every fitsIn k ≡ true
-    pub each : (j : ℕ) → j < k → getD held j none ≡ unitsIn j
-
-  pub found-first : Found (replicate mostOperators none) 0
-  unfolding every
-  found-first = record { few = omega arith; sized = length-replicate mostOperators none; fit = refl; each = below-none _ }
-
-  pub found-all : {held : List Units} → Found held mostOperators → held ≡ listOf unitsIn mostOperators
-  found-all {held} found = listOf-ext none unitsIn mostOperators held (found .sized) (found .each)
-
-  -- one that does not fit is told of all
-  module _ {k : ℕ} (less : k < mostOperators) where
-    fails : fitsIn k ≡ false → false ≡ every fitsIn mostOperators
-    fails e = sym (every-fails fitsIn mostOperators k less e)
-
-    pub misplaced-fails : stageMisplaced (at k) (ltb k count) ≡ true → false ≡ every fitsIn mostOperators
-    unfolding fitsIn
-    misplaced-fails e = fails (rw e)
-
-    module _ (placed : stageMisplaced (at k) (ltb k count) ≡ false) where
-      pub unusable-fails : Stored.Unusable ≡ pathStoredOf (operator k) (operatorWords words k) → false ≡ every fitsIn mostOperators
-      unfolding fitsIn
-      unusable-fails e = fails (rw (placed, path-stored-not (operator k) (operatorWords words k) e))
-
-      -- and one that fits goes to those found
-      module _ {b : Units} (holds : Stored.Holds b ≡ pathStoredOf (operator k) (operatorWords words k)) where
-        fit-here : fitsIn k ≡ true
-        unfolding fitsIn
-        fit-here = rw (placed, path-stored-holds (operator k) (operatorWords words k) holds .0)
-
-        units-here : b ≡ unitsIn k
-        unfolding unitsIn
-        units-here =
-            ap (λ (n : ℕ). record { 0 = n })
-            (path-stored-holds (operator k) (operatorWords words k) holds .1 ∙ placed-units (at k) slot (operatorWords words k) (ltb k count) placed)
-
-        pub found-next : {held : List Units} → Found held k → Found (set held k b) (k + 1)
-        found-next {held} found =
-            record {
-              few = omega arith;
-              sized = length-set held k b ∙ found .sized;
-              fit = every-next fitsIn k ∙ rw (found .fit) fit-here;
-              each =
-                  below-more (λ (j : ℕ). getD (set held k b) j none ≡ unitsIn j) k
-                  (λ j before. getD-set-other held k j b none (λ same. omega arith) ∙ found .each j before)
-                  (getD-set-same held k b none (rw (found .sized) less) ∙ units-here);
-            }
-
--- the same of a run's stages
 module _ (run : Run) (words : List ℕ) where
-  abbrev fitsOf : ℕ → Bool
-  fitsOf = fitsIn (run .stages) (run .slot) (run .count) words
+  -- a stage of the path fits by its number and what it stores
+  pub named-fits : (k : ℕ) → k < run .count
+      → both (numberInRange (getD (run .stages) k noStage .operator)) (not (pathUnusable (operatorOf (getD (run .stages) k noStage) (run .slot)) (operatorWords words k))) ≡ stageFits run words k
+  unfolding stageFits stageMisplaced stageUnusable operatorIn stageAt
+  named-fits k less =
+      let stage = getD (run .stages) k noStage in
+      sym
+      (ap (λ (t : Bool). both (not (not (pick t (numberInRange (stage .operator)) (both (noOperator (stage .operator)) (eqb (stage .held .0) 0))))) (not (pathUnusable (operatorOf stage (run .slot)) (operatorWords words k)))) (lt-ltb k (run .count) less)
+      ∙ ap (λ (t : Bool). both t (not (pathUnusable (operatorOf stage (run .slot)) (operatorWords words k)))) (not-not (numberInRange (stage .operator))))
 
-  abbrev unitsOf : ℕ → Units
-  unitsOf = unitsIn (run .stages) (run .slot) (run .count) words
+module _ (run : Run) where
+  -- a stage of the path is no stage behind it
+  pub empty-named : (k : ℕ) → k < run .count → emptyBehind run k ≡ true
+  unfolding emptyBehind
+  empty-named k less = either-first _ _ (lt-ltb k (run .count) less)
 
-  fits-at : (k : ℕ) → fitsOf k ≡ stageFits run words k
-  unfolding fitsIn stageFits stageUnusable operatorIn stageAt
-  fits-at k = refl
+  pub empty-told : (k : ℕ) → run .count ≤ k → {empty : Bool} → empty ≡ stageEmpty (getD (run .stages) k noStage) → emptyBehind run k ≡ empty
+  unfolding emptyBehind stageAt
+  empty-told k behind told = ap (λ (t : Bool). either t (stageEmpty (getD (run .stages) k noStage))) (le-ltb k (run .count) behind) ∙ sym told
 
-  units-at : (k : ℕ) → unitsOf k ≡ unitsHeld run words k
-  unfolding unitsIn unitsHeld runHolds operatorIn stageAt
-  units-at k = refl
+-- an empty stage whose words are 0 fits behind the path's operators
+module _ (run : Run) (words : List ℕ) (k : ℕ) (past : run .count ≤ k) (left : run .slot .0 ≤ lastSlot) (size : length (operatorWords words k) ≡ wordCount)
+    (empty : stageEmpty (stageAt run k) ≡ true) (clear : (a : ℕ) → a < wordCount → wordAt (operatorWords words k) a ≡ 0) where
+  abbrev stage : Stage
+  stage = stageAt run k
 
-  pub fits-run : every fitsOf mostOperators ≡ every (stageFits run words) mostOperators
-  fits-run = every-same fitsOf (stageFits run words) mostOperators (λ k less. fits-at k)
+  fields : (noOperator (stage .operator) ≡ true) × ((eqb (stage .held .0) 0 ≡ true) × ((eqb (stage .beside .0) 0 ≡ true) × (both (eqb (stage .entered) 0) (eqb (stage .left) 0) ≡ true)))
+  unfolding stageEmpty
+  fields =
+      let (none, rest) = both-true (noOperator (stage .operator)) _ empty in
+      let (units, totals) = both-true (both (eqb (stage .held .0) 0) (eqb (stage .beside .0) 0)) _ rest in
+      let (held, beside) = both-true (eqb (stage .held .0) 0) _ units in
+      (none, (held, (beside, totals)))
 
-  pub units-run : listOf unitsOf mostOperators ≡ listOf (unitsHeld run words) mostOperators
-  units-run =
-      listOf-ext none (unitsHeld run words) mostOperators (listOf unitsOf mostOperators) (length-listOf unitsOf mostOperators)
-      (λ k less. getD-listOf none unitsOf mostOperators k less ∙ units-at k)
+  uses-none : (usesHeld (stage .operator) ≡ true) × ((usesBeside (stage .operator) ≡ false) × (wordsUsed (stage .operator) ≡ 0))
+  uses-none = none-uses (stage .operator) (fields .0)
+
+  usable-here : PathUsable (operatorIn run k) (operatorWords words k)
+  unfolding operatorIn storedFits totalsFit wordUnused
+  usable-here =
+      record {
+        sized = size;
+        slot-left = left;
+        held-fits = pick-true _ _ _ (uses-none .0) ∙ le-leb (stage .held .0) _ (omega (arith, eqb-true (stage .held .0) 0 (fields .1 .0)));
+        beside-fits = pick-false _ _ _ (uses-none .1 .0) ∙ fields .1 .1 .0;
+        totals-fit = pick-true _ _ _ (uses-none .0) ∙ fields .1 .1 .1;
+        words-fit = every-holds (wordUnused (stage .operator) (operatorWords words k)) wordCount (λ a within. either-second (ltb a (wordsUsed (stage .operator))) _ (eq-eqb (wordAt (operatorWords words k) a) 0 (clear a within)));
+      }
+
+  empty-fits : stageFits run words k ≡ true
+  unfolding stageFits stageMisplaced stageUnusable
+  empty-fits =
+      ap₂ (λ (t u : Bool). both (not (not (pick t (numberInRange (stage .operator)) (both (noOperator (stage .operator)) (eqb (stage .held .0) 0))))) (not u)) (le-ltb k (run .count) past)
+      (path-stored-usable (operatorIn run k) (operatorWords words k) usable-here)
+      ∙ ap₂ (λ (t u : Bool). both (not (not (both t u))) true) (fields .0) (fields .1 .0)
+
+-- All sixteen.
+
+module _ (run : Run) (words : List ℕ) (sized : length words ≡ runWordCount) (some : 1 ≤ run .count) (few : run .count ≤ mostOperators) where
+  abbrev tail : List ℕ
+  tail = take (length words - operatorAtWord (run .count)) (drop (operatorAtWord (run .count)) words)
+
+  tail-length : length tail ≡ wordCount * (mostOperators - run .count)
+  tail-length = omega (arith, length-take-le (length words - operatorAtWord (run .count)) (drop (operatorAtWord (run .count)) words) (omega (arith, length-drop (operatorAtWord (run .count)) words)))
+
+  tail-word : (j : ℕ) → j < length tail → wordAt tail j ≡ wordAt words (operatorAtWord (run .count) + j)
+  tail-word j less =
+      getD-take (length words - operatorAtWord (run .count)) (drop (operatorAtWord (run .count)) words) j 0 (omega (arith, tail-length))
+      ∙ getD-drop (operatorAtWord (run .count)) words j 0
+
+  abbrev AllFit : Bool
+  AllFit = every (stageFits run words) mostOperators
+
+  abbrev NamedFit : Bool
+  NamedFit = every (stageFits run words) (run .count)
+
+  abbrev BehindEmpty : Bool
+  BehindEmpty = every (emptyBehind run) mostOperators
+
+  abbrev TailClear : Bool
+  TailClear = every (clearAt tail) (length tail)
+
+  -- what fits behind the path's operators is empty, and its words are 0
+  module _ (all : AllFit ≡ true) (k : ℕ) (behind : run .count ≤ k) (less : k < mostOperators) where
+    fits : stageFits run words k ≡ true
+    fits = every-at (stageFits run words) mostOperators all k less
+
+    stored : PathUsable (operatorIn run k) (operatorWords words k)
+    stored = stage-usable run words k fits
+
+    none : noOperator (stageAt run k .operator) ≡ true
+    none = stage-none run words k fits behind .0
+
+    uses : (usesHeld (stageAt run k .operator) ≡ true) × ((usesBeside (stageAt run k .operator) ≡ false) × (wordsUsed (stageAt run k .operator) ≡ 0))
+    uses = none-uses (stageAt run k .operator) none
+
+    totals : both (eqb (stageAt run k .entered) 0) (eqb (stageAt run k .left) 0) ≡ true
+    unfolding operatorIn totalsFit
+    totals = sym (pick-true _ _ _ (uses .0)) ∙ stored .totals-fit
+
+    beside : eqb (stageAt run k .beside .0) 0 ≡ true
+    unfolding operatorIn storedFits
+    beside = sym (pick-false _ _ _ (uses .1 .0)) ∙ stored .beside-fits
+
+    empty : stageEmpty (stageAt run k) ≡ true
+    unfolding stageEmpty
+    empty =
+        let (entered, left) = both-true (eqb (stageAt run k .entered) 0) (eqb (stageAt run k .left) 0) totals in
+        rw (none, eq-eqb (stageAt run k .held .0) 0 (stage-none run words k fits behind .1), beside, entered) left
+
+    clear : (a : ℕ) → a < wordCount → clearAt (operatorWords words k) a ≡ true
+    unfolding operatorIn wordUnused
+    clear a within =
+        sym (ap (λ (t : Bool). either t (clearAt (operatorWords words k) a)) (le-ltb a (wordsUsed (stageAt run k .operator)) (omega (arith, uses .1 .1))))
+        ∙ every-at (wordUnused (stageAt run k .operator) (operatorWords words k)) wordCount (stored .words-fit) a within
+
+  pub all-behind : AllFit ≡ true → BehindEmpty ≡ true
+  unfolding emptyBehind
+  all-behind all =
+      every-holds (emptyBehind run) mostOperators
+      (λ k less. elim (decLt k (run .count)) [
+        | yes named ↦ either-first _ _ (lt-ltb k (run .count) named)
+        | no behind ↦ either-second (ltb k (run .count)) _ (empty all k (omega arith) less)
+      ])
+
+  pub all-clear : AllFit ≡ true → TailClear ≡ true
+  all-clear all =
+      every-holds (clearAt tail) (length tail)
+      (λ j less.
+      let k = run .count + j / wordCount in
+      let a = j % wordCount in
+      let whole = div-add-mod' j wordCount in
+      let inside : a < wordCount = mod-lt j {m = wordCount} (omega arith) in
+      let under : k < mostOperators = omega (arith, tail-length) in
+      let place : operatorAtWord (run .count) + j ≡ operatorAtWord k + a = omega arith in
+      ap (λ (w : ℕ). eqb w 0) (tail-word j less ∙ ap (wordAt words) place ∙ sym (operator-word words sized k under a inside))
+      ∙ clear all k (omega arith) under a inside)
+
+  -- and where all three tests pass, each fits
+  module _ (named : NamedFit ≡ true) (behind : BehindEmpty ≡ true) (clear : TailClear ≡ true) where
+    slot-left : run .slot .0 ≤ lastSlot
+    unfolding operatorIn
+    slot-left = stage-usable run words 0 (every-at (stageFits run words) (run .count) named 0 (omega arith)) .slot-left
+
+    module _ (k : ℕ) (past : run .count ≤ k) (less : k < mostOperators) where
+      empty-here : stageEmpty (stageAt run k) ≡ true
+      unfolding emptyBehind
+      empty-here = sym (ap (λ (t : Bool). either t (stageEmpty (stageAt run k))) (le-ltb k (run .count) past)) ∙ every-at (emptyBehind run) mostOperators behind k less
+
+      word-clear : (a : ℕ) → a < wordCount → wordAt (operatorWords words k) a ≡ 0
+      word-clear a within =
+          let j = wordCount * (k - run .count) + a in
+          let inside : j < length tail = omega (arith, tail-length) in
+          let place : operatorAtWord k + a ≡ operatorAtWord (run .count) + j = omega arith in
+          operator-word words sized k less a within ∙ ap (wordAt words) place ∙ sym (tail-word j inside) ∙ eqb-true (wordAt tail j) 0 (every-at (clearAt tail) (length tail) clear j inside)
+
+      fits-behind : stageFits run words k ≡ true
+      fits-behind = empty-fits run words k past slot-left (length-operatorWords words sized k less) empty-here word-clear
+
+    pub all-fit : AllFit ≡ true
+    all-fit =
+        every-holds (stageFits run words) mostOperators
+        (λ k less. elim (decLt k (run .count)) [
+          | yes inside ↦ every-at (stageFits run words) (run .count) named k inside
+          | no outside ↦ fits-behind k (omega arith) less
+        ])
 
 -- What the count before the next input tells of the run's meter and its declaration.
 module _ (run : Run) (words : List ℕ) where
@@ -204,30 +268,13 @@ module _ (run : Run) (words : List ℕ) where
           let made = answered ∙ counted-next meter lent usable ranged ordered in
           record { meter = usable; declared = ranged; ordered = ordered; counted = cc }
 
--- What the test and the watch answer.
+-- What the test answers.
+
 module _ (run : Run) (words : List ℕ) where
   pub tested-not : (UsableRun run words → ⊥) → notTested ≡ testedOf run words
   unfolding testedOf
   tested-not fails = sym (pick-true _ _ _ (run-unusable run words fails))
 
-  pub tested-usable : UsableRun run words → {below : Units} {held : List Units} → below ≡ record { 0 = belowIn run words } → held ≡ listOf (unitsHeld run words) mostOperators
-      → record { usable = true; below = below; held = held } ≡ testedOf run words
+  pub tested-usable : UsableRun run words → {below : Units} → below ≡ record { 0 = belowIn run words } → record { usable = true; below = below } ≡ testedOf run words
   unfolding testedOf
-  tested-usable passed counts holds = rw (counts, holds) (sym (pick-false _ _ _ (run-usable run words passed)))
-
-  -- the watch answers by the test
-  abbrev watched : Tested → Watched
-  watched tested = record { verdict = pick (tested .usable) Verdict.Accepted (Verdict.Refused Unusable); held = tested .held }
-
-  watched-by : watched (testedOf run words) ≡ watchedOf run words
-  unfolding testedOf watchedOf
-  watched-by = by-test (runUnusable run words)
-    where
-      by-test : (t : Bool) → watched (pick t notTested (record { usable = true; below = record { 0 = belowIn run words }; held = listOf (unitsHeld run words) mostOperators }))
-          ≡ pick t (record { verdict = Verdict.Refused Unusable; held = replicate mostOperators none }) (record { verdict = Verdict.Accepted; held = listOf (unitsHeld run words) mostOperators })
-      by-test true = refl
-      by-test false = refl
-
-  pub watched-told : {tested : Tested} → tested ≡ testedOf run words → {told : Bool} → tested .usable ≡ told
-      → record { verdict = pick told Verdict.Accepted (Verdict.Refused Unusable); held = tested .held } ≡ watchedOf run words
-  watched-told {tested} found e = ap (λ (t : Bool). record { verdict = pick t Verdict.Accepted (Verdict.Refused Unusable); held = tested .held }) (sym e) ∙ ap watched found ∙ watched-by
+  tested-usable passed counts = rw counts (sym (pick-false _ _ _ (run-usable run words passed)))

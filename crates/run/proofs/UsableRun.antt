@@ -85,11 +85,11 @@ module _ (run : Run) (words : List ℕ) (k : ℕ) (fits : stageFits run words k 
   unfolding operatorIn
   stage-number less = sym (pick-true _ _ _ (lt-ltb k (run .count) less)) ∙ placed
 
-  -- one behind the path's holds nothing
-  pub stage-nothing : run .count ≤ k → stageAt run k .held .0 ≡ 0
-  stage-nothing behind =
-      eqb-true (stageAt run k .held .0) 0
-      (both-true (noOperator (stageAt run k .operator)) (eqb (stageAt run k .held .0) 0) (sym (pick-false _ _ _ (le-ltb k (run .count) behind)) ∙ placed) .1)
+  -- one behind the path's is no operator, and holds nothing
+  pub stage-none : run .count ≤ k → (noOperator (stageAt run k .operator) ≡ true) × (stageAt run k .held .0 ≡ 0)
+  stage-none behind =
+      let (none, nothing) = both-true (noOperator (stageAt run k .operator)) (eqb (stageAt run k .held .0) 0) (sym (pick-false _ _ _ (le-ltb k (run .count) behind)) ∙ placed) in
+      (none, eqb-true (stageAt run k .held .0) 0 nothing)
 
 module _ (run : Run) (words : List ℕ) (passed : UsableRun run words) (k : ℕ) (less : k < mostOperators) where
   pub fits-at : stageFits run words k ≡ true

@@ -10,12 +10,11 @@ use quantity::Units;
 ghost use mathlib.Core.Path.{_≡_};
 ghost use Rattle.run.specs.Runs.{noStage, meterIn, operatorOf};
 
-mod decide;
 pub mod opening;
 pub mod slot;
+mod take;
 mod test;
 pub mod watch;
-mod write;
 
 // The words of a run; its meter's are the first, and each operator's follow.
 const WORDS: usize = 2048;

@@ -1,9 +1,8 @@
 // A slot of a run: test, decide, write (document 01, sections 3, 6 and 7).
 
 use crate::Run;
-use crate::decide::decide_all;
+use crate::take::take;
 use crate::test::test;
-use crate::write::write;
 use quantity::Units;
 use quantity::refusal::Refusal;
 ghost use mathlib.Core.Path.{_≡_};
@@ -42,22 +41,10 @@ pub fn slot(run: Run, words: &mut [u32], input: Units, choices: &[u64]) -> Slott
     if tested.below.0 <= input.0 {
         return refused(run, Refusal::InputBreaksDeclaration);
     }
-    let planned = decide_all(run, &words[..], input, choices);
-    let outcome = planned.outcome;
-    match outcome {
-        Outcome::Refused(why) => refused(run, why),
-        Outcome::Sent(output) => {
-            let moves = planned.moves;
-            let next = write(run, words, input, moves);
-            Slotted {
-                outcome: Outcome::Sent(output),
-                run: next,
-            }
-        }
-    }
+    take(run, words, input, choices)
 }
 
-fn refused(run: Run, why: Refusal) -> Slotted
+pub(crate) fn refused(run: Run, why: Refusal) -> Slotted
     ensures { λ r. ⌜ r ≡ refusedSlot run why ⌝ }
 {
     Slotted {
@@ -79,14 +66,15 @@ fn arguments_fit(operators: usize, input: Units, choices: &[u64]) -> bool
     amounts_fit(choices)
 }
 
+// The amounts joined by "or" are within the limit, 2^30 − 1, just where each is.
 fn amounts_fit(amounts: &[u64]) -> bool
     ensures { λ r. ⌜ r ≡ every (λ k. leb (getD (now (amounts .entry)) k 0) largestAmount) (length (now (amounts .entry))) ⌝ }
 {
-    let mut fit = true;
+    let mut join: u64 = 0;
     let mut k = 0;
     while k < amounts.len() {
-        fit = fit && amounts[k] <= Units::LARGEST;
+        join = join | amounts[k];
         k += 1;
     }
-    fit
+    join <= Units::LARGEST
 }

@@ -7,26 +7,25 @@ use crate::operator_of;
 use meter::parts::Counted;
 use meter::parts::counted_before;
 use operator::Operator;
-use operator::parts::Stored;
-use operator::ring::stored_in;
+use operator::ring::usable;
 use quantity::Slots;
 use quantity::Units;
+use words::all_clear;
 ghost use mathlib.Core.Path.{_≡_};
-ghost use mathlib.Core.Bool.{true, not};
+ghost use mathlib.Core.Bool.{not};
 ghost use Prim.Native.Nat.{_<_};
 ghost use lib.ListN.{length};
+ghost use Rattle.quantity.specs.Choice.{both};
 ghost use Rattle.quantity.specs.Limits.{mostOperators};
-ghost use Rattle.quantity.specs.Sums.{every, listOf};
-ghost use Rattle.operator.specs.Ring.{pathStoredOf};
-ghost use Rattle.run.specs.Runs.{runWordCount, operatorWords, noOperator, operatorOf, stageMisplaced, stageFits};
-ghost use Rattle.run.specs.Watching.{unitsHeld};
-ghost use Rattle.run.specs.Steps.{notTested, testedOf};
+ghost use Rattle.operator.specs.Operators.{numberInRange};
+ghost use Rattle.operator.specs.Ring.{pathUnusable};
+ghost use Rattle.run.specs.Runs.{runWordCount, operatorWords, noOperator, operatorOf};
+ghost use Rattle.run.specs.Steps.{stageEmpty, notTested, testedOf};
 
-// Whether what is lent and stored can be used; then what the next input has to be below, and section 3's b of each operator, 0 behind them.
+// Whether what is lent and stored can be used, and then what the next input has to be below.
 pub struct Tested {
     pub usable: bool,
     pub below: Units,
-    pub held: [Units; 16],
 }
 
 pub(crate) fn test(run: Run, words: &[u32]) -> Tested
@@ -45,74 +44,66 @@ pub(crate) fn test(run: Run, words: &[u32]) -> Tested
     let Counted::Below(below) = counted_before(meter_of(run), &words[0..crate::METER_WORDS]) else {
         return not_tested();
     };
-    let stages = test_stages(run, words);
-    if !stages.fit {
+    let mut k = 0;
+    while k < run.count {
+        let stage = run.stages[k];
+        if !stage_fits(stage, run.slot, words, k) {
+            return not_tested();
+        }
+        k += 1;
+    }
+    while k < crate::OPERATORS {
+        let stage = run.stages[k];
+        if !is_empty(stage) {
+            return not_tested();
+        }
+        k += 1;
+    }
+    // the stages behind the path's operators are empty, so their words are tested in one pass
+    let behind = crate::METER_WORDS + crate::OPERATOR_WORDS * run.count;
+    if !all_clear(&words[behind..]) {
         return not_tested();
     }
-    let held = stages.held;
     Tested {
         usable: true,
         below,
-        held,
     }
 }
 
 fn not_tested() -> Tested
     ensures { λ r. ⌜ r ≡ notTested ⌝ }
 {
-    let none = Units(0);
-    let held = [none; 16];
     Tested {
         usable: false,
         below: Units(0),
-        held,
     }
 }
 
-// Whether all sixteen stages and their words can be used, and then what each holds.
-struct StagesTested {
-    fit: bool,
-    held: [Units; 16],
-}
-
-fn test_stages(run: Run, words: &[u32]) -> StagesTested
-    requires { ⌜ length (now words) ≡ runWordCount ⌝ }
-    ensures { λ r. ⌜ r .fit ≡ every (stageFits run (now (words .entry))) mostOperators ⌝ }
-    ensures { λ r. ⌜ (r .fit ≡ true → r .held ≡ listOf (unitsHeld run (now (words .entry))) mostOperators) ⌝ }
-{
-    let stages = run.stages;
-    let slot = run.slot;
-    let count = run.count;
-    let none = Units(0);
-    let mut held = [none; 16];
-    let mut k = 0;
-    while k < 16 {
-        let stage = stages[k];
-        if misplaced(stage, k < count) {
-            return StagesTested { fit: false, held };
-        }
-        let Stored::Holds(units) = test_stage(stage, slot, words, k) else {
-            return StagesTested { fit: false, held };
-        };
-        held[k] = units;
-        k += 1;
-    }
-    StagesTested { fit: true, held }
-}
-
-// Whether the number of an operator of the path is out of its range, or a stage behind them is not the empty one.
-fn misplaced(stage: Stage, named: bool) -> bool
-    ensures { λ r. ⌜ r ≡ stageMisplaced stage named ⌝ }
+// Whether stage k, of an operator of the path, and its words can be used.
+fn stage_fits(stage: Stage, slot: Slots, words: &[u32], k: usize) -> bool
+    requires { ⌜ (length (now words) ≡ runWordCount) × (k < mostOperators) ⌝ }
+    ensures { λ r. ⌜ r ≡ both (numberInRange (stage .operator)) (not (pathUnusable (operatorOf stage slot) (operatorWords (now (words .entry)) k))) ⌝ }
 {
     let operator = stage.operator;
-    if named {
-        return !operator.number_in_range();
+    if !operator.number_in_range() {
+        return false;
     }
-    if no_operator(operator) {
-        stage.held.0 != 0
-    } else {
-        true
+    let start = crate::METER_WORDS + crate::OPERATOR_WORDS * k;
+    let end = start + crate::OPERATOR_WORDS;
+    usable(operator_of(stage, slot), &words[start..end])
+}
+
+// Whether a stage is empty, as those behind the path's operators are.
+fn is_empty(stage: Stage) -> bool
+    ensures { λ r. ⌜ r ≡ stageEmpty stage ⌝ }
+{
+    let operator = stage.operator;
+    if !no_operator(operator) {
+        return false;
     }
+    let units = stage.held.0 | stage.beside.0;
+    let totals = stage.entered as u64 | stage.left as u64;
+    units | totals == 0
 }
 
 fn no_operator(operator: Operator) -> bool
@@ -125,14 +116,4 @@ fn no_operator(operator: Operator) -> bool
         Operator::Filter(_) => false,
         Operator::Delayer(_) => false,
     }
-}
-
-// Stage k and its words.
-fn test_stage(stage: Stage, slot: Slots, words: &[u32], k: usize) -> Stored
-    requires { ⌜ (length (now words) ≡ runWordCount) × (k < mostOperators) ⌝ }
-    ensures { λ r. ⌜ r ≡ pathStoredOf (operatorOf stage slot) (operatorWords (now (words .entry)) k) ⌝ }
-{
-    let start = crate::METER_WORDS + crate::OPERATOR_WORDS * k;
-    let end = start + crate::OPERATOR_WORDS;
-    stored_in(operator_of(stage, slot), &words[start..end])
 }

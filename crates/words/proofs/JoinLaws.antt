@@ -50,9 +50,12 @@ module _ (k most : ℕ) (ones : suc most ≡ 2 ^ k) where
   joined-within f zero = le-leb 0 most (omega arith)
   joined-within f (suc n) = or-within (joined f n) (f n) ∙ ap (λ (t : Bool). both t (leb (f n) most)) (joined-within f n)
 
-eqb-zero : (n : ℕ) → eqb n 0 ≡ leb n 0
+pub eqb-zero : (n : ℕ) → eqb n 0 ≡ leb n 0
 eqb-zero zero = refl
 eqb-zero (suc n) = ne-eqb (suc n) 0 (λ e. omega arith) ∙ sym (lt-leb (suc n) 0 (omega arith))
+
+pub or-clear : (a b : ℕ) → eqb (bitOr a b) 0 ≡ both (eqb a 0) (eqb b 0)
+or-clear a b = eqb-zero (bitOr a b) ∙ or-within 0 0 refl a b ∙ ap₂ both (sym (eqb-zero a)) (sym (eqb-zero b))
 
 pub joined-clear : (f : ℕ → ℕ) (n : ℕ) → eqb (joined f n) 0 ≡ every (λ j. eqb (f j) 0) n
 joined-clear f n =

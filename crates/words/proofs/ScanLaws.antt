@@ -15,12 +15,12 @@ use Rattle.quantity.specs.Sums.{total, every}
 use Rattle.quantity.specs.Limits.{largestAmount}
 use Rattle.quantity.proofs.Sums.{total-zero, total-same, every-same, both-assoc}
 use Rattle.quantity.proofs.Laws.{pick-true, pick-false}
-use Rattle.words.specs.Stored.{wordAt, storedFits, wordFits}
+use Rattle.words.specs.Stored.{wordAt, clearAt, storedFits, wordFits}
 use Rattle.words.specs.Scanning.{mostScanned, allFit, noneScanned, scannedOf}
-use Rattle.words.specs.Gathering.{joined, gatheredOf}
+use Rattle.words.specs.Gathering.{gatheredOf}
 use Rattle.words.specs.declared.Scanned.{Scanned}
 use Rattle.words.proofs.StoredLaws.{total-used}
-use Rattle.words.proofs.JoinLaws.{joined-within, joined-clear}
+use Rattle.words.proofs.JoinLaws.{joined-within}
 
 every-parts : (test : ℕ → Bool) (n k : ℕ) → every test (n + k) ≡ both (every test n) (every (λ j. test (n + j)) k)
 unfolding every
@@ -32,13 +32,39 @@ every-parts test n zero = ap (every test) (add-zero n) ∙ both-true-end (every 
 every-parts test n (suc k) =
     ap (every test) (add-suc n k) ∙ ap (λ (t : Bool). both t (test (n + k))) (every-parts test n k) ∙ both-assoc (every test n) (every (λ j. test (n + j)) k) (test (n + k))
 
+-- words of which the first `from` are 0, and the next of them up to `end` are tested
+module _ (words : List ℕ) (from end : ℕ) (first : every (clearAt words) from ≡ true) (behind : from ≤ end) (inside : end ≤ length words) where
+  abbrev row : List ℕ
+  row = take (end - from) (drop from words)
+
+  row-length : length row ≡ end - from
+  row-length = length-take-le (end - from) (drop from words) (omega (arith, length-drop from words))
+
+  row-word : (j : ℕ) → j < end - from → clearAt row j ≡ clearAt words (from + j)
+  row-word j less = ap (λ (w : ℕ). eqb w 0) (getD-take (end - from) (drop from words) j 0 less ∙ getD-drop from words j 0)
+
+  pub row-clear : every (clearAt row) (length row) ≡ every (clearAt words) end
+  row-clear =
+      let whole : from + (end - from) ≡ end = omega arith in
+      ap (every (clearAt row)) row-length
+      ∙ every-same (clearAt row) (λ j. clearAt words (from + j)) (end - from) row-word
+      ∙ ap (λ (t : Bool). both t (every (λ j. clearAt words (from + j)) (end - from))) (sym first)
+      ∙ sym (every-parts (clearAt words) from (end - from))
+      ∙ ap (every (clearAt words)) whole
+
+  pub row-unclear : every (clearAt row) (length row) ≡ false → false ≡ every (clearAt words) (length words)
+  row-unclear fails =
+      let whole : end + (length words - end) ≡ length words = omega arith in
+      ap (λ (t : Bool). both t (every (λ j. clearAt words (end + j)) (length words - end))) (sym fails ∙ row-clear)
+      ∙ sym (every-parts (clearAt words) end (length words - end))
+      ∙ ap (every (clearAt words)) whole
+
 -- none is used
 module _ (words : List ℕ) where
-  pub unused-fits : eqb (joined (wordAt words) (length words)) 0 ≡ every (wordFits 0 words) (length words)
+  pub unused-fits : every (clearAt words) (length words) ≡ every (wordFits 0 words) (length words)
   unfolding wordFits storedFits
   unused-fits =
-      joined-clear (wordAt words) (length words)
-      ∙ every-same (λ j. eqb (wordAt words j) 0) (wordFits 0 words) (length words) (λ j less. ap (λ (t : Bool). pick t (leb (wordAt words j) largestAmount) (eqb (wordAt words j) 0)) (sym (le-ltb j 0 (omega arith))))
+      every-same (clearAt words) (wordFits 0 words) (length words) (λ j less. ap (λ (t : Bool). pick t (leb (wordAt words j) largestAmount) (eqb (wordAt words j) 0)) (sym (le-ltb j 0 (omega arith))))
 
   pub unused-units : every (wordFits 0 words) (length words) ≡ true → 0 ≡ total (wordAt words) (length words)
   unused-units fits = omega (arith, total-used 0 words fits (omega arith), total-zero (wordAt words))
@@ -79,7 +105,7 @@ module _ (words : List ℕ) (used end : ℕ) (below : end ≤ used) (within : en
   small = leb (gatheredOf first .join) largestAmount
 
   abbrev clear : Bool
-  clear = eqb (joined (wordAt behind) (length behind)) 0
+  clear = every (clearAt behind) (length behind)
 
   first-fits : small ≡ every (wordFits used words) end
   unfolding wordFits storedFits gatheredOf
@@ -93,9 +119,8 @@ module _ (words : List ℕ) (used end : ℕ) (below : end ≤ used) (within : en
   behind-fits : clear ≡ every (λ j. wordFits used words (end + j)) rest
   unfolding wordFits storedFits
   behind-fits =
-      joined-clear (wordAt behind) (length behind)
-      ∙ ap (every (λ j. eqb (wordAt behind j) 0)) behind-length
-      ∙ every-same (λ j. eqb (wordAt behind j) 0) (λ j. wordFits used words (end + j)) rest
+      ap (every (clearAt behind)) behind-length
+      ∙ every-same (clearAt behind) (λ j. wordFits used words (end + j)) rest
       (λ j less. ap (λ (w : ℕ). eqb w 0) (behind-word j less)
       ∙ ap (λ (t : Bool). pick t (leb (wordAt words (end + j)) largestAmount) (eqb (wordAt words (end + j)) 0)) (sym (le-ltb (end + j) used (none-used j less))))
 

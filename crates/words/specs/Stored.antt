@@ -10,6 +10,10 @@ use Rattle.quantity.specs.Limits.{largestAmount}
 abbrev pub wordAt : List ℕ → ℕ → ℕ
 wordAt words j = getD words j 0
 
+-- word j is 0
+abbrev pub clearAt : List ℕ → ℕ → Bool
+clearAt words j = eqb (wordAt words j) 0
+
 -- a stored amount is at most the limit; where it is not used it is 0
 unfoldable pub storedFits : Bool → ℕ → Bool
 storedFits used amount = pick used (leb amount largestAmount) (eqb amount 0)

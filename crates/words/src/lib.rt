@@ -12,7 +12,7 @@ ghost use lib.ListN.{length};
 ghost use Rattle.quantity.specs.Choice.{both, anyOf};
 ghost use Rattle.quantity.specs.Sums.{total, every};
 ghost use Rattle.quantity.specs.Limits.{largestAmount, lastSlot};
-ghost use Rattle.words.specs.Stored.{wordAt, storedFits, wordFits};
+ghost use Rattle.words.specs.Stored.{wordAt, clearAt, storedFits, wordFits};
 ghost use Rattle.words.specs.Scanning.{noneScanned, scannedOf};
 ghost use Rattle.words.specs.Gathering.{joined, gatheredOf};
 
@@ -64,7 +64,7 @@ fn scan_few(words: &[u32], used: usize) -> Scanned
 {
     if used == 0 {
         return Scanned {
-            fits: join(words) == 0,
+            fits: all_clear(words),
             units: 0,
         };
     }
@@ -74,7 +74,7 @@ fn scan_few(words: &[u32], used: usize) -> Scanned
     let gathered = gather(first);
     let small = gathered.join as u64 <= Units::LARGEST;
     Scanned {
-        fits: and(small, join(rest) == 0),
+        fits: and(small, all_clear(rest)),
         units: exact_sum(first, gathered),
     }
 }
@@ -84,6 +84,31 @@ fn at_most(count: usize, most: usize) -> usize
     ensures { λ r. ⌜ (r ≤ count) × (r ≤ most) × (r < count → r ≡ most) ⌝ }
 {
     if count < most { count } else { most }
+}
+
+// The words of a row, which is joined without a loop.
+const ROW: usize = 64;
+
+// Whether every word is 0: row by row, and then those that are left.
+pub fn all_clear(words: &[u32]) -> bool
+    ensures { λ r. ⌜ r ≡ every (clearAt (now (words .entry))) (length (now (words .entry))) ⌝ }
+{
+    let mut j = 0;
+    while ROW <= words.len() - j {
+        let end = j + ROW;
+        if !row_clear(&words[j..end]) {
+            return false;
+        }
+        j = end;
+    }
+    row_clear(&words[j..])
+}
+
+// The same of few words, in one row.
+pub fn row_clear(words: &[u32]) -> bool
+    ensures { λ r. ⌜ r ≡ every (clearAt (now (words .entry))) (length (now (words .entry))) ⌝ }
+{
+    join(words) == 0
 }
 
 // The words joined by "or": 0 just where each word is 0, and at most 2^k − 1 just where each word is.
@@ -166,9 +191,6 @@ pub fn unfit(lent: usize, count: usize, slot: u32, first: u64, second: u64) -> b
 pub fn stored_fits(used: bool, amount: u64) -> bool
     ensures { λ r. ⌜ r ≡ storedFits used amount ⌝ }
 {
-    if used {
-        amount <= Units::LARGEST
-    } else {
-        amount == 0
-    }
+    let most = if used { Units::LARGEST } else { 0 };
+    amount <= most
 }

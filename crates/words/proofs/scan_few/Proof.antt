@@ -1,7 +1,6 @@
 -- The words in two parts, those used and the rest.
 use mathlib.Core.Path.{_≡_, ap, ap₂, sym, _∙_}
-use Prim.Native.Nat.{ℕ}
-use lib.Dec.{leb, eqb}
+use lib.Dec.{leb}
 use Rattle.quantity.specs.Choice.{both}
 use Rattle.quantity.specs.Limits.{largestAmount}
 use Rattle.words.specs.declared.Gathered.{Gathered}
@@ -10,15 +9,15 @@ use borrow.Author.Needs.{needs}
 use Rattle.words.proofs.scan_few.Statement.{statement}
 use Rattle.words.proofs.scan_few.Tie as tie
 
-join-requires : tie.Need-join-requires
-join-requires c κs = search needs
+all-clear-requires : tie.Need-all-clear-requires
+all-clear-requires c κs = search needs
 
 returns : tie.Need-returns
 returns c =
     let start = c .before .before .before in
     let words = start .args .words .now in
     let none : start .args .used ≡ 0 = c .before .if1 .taken in
-    let tested = ap (λ (joined : ℕ). eqb joined 0) (c .join .ensures) ∙ unused-fits words in
+    let tested = c .all-clear .ensures ∙ unused-fits words in
     rw none (tested, λ fits. unused-units words (sym tested ∙ fits))
 
 at-most-requires : tie.Need-at-most-requires
@@ -51,8 +50,8 @@ gather-requires c κs = search needs
 cast-small : tie.Need-cast-small
 cast-small c = search needs
 
-join-requires-2 : tie.Need-join-requires-2
-join-requires-2 c κs = search needs
+all-clear-requires-2 : tie.Need-all-clear-requires-2
+all-clear-requires-2 c κs = search needs
 
 and-requires : tie.Need-and-requires
 and-requires c κs = search needs
@@ -69,7 +68,7 @@ returns-2 c =
     let end = ends .result in
     let (below, within, all) = ends .ensures in
     let small = ap (λ (gathered : Gathered). leb (gathered .join) largestAmount) (c .before .before .before .before .gather .ensures) in
-    let clear = ap (λ (joined : ℕ). eqb joined 0) (c .before .before .join2 .ensures) in
+    let clear = c .before .before .all-clear2 .ensures in
     let tested = c .before .and .ensures ∙ ap₂ both small clear ∙ scanned-fits words used end below within all in
     (tested, λ fits. c .exact-sum .ensures ∙ scanned-units words used end below within all (sym tested ∙ fits))
 
@@ -77,7 +76,7 @@ pub scan-few-spec : {M : Type 1} → statement M
 scan-few-spec =
     tie.close
     (tie.spec
-    join-requires
+    all-clear-requires
     returns
     at-most-requires
     sub-first
@@ -89,7 +88,7 @@ scan-few-spec =
     part-rest-end
     gather-requires
     cast-small
-    join-requires-2
+    all-clear-requires-2
     and-requires
     exact-sum-requires
     returns-2)

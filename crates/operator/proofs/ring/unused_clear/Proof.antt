@@ -1,48 +1,58 @@
--- The words behind the used ones, scanned as words of which none is used.
-use mathlib.Core.Path.{ap, _∙_}
+-- All words of an operator that uses its field, and those behind a delayer's ring.
+use mathlib.Core.Path.{sym, _∙_}
 use native.Mathlib.Omega.{arith}
-use Rattle.words.specs.declared.Scanned.{Scanned}
-use Rattle.operator.proofs.RingLaws.{all-used, behind-scanned}
+use Rattle.operator.proofs.RingLaws.{all-used, all-clear, behind-clear}
 use borrow.Author.Needs.{needs}
 use Rattle.operator.proofs.ring.unused_clear.Statement.{statement}
 use Rattle.operator.proofs.ring.unused_clear.Tie as tie
 
+uses-held-requires : tie.Need-uses-held-requires
+uses-held-requires c κs = search needs
+
+row-clear-requires : tie.Need-row-clear-requires
+row-clear-requires c κs = search needs
+
+returns : tie.Need-returns
+returns c = c .row-clear .ensures ∙ all-clear _ _ (sym (c .before .before .uses-held .ensures) ∙ c .before .if1 .taken) (c .before .before .before .before .pre)
+
 words-used-requires : tie.Need-words-used-requires
 words-used-requires c κs = search needs
 
-returns : tie.Need-returns
-returns c = all-used _ _ (omega (arith, c .before .words-used .ensures))
-
-mul-scan : tie.Need-mul-scan
-mul-scan c = search needs
-
-sub-scan : tie.Need-sub-scan
-sub-scan c = search needs
-
-part-scan-start : tie.Need-part-scan-start
-part-scan-start c = search needs
-
-part-scan-end : tie.Need-part-scan-end
-part-scan-end c = search needs
-
-scan-requires : tie.Need-scan-requires
-scan-requires c κs = search needs
-
 returns-2 : tie.Need-returns-2
-returns-2 c =
-    let start = c .before .before .before .before .before in
-    ap (λ (r : Scanned). r .fits) (c .scan .ensures)
-    ∙ behind-scanned _ _ (start .pre) _ (c .before .before .before .words-used .ensures) (omega (arith, c .before .before .if1 .left))
+returns-2 c = all-used _ _ (omega (arith, c .before .words-used .ensures))
+
+mul-row-clear : tie.Need-mul-row-clear
+mul-row-clear c = search needs
+
+sub-row-clear : tie.Need-sub-row-clear
+sub-row-clear c = search needs
+
+part-row-clear-start : tie.Need-part-row-clear-start
+part-row-clear-start c = search needs
+
+part-row-clear-end : tie.Need-part-row-clear-end
+part-row-clear-end c = search needs
+
+row-clear-requires-2 : tie.Need-row-clear-requires-2
+row-clear-requires-2 c κs = search needs
+
+returns-3 : tie.Need-returns-3
+returns-3 c =
+    let start = c .before .before .before .before .before .before .before in
+    c .row-clear2 .ensures ∙ behind-clear _ _ (start .pre) _ (c .before .before .before .words-used .ensures) (omega (arith, c .before .before .if2 .left))
 
 pub unused-clear-spec : {M : Type 1} → statement M
 unused-clear-spec =
     tie.close
     (tie.spec
-    words-used-requires
+    uses-held-requires
+    row-clear-requires
     returns
-    mul-scan
-    sub-scan
-    part-scan-start
-    part-scan-end
-    scan-requires
-    returns-2)
+    words-used-requires
+    returns-2
+    mul-row-clear
+    sub-row-clear
+    part-row-clear-start
+    part-row-clear-end
+    row-clear-requires-2
+    returns-3)

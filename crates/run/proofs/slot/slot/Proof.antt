@@ -1,13 +1,13 @@
 -- Each way out is what the tests before it led to: arguments, what is stored, the input, and the decisions.
-use mathlib.Core.Path.{_≡_, sym, _∙_}
-use mathlib.Core.Bool.{true, false}
+use mathlib.Core.Path.{_≡_}
+use mathlib.Core.Bool.{false}
 use borrow.Author.Needs.{needs}
 use borrow.Author.Tests.{not-true, not-false}
 use Rattle.run.specs.Calls.{Call, choicesMiscounted, amountTooLarge, callOf}
 use Rattle.run.specs.Runs.{runUnusable}
+use Rattle.run.specs.Slots.{slotBreaks}
 use Rattle.run.specs.Steps.{belowIn}
-use Rattle.run.proofs.UsableRun.{usable-run, slot-left}
-use Rattle.run.proofs.SlotLaws.{arguments-pass, stored-passes, refused-arguments, refused-stored, refused-input, refused-planned, taken}
+use Rattle.run.proofs.SlotLaws.{arguments-pass, stored-passes, refused-arguments, refused-stored, refused-input, input-keeps, took}
 use Rattle.run.proofs.slot.slot.Statement.{statement}
 use Rattle.run.proofs.slot.slot.Tie as tie
 
@@ -63,46 +63,23 @@ returns-3 c =
     let (usable, below) = stored-passed stored in
     refused-input _ _ _ counted small usable below (c .before .if3 .taken) (c .refused3 .ensures)
 
-decide-all-requires : tie.Need-decide-all-requires
-decide-all-requires c κs =
-    let passed = c .before in
-    (stored-passed (passed .before .before .before) .0, arguments-passed (passed .before .before .before .before .before .before .before))
+-- the input keeps the declaration
+keeps : (c : tie.Else3) → let s = c .before .before .before .before .before .before .before .before .before .before .before in slotBreaks (s .args .run) (s .args .words .now) (callIn s) ≡ false
+keeps c =
+    let (counted, small) = arguments-passed (c .before .before .before .before .before .before .before) in
+    let (usable, below) = stored-passed (c .before .before .before) in
+    input-keeps _ _ _ counted small usable below (c .if3 .left)
 
-enum-known-outcome : tie.Need-enum-known-outcome
-enum-known-outcome c = search needs
-
-refused-requires-4 : tie.Need-refused-requires-4
-refused-requires-4 c κs = search needs
-
-enum-known-outcome-2 : tie.Need-enum-known-outcome-2
-enum-known-outcome-2 c = search needs
-
-write-requires : tie.Need-write-requires
-write-requires c κs =
-    let passed = usable-run _ _ (stored-passed (c .before .before .before .before .before .before .before .before .before .before) .0) in
-    (passed .sized, passed .few, slot-left _ _ passed)
+take-requires : tie.Need-take-requires
+take-requires c κs = ((stored-passed (c .before .before .before .before) .0, keeps (c .before)), arguments-passed (c .before .before .before .before .before .before .before .before))
 
 same-length-3 : tie.Need-same-length-3
 same-length-3 c = search needs
 
 returns-4 : tie.Need-returns-4
 returns-4 c =
-    let passed = c .before .before .before .before .before .before in
-    let (counted, small) = arguments-passed (passed .before .before .before .before .before .before .before) in
-    let (usable, below) = stored-passed (passed .before .before .before) in
-    refused-planned _ _ _ counted small usable below (passed .if3 .left) (c .before .before .before .before .decide-all .ensures .0) (sym (c .before .before .outcome .given .1)) (c .refused4 .ensures)
-
-same-length-4 : tie.Need-same-length-4
-same-length-4 c = search needs
-
-returns-5 : tie.Need-returns-5
-returns-5 c =
-    let passed = c .before .before .before .before .before .before .before .before .before .before in
-    let (counted, small) = arguments-passed (passed .before .before .before .before .before .before .before) in
-    let (usable, below) = stored-passed (passed .before .before .before) in
-    let planned = c .before .before .before .before .before .before .before .before .decide-all in
-    let written = c .before .before .write .ensures in
-    taken _ _ _ counted small usable below (passed .if3 .left) (planned .ensures .0) (sym (c .before .before .before .before .before .before .outcome2 .given .1)) _ (planned .ensures .1) (written .0) (written .1)
+    let (counted, small) = arguments-passed (c .before .before .before .before .before .before .before .before .before .before .before) in
+    took _ _ _ counted small (stored-passed (c .before .before .before .before .before .before .before) .0) (keeps (c .before .before .before .before)) (c .before .before .take .ensures .0) (c .before .before .take .ensures .1)
 
 pub slot-spec : {M : Type 1} → statement M
 slot-spec =
@@ -118,12 +95,6 @@ slot-spec =
     refused-requires-3
     same-length-2
     returns-3
-    decide-all-requires
-    enum-known-outcome
-    refused-requires-4
-    enum-known-outcome-2
-    write-requires
+    take-requires
     same-length-3
-    returns-4
-    same-length-4
-    returns-5)
+    returns-4)

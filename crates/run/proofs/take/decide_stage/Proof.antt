@@ -2,8 +2,8 @@
 use denote.Ref.{now}
 use borrow.Author.Needs.{needs}
 use Rattle.run.proofs.DecideLaws.{decided-lent}
-use Rattle.run.proofs.decide.decide_stage.Statement.{statement}
-use Rattle.run.proofs.decide.decide_stage.Tie as tie
+use Rattle.run.proofs.take.decide_stage.Statement.{statement}
+use Rattle.run.proofs.take.decide_stage.Tie as tie
 
 mul-start : tie.Need-mul-start
 mul-start c = search needs
@@ -13,9 +13,6 @@ add-start c = search needs
 
 add-end : tie.Need-add-end
 add-end c = search needs
-
-operator-of-requires : tie.Need-operator-of-requires
-operator-of-requires c κs = search needs
 
 mul-decide : tie.Need-mul-decide
 mul-decide c = search needs
@@ -34,8 +31,8 @@ decide-requires c κs = search needs
 
 returns : tie.Need-returns
 returns c =
-    let a = c .before .before .before .before .args in
-    decided-lent (now (a .words)) (a .k) _ _ (c .before .before .operator-of .ensures) (c .decide .ensures)
+    let a = c .before .before .before .args in
+    decided-lent (now (a .words)) (a .k) _ _ _ (c .decide .ensures)
 
 pub decide-stage-spec : {M : Type 1} → statement M
 decide-stage-spec =
@@ -44,7 +41,6 @@ decide-stage-spec =
     mul-start
     add-start
     add-end
-    operator-of-requires
     mul-decide
     sub-decide
     part-decide-start

@@ -6,8 +6,8 @@ use Rattle.sheet.specs.Bodies.{part}
 use Rattle.run.specs.Runs.{meterWords}
 use Rattle.run.proofs.WriteLaws.{block-stays, meter-written}
 use borrow.Author.Needs.{needs}
-use Rattle.run.proofs.write.write_meter.Statement.{statement}
-use Rattle.run.proofs.write.write_meter.Tie as tie
+use Rattle.run.proofs.take.write_meter.Statement.{statement}
+use Rattle.run.proofs.take.write_meter.Tie as tie
 
 meter-of-requires : tie.Need-meter-of-requires
 meter-of-requires c κs = search needs

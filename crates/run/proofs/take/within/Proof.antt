@@ -2,8 +2,8 @@
 use mathlib.Core.Path.{_∙_}
 use borrow.Author.Tests.{lt-leb}
 use Rattle.run.proofs.DecideLaws.{storable-first, storable-not}
-use Rattle.run.proofs.decide.within.Statement.{statement}
-use Rattle.run.proofs.decide.within.Tie as tie
+use Rattle.run.proofs.take.within.Statement.{statement}
+use Rattle.run.proofs.take.within.Tie as tie
 
 returns : tie.Need-returns
 returns c = storable-first _ _ (c .before .if1 .taken)
