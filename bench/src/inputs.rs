@@ -293,6 +293,14 @@ pub fn sheet_of(path: &Path) -> Vec<u8> {
     sheet[..length].to_vec()
 }
 
+impl Path {
+    /// The path of its first operators.
+    pub fn first(mut self, count: usize) -> Path {
+        self.count = count;
+        self
+    }
+}
+
 /// The calls of a run: an input for each slot, and choices, of which each slot has `width`.
 pub struct Slots {
     pub sheet: Vec<u8>,
@@ -426,9 +434,8 @@ impl Random {
 
     /// A path of one filter.
     pub fn one_filter(&mut self, declaration: Declaration) -> Path {
-        let mut path = self.path_of(declaration, [Operator::Filter(16); 16]);
-        path.count = 1;
-        path
+        self.path_of(declaration, [Operator::Filter(16); 16])
+            .first(1)
     }
 
     /// A path of sixteen operators of all five kinds.

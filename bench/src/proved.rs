@@ -24,6 +24,8 @@ mod exported {
             turns: u64,
         ) -> u64;
 
+        pub fn workload_words(words: *mut u32, word_count: usize, turns: u64) -> u64;
+
         pub fn workload_slots(
             sheet: *const u8,
             size: usize,
@@ -132,6 +134,10 @@ pub fn writing(sheets: &[u8], width: usize, written: &mut [u8], turns: u64) -> u
             turns,
         )
     }
+}
+
+pub fn words(words: &mut [u32], turns: u64) -> u64 {
+    unsafe { exported::workload_words(words.as_mut_ptr(), words.len(), turns) }
 }
 
 pub fn slots(

@@ -16,6 +16,7 @@ pub struct Planner {
     pages: fn(&[u8], usize, &mut [u8], u64) -> u64,
     reading: fn(&[u8], usize, u64) -> u64,
     writing: fn(&[u8], usize, &mut [u8], u64) -> u64,
+    words: fn(&mut [u32], u64) -> u64,
     slots: fn(&[u8], &mut [u32], &[u64], &[u64], usize, u64) -> u64,
     metering: fn(&[u32], u32, &mut [u32], &[u64], u64) -> u64,
     holdings: fn(u32, &[u32], &[u32], &[u8], usize, u64) -> u64,
@@ -29,6 +30,7 @@ pub const PROVED: Planner = Planner {
     pages: proved::pages,
     reading: proved::reading,
     writing: proved::writing,
+    words: proved::words,
     slots: proved::slots,
     metering: proved::metering,
     holdings: proved::holdings,
@@ -42,6 +44,7 @@ pub const PLAIN: Planner = Planner {
     pages: turns::pages,
     reading: turns::reading,
     writing: turns::writing,
+    words: turns::words,
     slots: turns::slots,
     metering: turns::metering,
     holdings: turns::holdings,
@@ -64,6 +67,7 @@ pub enum Calls {
     Pages,
     Reading,
     Writing,
+    Words,
     Slots(fn(&mut Random) -> Path),
     Holdings,
     Confirmings,
@@ -76,7 +80,23 @@ pub struct RowKind {
     calls: Calls,
 }
 
-pub const ROWS: [RowKind; 19] = [
+pub const ROWS: [RowKind; 27] = [
+    RowKind {
+        name: "figures of 1 operator",
+        calls: Calls::Figures(|random| random.path().first(1)),
+    },
+    RowKind {
+        name: "figures of 2 operators",
+        calls: Calls::Figures(|random| random.path().first(2)),
+    },
+    RowKind {
+        name: "figures of 4 operators",
+        calls: Calls::Figures(|random| random.path().first(4)),
+    },
+    RowKind {
+        name: "figures of 8 operators",
+        calls: Calls::Figures(|random| random.path().first(8)),
+    },
     RowKind {
         name: "figures of 16 operators",
         calls: Calls::Figures(Random::path),
@@ -102,6 +122,10 @@ pub const ROWS: [RowKind; 19] = [
         calls: Calls::Writing,
     },
     RowKind {
+        name: "a run's 2,048 words read once",
+        calls: Calls::Words,
+    },
+    RowKind {
         name: "slot, 1 operator, smooth, m = 1,024",
         calls: Calls::Slots(|random| random.one_filter(Smooth(sixteen_a_slot(1_024)))),
     },
@@ -120,6 +144,18 @@ pub const ROWS: [RowKind; 19] = [
     RowKind {
         name: "slot, 1 operator, four rows, m = 1,024",
         calls: Calls::Slots(|random| random.one_filter(sixteen_a_slot_in_rows())),
+    },
+    RowKind {
+        name: "slot, 2 operators, smooth, m = 1,024",
+        calls: Calls::Slots(|random| random.mixed(Smooth(sixteen_a_slot(1_024))).first(2)),
+    },
+    RowKind {
+        name: "slot, 4 operators, smooth, m = 1,024",
+        calls: Calls::Slots(|random| random.mixed(Smooth(sixteen_a_slot(1_024))).first(4)),
+    },
+    RowKind {
+        name: "slot, 8 operators, smooth, m = 1,024",
+        calls: Calls::Slots(|random| random.mixed(Smooth(sixteen_a_slot(1_024))).first(8)),
     },
     RowKind {
         name: "slot, 16 operators, smooth, m = 1,024",
@@ -166,6 +202,7 @@ enum Given {
     Pages(Sheets),
     Reading(Sheets),
     Writing(Sheets),
+    Words,
     Slots(Slots),
     Metering(Inputs),
     Holdings(Paths),
@@ -190,6 +227,7 @@ impl RowKind {
             Calls::Pages => Given::Pages(random.sheets(SHEETS, Random::path)),
             Calls::Reading => Given::Reading(random.sheets(SHEETS, Random::path)),
             Calls::Writing => Given::Writing(random.sheets(SHEETS, Random::path)),
+            Calls::Words => Given::Words,
             Calls::Slots(path) => {
                 let path = path(&mut random);
                 Given::Slots(Slots::taken(&mut random, &path, calls))
@@ -241,6 +279,7 @@ impl Given {
                 let sum = (planner.writing)(bytes, *width, &mut written, calls);
                 mix_bytes(sum, &written)
             }
+            Given::Words => (planner.words)(&mut [0; WORDS], calls),
             Given::Slots(slots) => slots.play(planner, calls),
             Given::Metering(inputs) => inputs.play(planner, calls),
             Given::Holdings(paths) => paths.play(planner.holdings, calls),

@@ -7,6 +7,7 @@ use crate::plain::meter::Meter;
 use crate::plain::page::page;
 use crate::plain::run::Run;
 use crate::plain::sheet::{Declaration, Path, Row, Rows, read, write};
+use crate::plain::words::all_zero;
 
 /// A checksum with one more number.
 pub fn mix(sum: u64, number: u64) -> u64 {
@@ -109,6 +110,17 @@ pub fn writing(sheets: &[u8], width: usize, written: &mut [u8], turns: u64) -> u
     sum
 }
 
+/// Reads all words once in each turn, and stores one of them anew.
+pub fn words(words: &mut [u32], turns: u64) -> u64 {
+    let (mut sum, mut at) = (0, 0);
+    for _ in 0..turns {
+        sum = mix(sum, u64::from(all_zero(words)));
+        words[at] = 0;
+        at = after(at, 1, words.len());
+    }
+    sum
+}
+
 pub fn slots(
     sheet: &[u8],
     words: &mut [u32],
@@ -131,8 +143,9 @@ pub fn slots(
         at = after(at, width, choices.len());
     }
     sum = mix(mix(sum, u64::from(run.meter.slot)), run.meter.block);
-    for stage in run.stages {
+    for stage in &run.stages[..run.count] {
         sum = mix(mix(sum, stage.held), stage.beside);
+        sum = mix(mix(sum, u64::from(stage.entered)), u64::from(stage.left));
     }
     sum
 }

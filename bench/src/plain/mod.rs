@@ -7,7 +7,7 @@ pub mod meter;
 pub mod page;
 pub mod run;
 pub mod sheet;
-mod words;
+pub mod words;
 
 /// The largest amount that is given or stored.
 pub const LARGEST: u64 = 1_073_741_823;

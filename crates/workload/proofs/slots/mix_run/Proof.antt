@@ -1,14 +1,19 @@
--- A loop of sixteen turns.
+-- A loop of at most sixteen turns.
 use Prim.Native.Nat.{_≤_, _-_}
+use mathlib.Core.Logic.{⊎-elim}
+use native.Mathlib.Omega.{arith}
 use borrow.Author.Needs.{needs}
 use Rattle.workload.proofs.slots.mix_run.Statement.{statement}
 use Rattle.workload.proofs.slots.mix_run.Tie as tie
 
 abbrev Inv-loop : tie.InvT-loop
-Inv-loop sum stages next₀ k₀ next k = k ≤ 16
+Inv-loop sum run count next₀ k₀ next k = (k ≤ count) × (count ≤ 16)
 
 abbrev μ-loop : tie.MeasureT-loop
-μ-loop sum stages next₀ k₀ next k = 16 - k
+μ-loop sum run count next₀ k₀ next k = count - k
+
+few : (c : tie.Joined1 Inv-loop μ-loop) → c .if1 .count ≤ 16
+few c = ⊎-elim (λ w. omega (arith, w .0 .taken, w .1)) (λ w. omega (arith, w .1)) (c .if1 .came)
 
 cast-mix : tie.Need-cast-mix Inv-loop μ-loop
 cast-mix c = search needs
@@ -20,19 +25,31 @@ mix-requires-2 : tie.Need-mix-requires-2 Inv-loop μ-loop
 mix-requires-2 c κs = search needs
 
 loop-holds : tie.Need-loop-holds Inv-loop μ-loop
-loop-holds c = search needs
+loop-holds c = (omega arith, few (c .before .before))
 
 mul-stage : tie.Need-mul-stage Inv-loop μ-loop
 mul-stage c = search needs
 
-array-copy-out-stage : tie.Need-array-copy-out-stage Inv-loop μ-loop
-array-copy-out-stage c = search needs
+element-copy-out-stage : tie.Need-element-copy-out-stage Inv-loop μ-loop
+element-copy-out-stage c = search needs
 
 mix-requires-3 : tie.Need-mix-requires-3 Inv-loop μ-loop
 mix-requires-3 c κs = search needs
 
 mix-requires-4 : tie.Need-mix-requires-4 Inv-loop μ-loop
 mix-requires-4 c κs = search needs
+
+cast-mix-2 : tie.Need-cast-mix-2 Inv-loop μ-loop
+cast-mix-2 c = search needs
+
+mix-requires-5 : tie.Need-mix-requires-5 Inv-loop μ-loop
+mix-requires-5 c κs = search needs
+
+cast-mix-3 : tie.Need-cast-mix-3 Inv-loop μ-loop
+cast-mix-3 c = search needs
+
+mix-requires-6 : tie.Need-mix-requires-6 Inv-loop μ-loop
+mix-requires-6 c κs = search needs
 
 add-k : tie.Need-add-k Inv-loop μ-loop
 add-k c = search needs
@@ -57,9 +74,13 @@ mix-run-spec =
     mix-requires-2
     loop-holds
     mul-stage
-    array-copy-out-stage
+    element-copy-out-stage
     mix-requires-3
     mix-requires-4
+    cast-mix-2
+    mix-requires-5
+    cast-mix-3
+    mix-requires-6
     add-k
     loop-less
     loop-again
