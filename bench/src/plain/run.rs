@@ -3,7 +3,7 @@
 use super::figures::figures;
 use super::meter::{METER_WORDS, Meter};
 use super::sheet::{MOST_OPERATORS, Operator};
-use super::words::all_zero;
+use super::words::bits;
 use super::{LARGEST, Refusal};
 
 /// The words that a run is lent: 1,024 of the meter, then 64 of each operator.
@@ -42,13 +42,13 @@ impl Stage {
         }
         let held = match self.operator {
             Operator::Delayer(delay) => {
-                if self.held != 0 || !all_zero(&words[delay as usize..]) {
+                if self.held != 0 || bits(&words[delay as usize..]) != 0 {
                     return Err(Refusal::Unusable);
                 }
                 u64::from(self.entered.wrapping_sub(self.left))
             }
             _ => {
-                if self.entered != 0 || self.left != 0 || !all_zero(words) {
+                if self.entered != 0 || self.left != 0 || bits(words) != 0 {
                     return Err(Refusal::Unusable);
                 }
                 self.held
@@ -132,7 +132,7 @@ impl Run {
             let stage = &self.stages[k];
             if k < self.count {
                 held[k] = stage.test(words)?;
-            } else if *stage != Stage::NONE || !all_zero(words) {
+            } else if *stage != Stage::NONE || bits(words) != 0 {
                 return Err(Refusal::Unusable);
             }
         }

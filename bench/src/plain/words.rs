@@ -7,8 +7,13 @@ pub fn bits(words: &[u32]) -> u32 {
     words.iter().fold(0, |bits, &word| bits | word)
 }
 
+/// The words of a row, which the compiler joins without a loop.
+const ROW: usize = 64;
+
+/// Whether all of many words are 0: row by row, and then those that are left.
 pub fn all_zero(words: &[u32]) -> bool {
-    bits(words) == 0
+    let (rows, rest) = words.as_chunks::<ROW>();
+    rows.iter().fold(bits(rest), |joined, row| joined | bits(row)) == 0
 }
 
 /// The sum of at most 1,024 words, and all their bits. Words below 2^22 are added in 32 bits.
