@@ -189,13 +189,13 @@ module _ (rows : ℕ → Row) where
       let less : suc n - rows 0 .interval ≡ n = omega arith in
       omega (arith, one-step rows (omega arith) (suc n) (omega arith), ap (rowsMost rows 1) less, each-slot-most one n, suc-mul n (rows 0 .quota))
 
-  -- the first row behind what it does not reach
-  pub first-table : (before : List ℕ) → Table before → ((n : ℕ) → 1 ≤ n → n < length before → entry before n ≡ largestSigned) → RowInside (rows 0)
+  -- the first row over its quota in each slot, which is never less
+  pub first-table : (before : List ℕ) → Table before → ((n : ℕ) → n < length before → entry before n ≡ n * rows 0 .quota) → RowInside (rows 0)
       → withRow (rows 0 .interval) (rows 0 .quota) before ≡ listOf (rowsMost rows 1) (length before)
-  first-table before given unreached inside = listOf-ext 0 (rowsMost rows 1) (length before) after (with-row-size (rows 0 .interval) (rows 0 .quota) before (inside .large) (given .none)) (from-below by-slots)
+  first-table before given each inside = listOf-ext 0 (rowsMost rows 1) (length before) after (with-row-size (rows 0 .interval) (rows 0 .quota) before (inside .large) (given .none)) (from-below by-slots)
     where
-      only : (i : ℕ) → i < 1 → (1 ≤ rows i .interval) × (rows i .quota ≤ 65_535)
-      only zero less = (inside .large, inside .few)
+      only : (i : ℕ) → i < 1 → (1 ≤ rows i .interval) × (rows i .quota ≤ rows 0 .quota)
+      only zero less = (inside .large, omega arith)
       only (suc i) less = absurd (omega arith)
 
       after : List ℕ
@@ -204,15 +204,13 @@ module _ (rows : ℕ → Row) where
       by-slots : (n : ℕ) → ((j : ℕ) → j < n → j < length before → entry after j ≡ rowsMost rows 1 j) → n < length before → entry after n ≡ rowsMost rows 1 n
       by-slots zero below less = with-row-none (rows 0 .interval) (rows 0 .quota) before (inside .large) (given .none) less ∙ sym (rows-none rows 1)
       by-slots (suc n) below less =
-          let short = given .sized .short in
-          let most = rows-at-most rows 1 65_535 (omega arith) only (suc n) in
           omega (
             arith,
             with-row-step (rows 0 .interval) (rows 0 .quota) before (inside .large) (given .none) (suc n) (omega arith) less,
-            unreached (suc n) (omega arith) less,
-            below (suc n - rows 0 .interval) (omega arith) (omega arith),
+            each (suc n) less,
+            below (suc n - rows 0 .interval) (omega (arith, inside .large)) (omega arith),
             one-step rows (inside .large) (suc n) (omega arith),
-            mul-le-mul-right 65_535 less,
+            rows-at-most rows 1 (rows 0 .quota) (omega arith) only (suc n),
           )
 
   module _ (k : ℕ) (some : 1 ≤ k) (size : ℕ) (table : List ℕ) (filled : table ≡ listOf (rowsMost rows k) size) where

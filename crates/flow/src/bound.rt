@@ -69,7 +69,7 @@ fn fill_rows(table: &mut [u32], rows: [[u32; 2]; 4], left: usize)
     next_row(table, rows, last);
 }
 
-// The first row alone. In each slot it is used once more; over longer intervals it is one row more where there was no bound.
+// The first row alone. Its quota in each slot is the most over an interval of one slot, and never less than it is over a longer one, so that one row more is that row alone.
 fn first_row(table: &mut [u32], rows: [[u32; 2]; 4])
     requires { ⌜ Sized (now table) × RowsInside (pairAt rows) 1 ⌝ }
     ensures { λ r. ⌜ now (table .exit) ≡ listOf (rowsMost (pairAt rows) 1) (length (now (table .entry))) ⌝ }
@@ -77,11 +77,10 @@ fn first_row(table: &mut [u32], rows: [[u32; 2]; 4])
     let interval = rows[0][0] as usize;
     let quota = rows[0][1];
     table[0] = 0;
+    each_slot(table, quota);
     if interval == 1 {
-        each_slot(table, quota);
         return;
     }
-    no_bound(table);
     with_row(table, interval, quota);
 }
 
@@ -105,20 +104,6 @@ fn each_slot(table: &mut [u32], quota: u32)
     while n < table.len() {
         most += quota;
         table[n] = most;
-        n += 1;
-    }
-}
-
-// The largest number below 2^31, which no row reaches.
-const UNREACHED: u32 = 2_147_483_647;
-
-fn no_bound(table: &mut [u32])
-    requires { ⌜ Sized (now table) ⌝ }
-    ensures { λ r. ⌜ Remade (now (table .entry)) (now (table .exit)) 1 (length (now (table .entry))) (λ j. largestSigned) ⌝ }
-{
-    let mut n = 1;
-    while n < table.len() {
-        table[n] = UNREACHED;
         n += 1;
     }
 }

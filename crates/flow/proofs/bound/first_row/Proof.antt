@@ -1,8 +1,8 @@
--- In each slot the quota once more is the step of one row; and over what no row reaches one row more is that row alone.
+-- The quota once more in each slot is the step of a row of one slot; and over that one row more is that row alone.
 use mathlib.Core.Path.{_≡_, sym, _∙_, ap}
 use mathlib.Core.List.{List}
 use Prim.Native.Nat.{ℕ, zero, suc, _*_, _≤_, _<_}
-use native.Mathlib.Nat.{zero-mul}
+use native.Mathlib.Nat.{zero-mul, mul-le-mul-left, mul-le-mul-right}
 use native.Mathlib.Omega.{arith}
 use lib.ListN.{length, set, length-set}
 use lib.Seq.{getD-set-same}
@@ -10,7 +10,7 @@ use borrow.Author.Needs.{needs}
 use Rattle.quantity.specs.Sums.{listOf}
 use Rattle.quantity.proofs.Sums.{listOf-ext}
 use Rattle.flow.specs.Rows.{Row, rowsMost}
-use Rattle.flow.specs.Bounds.{largestSigned, pairAt, RowInside, Sized, Table, Remade}
+use Rattle.flow.specs.Bounds.{pairAt, RowInside, Sized, Table, Remade}
 use Rattle.flow.proofs.BoundTable.{entry, sized-same, each-slot-most, first-table}
 use Rattle.flow.proofs.bound.first_row.Statement.{statement}
 use Rattle.flow.proofs.bound.first_row.Tie as tie
@@ -38,21 +38,22 @@ module _ (start : tie.Start) where
   inside : RowInside (rows 0)
   inside = start .pre .1 0 (omega arith)
 
-  by-slot : (after : List ℕ) → Remade begun after 1 (length begun) (λ j. j * rows 0 .quota) → (n : ℕ) → n < length given → entry after n ≡ n * rows 0 .quota
-  by-slot after remade zero less = remade .below 0 (omega arith) ∙ none ∙ sym (zero-mul (rows 0 .quota))
-  by-slot after remade (suc n) less = remade .anew (suc n) (omega arith) (omega (arith, same))
+  -- with the quota once more in each slot
+  module _ (after : List ℕ) (kept : length after ≡ length begun) (remade : Remade begun after 1 (length begun) (λ j. j * rows 0 .quota)) where
+    each : (n : ℕ) → n < length after → entry after n ≡ n * rows 0 .quota
+    each zero less = remade .below 0 (omega arith) ∙ none ∙ sym (zero-mul (rows 0 .quota))
+    each (suc n) less = remade .anew (suc n) (omega arith) (omega (arith, kept))
 
-  -- with what no row reaches in all others
-  module _ (after : List ℕ) (kept : length after ≡ length begun) (remade : Remade begun after 1 (length begun) (λ j. largestSigned)) where
-    unreached : (n : ℕ) → 1 ≤ n → n < length after → entry after n ≡ largestSigned
-    unreached n some less = remade .anew n some (omega arith)
+    few-slots : (j : ℕ) → j < length after → j ≤ 1_985
+    few-slots j less = omega (arith, kept, same, start .pre .0 .short)
 
     table : Table after
-    table = record { sized = sized-same begun after kept sized; none = remade .below 0 (omega arith) ∙ none; fits = fits }
-      where
-        fits : (j : ℕ) → j < length after → entry after j ≤ largestSigned
-        fits zero less = omega (arith, remade .below 0 (omega arith), none)
-        fits (suc j) less = omega (arith, unreached (suc j) (omega arith) less)
+    table =
+        record {
+          sized = sized-same begun after kept sized;
+          none = remade .below 0 (omega arith) ∙ none;
+          fits = λ j less. omega (arith, each j less, mul-le-mul-right (rows 0 .quota) (few-slots j less), mul-le-mul-left 1_985 (inside .few));
+        }
 
 index-1-interval : tie.Need-index-1-interval
 index-1-interval c = search needs
@@ -74,42 +75,37 @@ slice-write-table c = search needs
 
 each-slot-requires : tie.Need-each-slot-requires
 each-slot-requires c κs =
-    let start = c .before .before .before .before .before in
+    let start = c .before .before .before .before in
     (sized start, inside start .few)
 
 same-length : tie.Need-same-length
-same-length c = c .before .before .each-slot .kept .0 ∙ same (c .before .before .before .before .before .before .before .before)
+same-length c = c .before .before .before .each-slot .kept .0 ∙ same (c .before .before .before .before .before .before .before .before)
 
 returns : tie.Need-returns
 returns c =
     let start = c .before .before .before .before .before .before .before .before in
-    let after = c .before .before .each-slot .last .0 in
-    let remade = c .before .before .each-slot .ensures in
-    listOf-ext 0 (rowsMost (rows start) 1) (length (given start)) after (c .before .before .each-slot .kept .0 ∙ same start)
-    (λ n less. by-slot start after remade n less ∙ sym (each-slot-most (rows start) (c .before .before .before .before .if1 .taken) n))
-
-no-bound-requires : tie.Need-no-bound-requires
-no-bound-requires c κs = sized (c .before .before .before .before .before)
+    let made = c .before .before .before .each-slot in
+    let kept = made .kept .0 ∙ same start in
+    listOf-ext 0 (rowsMost (rows start) 1) (length (given start)) (made .last .0) kept
+    (λ n less. each start (made .last .0) (made .kept .0) (made .ensures) n (omega (arith, kept)) ∙ sym (each-slot-most (rows start) (c .if1 .taken) n))
 
 with-row-requires : tie.Need-with-row-requires
 with-row-requires c κs =
     let start = c .before .before .before .before .before .before .before .before .before in
-    let unbounded = c .before .before .before .no-bound in
-    (table start (unbounded .last .0) (unbounded .kept .0) (unbounded .ensures), inside start .large, inside start .short, inside start .few)
+    let made = c .before .before .before .before .each-slot in
+    (table start (made .last .0) (made .kept .0) (made .ensures), inside start .large, inside start .short, inside start .few)
 
 same-length-2 : tie.Need-same-length-2
-same-length-2 c =
-    c .before .before .with-row .kept .0 ∙ c .before .before .before .before .before .before .no-bound .kept .0
-    ∙ same (c .before .before .before .before .before .before .before .before .before .before .before .before)
+same-length-2 c = c .before .before .with-row .kept .0 ∙ c .before .before .before .before .before .before .before .each-slot .kept .0 ∙ same (c .before .before .before .before .before .before .before .before .before .before .before .before)
 
 returns-2 : tie.Need-returns-2
 returns-2 c =
     let start = c .before .before .before .before .before .before .before .before .before .before .before .before in
-    let unbounded = c .before .before .before .before .before .before .no-bound in
-    let after = unbounded .last .0 in
-    let kept = unbounded .kept .0 in
+    let made = c .before .before .before .before .before .before .before .each-slot in
+    let after = made .last .0 in
+    let kept = made .kept .0 in
     c .before .before .with-row .ensures
-    ∙ first-table (rows start) after (table start after kept (unbounded .ensures)) (unreached start after kept (unbounded .ensures)) (inside start)
+    ∙ first-table (rows start) after (table start after kept (made .ensures)) (each start after kept (made .ensures)) (inside start)
     ∙ ap (listOf (rowsMost (rows start) 1)) (kept ∙ same start)
 
 pub first-row-spec : {M : Type 1} → statement M
@@ -125,7 +121,6 @@ first-row-spec =
     each-slot-requires
     same-length
     returns
-    no-bound-requires
     with-row-requires
     same-length-2
     returns-2)
