@@ -76,30 +76,34 @@ fn links_of(path: &Path) -> u32 {
         .fold(0, |links, place| links | 1 << place.link)
 }
 
-/// Whether two records have one number: each is compared with all before it.
+/// Of any two places in a ring of all records, one is among so many behind the other.
+const HALF: usize = RECORDS / 2;
+
+/// No path's number.
+const NO_NUMBER: u32 = LARGEST_NUMBER + 1;
+
+/// Whether two records have one number: each is compared with those of half a ring behind it, so many at a time whatever its place is.
 fn repeats(standing: &[Record]) -> bool {
-    let mut numbers = [0; RECORDS];
-    for (number, record) in numbers.iter_mut().zip(standing) {
+    let mut ring = [NO_NUMBER; RECORDS + HALF];
+    for (number, record) in ring.iter_mut().zip(standing) {
         *number = record.number;
     }
-    let numbers = &numbers[..standing.len()];
-    let mut repeats = false;
-    for (j, number) in numbers.iter().enumerate() {
-        repeats |= numbers[..j]
-            .iter()
-            .fold(false, |same, earlier| same | (earlier == number));
-    }
-    repeats
+    ring.copy_within(..HALF, RECORDS);
+    ring.array_windows::<{ HALF + 1 }>()
+        .take(standing.len())
+        .fold(false, |repeats, [number, behind @ ..]| {
+            behind
+                .iter()
+                .fold(repeats, |same, other| same | (other == number))
+        })
 }
 
 /// The sums of the rates on each link: a rate is masked by its link's bit.
 fn sums(standing: &[Record]) -> [u32; LINKS] {
-    let bits: [u32; LINKS] = std::array::from_fn(|link| 1 << link);
     let mut sums = [0_u32; LINKS];
     for record in standing {
-        for (sum, bit) in sums.iter_mut().zip(&bits) {
-            let on = u32::from(record.links & bit != 0);
-            *sum += record.rate & on.wrapping_neg();
+        for (link, sum) in sums.iter_mut().enumerate() {
+            *sum += record.rate & (record.links >> link & 1).wrapping_neg();
         }
     }
     sums

@@ -13,7 +13,9 @@ const ROW: usize = 64;
 /// Whether all of many words are 0: row by row, and then those that are left.
 pub fn all_zero(words: &[u32]) -> bool {
     let (rows, rest) = words.as_chunks::<ROW>();
-    rows.iter().fold(bits(rest), |joined, row| joined | bits(row)) == 0
+    rows.iter()
+        .fold(bits(rest), |joined, row| joined | bits(row))
+        == 0
 }
 
 /// The sum of at most 1,024 words, and all their bits. Words below 2^22 are added in 32 bits.
