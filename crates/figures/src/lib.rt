@@ -121,7 +121,7 @@ fn slots_of(operator: Operator) -> u32
     }
 }
 
-// The slots of the delayers before the last operator: as much later than within an interval a flow arrives at an operator.
+// The slots of the delayers before the last operator: what arrives at an operator is late by no more than these and an interval of the rows.
 fn slots_before(path: PathValue) -> usize
     requires { ⌜ (path .count ≤ 16) × ((k : ℕ) → k < path .count → slotsOf (getD (path .operators) k noLinkedOperator .operator) ≤ 64) ⌝ }
     ensures { λ r. ⌜ (r ≡ slotsBefore path) × (r ≤ mostBefore) ⌝ }

@@ -32,6 +32,8 @@ boundable declared lent = both (leb shortestBound (length lent)) (both (leb (len
 unfoldable pub boundFilled : Declaration → List ℕ → List ℕ
 boundFilled declared lent = pick (boundable declared lent) (boundOf declared (length lent)) lent
 
+-- What follows serves the private contracts of the table and the figures, and need not be believed: no part cites it.
+
 -- row i of an array of pairs: the interval and the quota
 abbrev pub pairAt : List (List ℕ) → ℕ → Row
 pairAt pairs i = record { interval = getD (getD pairs i []) 0 0; quota = getD (getD pairs i []) 1 0 }

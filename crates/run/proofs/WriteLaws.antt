@@ -102,17 +102,17 @@ module _ (stage : Stage) (slot : Slots) (words : List ℕ) (k : ℕ) where
   abbrev lent : ℕ
   lent = operatorAtWord k + wordCount - operatorAtWord k
 
-  abbrev rung : List ℕ
-  rung = ringNoted (operatorOf stage slot) (operatorWords words k)
+  abbrev withTotal : List ℕ
+  withTotal = ringNoted (operatorOf stage slot) (operatorWords words k)
 
   pub stage-written : length words ≡ runWordCount → k < mostOperators → {x : PathOperator} → x ≡ operatorOf stage slot
       → {new : List ℕ} → new ≡ ringNoted x (take lent (drop (operatorAtWord k) words))
-      → take (operatorAtWord k) words ++ (new ++ drop lent (drop (operatorAtWord k) words)) ≡ withPart (operatorAtWord k) rung words
+      → take (operatorAtWord k) words ++ (new ++ drop lent (drop (operatorAtWord k) words)) ≡ withPart (operatorAtWord k) withTotal words
   unfolding operatorWords part
   stage-written sized less same left =
       let wide : lent ≡ wordCount = omega arith in
       let sizes = length-ring (operatorOf stage slot) (operatorWords words k) (length-operatorWords words sized k less) in
-      rw (left, wide, same) (put-back (operatorAtWord k) wordCount rung words sizes)
+      rw (left, wide, same) (put-back (operatorAtWord k) wordCount withTotal words sizes)
 
 -- what a stage's words are once written, over the words behind the meter's
 abbrev wordsDone : Run → List ℕ → ℕ → List ℕ

@@ -1,3 +1,4 @@
+-- Serves the private contracts of the words, and need not be believed: no part cites it.
 -- Lent words passed once: joined by "or", and added modulo 2^32.
 use Prim.Native.Nat.{ℕ, zero, suc, _%_, _^_}
 use mathlib.Core.List.{List}
