@@ -12,7 +12,7 @@ use Rattle.operator.specs.Operators.{greatestOutput, heldAfter, numberIn
 use Rattle.operator.specs.Single.{usesHeld, usesBeside, wordsUsed}
 use Rattle.operator.specs.Ring
 use Rattle.operator.specs.declared.Operator.{Operator}
-use Rattle.operator.specs.declared.parts.Decided.{Decided}
+use Rattle.operator.specs.declared.ring.Advanced.{Advanced}
 use Rattle.operator.specs.declared.ring.PathOperator.{PathOperator}
 
 -- an operator with its next slot and its totals
@@ -78,20 +78,30 @@ pub reference-usable : Ring.pathUnusable before beforeWords ≡ false
 unfolding before beforeWords every storedFits usesHeld usesBeside wordsUsed Ring.totalLess Ring.ringHeld Ring.wordUnused Ring.totalsFit Ring.pathUnusable
 reference-usable = refl
 
--- choices from 3 to the greatest, 40 less 5, and one above
-pub decisions : List Decided
-decisions = Ring.pathDecidedOf before beforeWords 10 3 ∷ Ring.pathDecidedOf before beforeWords 10 35 ∷ Ring.pathDecidedOf before beforeWords 10 36 ∷ []
-
-pub expectedDecisions : List Decided
-expectedDecisions =
-    Decided.Sends (record { 0 = 8 }) (record { 0 = 32 }) (record { 0 = 0 })
-    ∷ Decided.Sends (record { 0 = 40 }) (record { 0 = 0 }) (record { 0 = 0 })
-    ∷ Decided.ChoiceAbove
+-- choices from 3 to the greatest, 40 less 5, and one above; an input that leaves more than may be stored, and one that is more than can be on the way; a delayer 65
+pub advances : List Advanced
+advances =
+    Ring.advancedOf before beforeWords 10 3
+    ∷ Ring.advancedOf before beforeWords 10 35
+    ∷ Ring.advancedOf before beforeWords 10 36
+    ∷ Ring.advancedOf before beforeWords 1_073_741_823 0
+    ∷ Ring.advancedOf before beforeWords 18_253_610_992 0
+    ∷ Ring.advancedOf (counting (delayer 65) 7 30 0) (clearBehind [] 64) 10 3
     ∷ []
 
-pub reference-decisions : decisions ≡ expectedDecisions
-unfolding decisions expectedDecisions before beforeWords inRange numberInRange greatestOutput delayerGreatest heldAfter delayerAfter usesHeld wordsUsed Ring.totalLess Ring.ringHeld Ring.ringRecent Ring.pathHolds Ring.pathLeast Ring.pathGreatest Ring.pathUndecidable Ring.pathSent Ring.pathChoiceAbove Ring.pathHoldsNext Ring.pathDecidedOf
-reference-decisions = refl
+pub expectedAdvances : List Advanced
+expectedAdvances =
+    Advanced.Sends (record { 0 = 8 }) true (counting (delayer 3) 7 4 4_294_967_268)
+    ∷ Advanced.Sends (record { 0 = 40 }) true (counting (delayer 3) 7 4 4)
+    ∷ Advanced.ChoiceAbove
+    ∷ Advanced.Sends (record { 0 = 5 }) false (counting (delayer 3) 7 1_073_741_817 4_294_967_265)
+    ∷ Advanced.Unusable
+    ∷ Advanced.Unusable
+    ∷ []
+
+pub reference-advances : advances ≡ expectedAdvances
+unfolding advances expectedAdvances before beforeWords every inRange storedFits numberInRange greatestOutput delayerGreatest heldAfter delayerAfter usesHeld usesBeside wordsUsed Ring.totalMore Ring.totalLess Ring.totalNext Ring.ringHeld Ring.ringRecent Ring.pathHolds Ring.pathLeast Ring.pathGreatest Ring.wordUnused Ring.totalsFit Ring.pathUnusable Ring.pathSent Ring.pathChoiceAbove Ring.pathHoldsNext Ring.pathStateKept Ring.pathAdvanced Ring.storable Ring.pathUnready Ring.pathHoldsSent Ring.advancedOf
+reference-advances = refl
 
 pub reference-kept : Ring.pathStateKept before 10 8 32 0 ≡ after
 unfolding before after usesHeld Ring.totalMore Ring.totalNext Ring.pathStateKept

@@ -8,29 +8,31 @@ use native.Mathlib.Decide.{decLt, ℕ-discrete}
 use native.Mathlib.Omega.{arith}
 use lib.ListN.{length, set, take, drop, length-set, length-drop}
 use lib.Seq.{length-take-le, getD-take, getD-drop, getD-set-same, getD-set-other}
+use lib.Bits.{bitOr}
 use lib.Dec.{leb, ltb, eqb}
-use borrow.Author.Tests.{eq-eqb, ne-eqb, eqb-true, ltb-false, lt-ltb, le-ltb, le-leb, not-false}
+use borrow.Author.Tests.{eq-eqb, ne-eqb, eqb-true, ltb-false, lt-ltb, le-ltb, le-leb, lt-leb, leb-true, not-false}
 use Rattle.quantity.specs.Choice.{pick, both, either}
 use Rattle.quantity.specs.Limits.{largestAmount, lastSlot}
 use Rattle.quantity.specs.Ranges.{delayRange}
 use Rattle.quantity.specs.Sums.{every, listOf}
 use Rattle.quantity.proofs.Laws.{pick-true, pick-false, either-false, either-first, either-second, either-none, least-le}
-use Rattle.quantity.proofs.Sums.{every-holds, every-same, listOf-ext}
+use Rattle.quantity.proofs.Sums.{both-true, every-holds, every-same, listOf-ext}
 use Rattle.words.specs.Stored.{wordAt, clearAt, storedFits}
+use Rattle.words.proofs.StoredLaws.{stored-le}
+use Rattle.words.proofs.JoinLaws.{or-clear}
 use Rattle.flow.specs.Flows.{Flow}
 use Rattle.operator.specs.Held.{Held}
 use Rattle.operator.specs.Operators.{leastOutput, greatestOutput, heldAfter, numberInRange}
 use Rattle.operator.specs.Single.{wordCount, wordsUsed, usesHeld, usesBeside}
-use Rattle.operator.specs.Parts.{undecidable}
-use Rattle.operator.specs.Ring.{wrap, totalMore, totalLess, ringHeld, ringRecent, ringPast, pathHolds, pathLeast, pathGreatest, wordUnused, totalsFit, pathUnusable, pathUndecidable, pathSent, pathChoiceAbove, pathHoldsNext, pathDecidedOf, totalNext, pathStateKept, ringWordNext, pathAdvanced, ringNoted}
+use Rattle.operator.specs.Parts.{mostOnTheWay}
+use Rattle.operator.specs.Ring.{wrap, totalMore, totalLess, ringHeld, ringRecent, ringPast, pathHolds, pathLeast, pathGreatest, wordUnused, totalsFit, pathUnusable, pathSent, pathChoiceAbove, pathHoldsNext, totalNext, pathStateKept, ringWordNext, pathAdvanced, storable, pathUnready, pathHoldsSent, advancedOf, ringNoted}
+use Rattle.operator.specs.Steps.{SendsWithin}
 use Rattle.operator.specs.declared.Operator.{Operator}
 use Rattle.operator.specs.declared.Operator.the-variants.{Limiter, Compactor, Expander, Filter, Delayer}
-use Rattle.operator.specs.declared.SingleOperator.{SingleOperator}
-use Rattle.operator.specs.declared.parts.Decided.{Decided}
 use Rattle.operator.specs.declared.ring.PathOperator.{PathOperator}
+use Rattle.operator.specs.declared.ring.Advanced.{Advanced}
 use Rattle.operator.proofs.Steps.{after-b}
 use Rattle.operator.proofs.SingleLaws.{used-within}
-use Rattle.operator.proofs.PartsLaws.{Decidable, decidable}
 use Rattle.operator.proofs.DelayerRing.{RingStands}
 
 -- Wrapping.
@@ -160,13 +162,131 @@ module _ (x : PathOperator) (words : List ℕ) where
       by-test true e = refl
       by-test false e = absurd (not-usable (path-usable e))
 
-  pub refused-unusable : (PathUsable x words → ⊥) → false ≡ not (pathUnusable x words)
+  pub unsized-unusable : (length words ≡ wordCount → ⊥) → pathUnusable x words ≡ true
+  unsized-unusable other = path-stored-unusable (λ stored. other (stored .sized))
+
+  pub last-unusable : lastSlot < x .slot .0 → pathUnusable x words ≡ true
+  last-unusable above = path-stored-unusable (λ stored. omega (arith, stored .slot-left))
+
+  refused-unusable : (PathUsable x words → ⊥) → false ≡ not (pathUnusable x words)
   refused-unusable not-usable = sym (ap not (path-stored-unusable not-usable))
 
   -- the last test tells
-  pub told-usable : (t : Bool) → (t ≡ true → PathUsable x words) → (t ≡ false → PathUsable x words → ⊥) → t ≡ not (pathUnusable x words)
+  told-usable : (t : Bool) → (t ≡ true → PathUsable x words) → (t ≡ false → PathUsable x words → ⊥) → t ≡ not (pathUnusable x words)
   told-usable true usable unusable = sym (ap not (path-stored-usable (usable refl)))
   told-usable false usable unusable = refused-unusable (unusable refl)
+
+module _ (x : PathOperator) (words : List ℕ) where
+  -- what the fields of an operator that can be used hold
+  pub held-le : pathUnusable x words ≡ false → x .held .0 ≤ largestAmount
+  held-le passed = stored-le _ _ (path-usable x words passed .held-fits)
+
+  pub beside-le : pathUnusable x words ≡ false → x .beside .0 ≤ largestAmount
+  beside-le passed = stored-le _ _ (path-usable x words passed .beside-fits)
+
+  pub ring-held-le : usesHeld (x .operator) ≡ false → pathUnusable x words ≡ false → ringHeld x ≤ largestAmount
+  unfolding totalsFit
+  ring-held-le ring passed = leb-true (ringHeld x) largestAmount (sym (pick-false _ _ _ ring) ∙ path-usable x words passed .totals-fit)
+
+-- The test of what is stored.
+
+pub storable-first : (b h : ℕ) → b ≤ largestAmount → leb h largestAmount ≡ storable b h
+unfolding storable
+storable-first b h fits = rw (le-leb b largestAmount fits)
+
+pub storable-not : (b h : ℕ) → largestAmount < b → false ≡ storable b h
+unfolding storable
+storable-not b h above = rw (lt-leb b largestAmount above)
+
+-- The tests, by the kind.
+
+-- a stored amount fits just where it is at most so much
+fits-most : (used : Bool) (amount : ℕ) → amount ≤ pick used largestAmount 0 → storedFits used amount ≡ true
+unfolding storedFits
+fits-most true amount within = le-leb amount largestAmount within
+fits-most false amount within = eq-eqb amount 0 (omega arith)
+
+most-fits : (used : Bool) (amount : ℕ) → storedFits used amount ≡ true → amount ≤ pick used largestAmount 0
+unfolding storedFits
+most-fits true amount fits = leb-true amount largestAmount fits
+most-fits false amount fits = let none = eqb-true amount 0 fits in omega arith
+
+contradiction : {t : Bool} → t ≡ true → t ≡ false → ⊥
+contradiction e f = let z : _≡_ {A = ℕ} 0 1 = cc in omega arith
+
+module _ (x : PathOperator) (words : List ℕ) (sized : length words ≡ wordCount) (left : x .slot .0 ≤ lastSlot) where
+  module _ (apart : usesHeld (x .operator) ≡ true) where
+    totals-apart : totalsFit x ≡ eqb (bitOr (x .entered) (x .left)) 0
+    unfolding totalsFit
+    totals-apart = pick-true _ _ _ apart ∙ sym (or-clear (x .entered) (x .left))
+
+    pub held-above : largestAmount < x .held .0 → false ≡ not (pathUnusable x words)
+    held-above above = refused-unusable x words (λ stored. omega (arith, stored-le _ _ (stored .held-fits)))
+
+    pub beside-above : pick (usesBeside (x .operator)) largestAmount 0 < x .beside .0 → false ≡ not (pathUnusable x words)
+    beside-above above = refused-unusable x words (λ stored. omega (arith, most-fits _ _ (stored .beside-fits)))
+
+    pub totals-stand : (bitOr (x .entered) (x .left) ≡ 0 → ⊥) → false ≡ not (pathUnusable x words)
+    totals-stand some = refused-unusable x words (λ stored. some (eqb-true _ 0 (sym totals-apart ∙ stored .totals-fit)))
+
+    pub apart-told : x .held .0 ≤ largestAmount → x .beside .0 ≤ pick (usesBeside (x .operator)) largestAmount 0 → bitOr (x .entered) (x .left) ≡ 0
+        → {clear : Bool} → clear ≡ every (clearAt words) (length words) → clear ≡ not (pathUnusable x words)
+    apart-told held beside totals {clear} tested =
+        let told : clear ≡ every (wordUnused (x .operator) words) wordCount = tested ∙ all-clear (x .operator) words apart sized in
+        told-usable x words clear
+        (λ all. record {
+          sized = sized;
+          slot-left = left;
+          held-fits = fits-most _ _ (rw apart held);
+          beside-fits = fits-most _ _ beside;
+          totals-fit = totals-apart ∙ eq-eqb _ 0 totals;
+          words-fit = sym told ∙ all;
+        })
+        (λ some stored. contradiction (stored .words-fit) (sym told ∙ some))
+
+  -- a delayer has no h
+  none-beside : (op : Operator) → usesHeld op ≡ false → usesBeside op ≡ false
+  unfolding usesHeld usesBeside
+  none-beside (Limiter R) ring = refl
+  none-beside (Compactor m) ring = refl
+  none-beside (Expander m) ring = refl
+  none-beside (Filter R) ring = ring
+  none-beside (Delayer d) ring = refl
+
+  module _ (ring : usesHeld (x .operator) ≡ false) where
+    fields-ring : {used : Bool} → used ≡ false → (amount : ℕ) → storedFits used amount ≡ eqb amount 0
+    unfolding storedFits
+    fields-ring unused amount = pick-false _ _ _ unused
+
+    totals-ring : totalsFit x ≡ leb (ringHeld x) largestAmount
+    unfolding totalsFit
+    totals-ring = pick-false _ _ _ ring
+
+    pub fields-stand : (bitOr (x .held .0) (x .beside .0) ≡ 0 → ⊥) → false ≡ not (pathUnusable x words)
+    fields-stand some =
+        refused-unusable x words
+        (λ stored. some
+        (eqb-true _ 0
+        (or-clear (x .held .0) (x .beside .0)
+        ∙ ap₂ both (sym (fields-ring ring (x .held .0)) ∙ stored .held-fits) (sym (fields-ring (none-beside (x .operator) ring) (x .beside .0)) ∙ stored .beside-fits))))
+
+    pub ring-above : largestAmount < ringHeld x → false ≡ not (pathUnusable x words)
+    ring-above above = refused-unusable x words (λ stored. omega (arith, leb-true (ringHeld x) largestAmount (sym totals-ring ∙ stored .totals-fit)))
+
+    pub ring-told : bitOr (x .held .0) (x .beside .0) ≡ 0 → ringHeld x ≤ largestAmount
+        → {clear : Bool} → clear ≡ every (wordUnused (x .operator) words) wordCount → clear ≡ not (pathUnusable x words)
+    ring-told fields held {clear} tested =
+        let (first, second) = both-true (eqb (x .held .0) 0) (eqb (x .beside .0) 0) (sym (or-clear (x .held .0) (x .beside .0)) ∙ eq-eqb _ 0 fields) in
+        told-usable x words clear
+        (λ all. record {
+          sized = sized;
+          slot-left = left;
+          held-fits = fields-ring ring (x .held .0) ∙ first;
+          beside-fits = fields-ring (none-beside (x .operator) ring) (x .beside .0) ∙ second;
+          totals-fit = totals-ring ∙ le-leb (ringHeld x) largestAmount held;
+          words-fit = sym tested ∙ all;
+        })
+        (λ some stored. contradiction (stored .words-fit) (sym tested ∙ some))
 
 -- where a delayer's ring stands, it is usable while what is held is within the limit
 module _ (d : ℕ) (r s : Flow) (n : ℕ) (x : PathOperator) (words : List ℕ) (stands : RingStands d r s n x words) where
@@ -196,73 +316,115 @@ module _ (d : ℕ) (r s : Flow) (n : ℕ) (x : PathOperator) (words : List ℕ) 
         words-fit = every-holds (wordUnused (x .operator) words) wordCount (λ j below. ring-unused j);
       }
 
--- What a decision answers.
-
--- the state without its totals
-abbrev pub withoutTotals : PathOperator → SingleOperator
-withoutTotals x = record { operator = x .operator; slot = x .slot; held = x .held; beside = x .beside }
+-- What advancing answers.
 
 -- what is held, of an operator that is no delayer
-pub holds-apart : (x : PathOperator) (words : List ℕ) → usesHeld (x .operator) ≡ true
-    → _≡_ {A = Held} (record { b = pathHolds x words .b; h = x .beside .0; past = wordAt words }) (pathHolds x words)
+holds-apart : (x : PathOperator) (words : List ℕ) → usesHeld (x .operator) ≡ true
+    → _≡_ {A = Held} (record { b = x .held .0; h = x .beside .0; past = wordAt words }) (pathHolds x words)
 unfolding pathHolds
 holds-apart x words apart =
     sym
-    (ap (λ (t : Bool). record { b = pick (usesHeld (x .operator)) (x .held .0) (ringHeld x); h = x .beside .0; past = λ a. pick t (wordAt words a) (ringPast (wordsUsed (x .operator)) x words a) }) apart)
+    (ap (λ (t : Bool). record { b = pick t (x .held .0) (ringHeld x); h = x .beside .0; past = λ a. pick t (wordAt words a) (ringPast (wordsUsed (x .operator)) x words a) }) apart)
 
 module _ (x : PathOperator) (words : List ℕ) (input : ℕ) where
-  -- with b given beside the words
-  pub least-apart : (b : ℕ) → b ≡ pathHolds x words .b → usesHeld (x .operator) ≡ true
-      → leastOutput (x .operator) (x .slot .0) (record { b = b; h = x .beside .0; past = wordAt words }) input ≡ pathLeast x words input
-  unfolding pathLeast
-  least-apart b same apart =
-      ap (λ (n : ℕ). leastOutput (x .operator) (x .slot .0) (record { b = n; h = x .beside .0; past = wordAt words }) input) same
-      ∙ ap (λ (y : Held). leastOutput (x .operator) (x .slot .0) y input) (holds-apart x words apart)
-      ∙ sym (pick-true _ _ _ apart)
+  -- an operator that is no delayer goes by what its fields hold
+  module _ (apart : usesHeld (x .operator) ≡ true) where
+    least-apart : leastOutput (x .operator) (x .slot .0) (record { b = x .held .0; h = x .beside .0; past = wordAt words }) input ≡ pathLeast x words input
+    unfolding pathLeast
+    least-apart = ap (λ (y : Held). leastOutput (x .operator) (x .slot .0) y input) (holds-apart x words apart) ∙ sym (pick-true _ _ _ apart)
 
-  pub least-delayer : (b d : ℕ) → b ≡ pathHolds x words .b → d ≡ wordsUsed (x .operator) → usesHeld (x .operator) ≡ false → b - ringRecent d x words ≡ pathLeast x words input
-  unfolding pathLeast pathHolds
-  least-delayer b d same used ring = ap₂ (λ (n d : ℕ). n - ringRecent d x words) (same ∙ pick-false _ _ _ ring) used ∙ sym (pick-false _ _ _ ring)
+    greatest-apart : greatestOutput (x .operator) (x .slot .0) (record { b = x .held .0; h = x .beside .0; past = wordAt words }) input ≡ pathGreatest x words input
+    unfolding pathGreatest
+    greatest-apart = ap (λ (y : Held). greatestOutput (x .operator) (x .slot .0) y input) (holds-apart x words apart)
+
+    there-apart : x .held .0 + input ≡ pathHolds x words .b + input
+    there-apart = ap (λ (y : Held). y .b + input) (holds-apart x words apart)
+
+    beside-apart : (s : ℕ) → heldAfter (x .operator) (record { b = x .held .0; h = x .beside .0; past = wordAt words }) input s .h ≡ heldAfter (x .operator) (pathHolds x words) input s .h
+    beside-apart s = ap (λ (y : Held). heldAfter (x .operator) y input s .h) (holds-apart x words apart)
+
+  -- a delayer by its totals
+  module _ (ring : usesHeld (x .operator) ≡ false) where
+    pub least-ring : (d : ℕ) → d ≡ wordsUsed (x .operator) → ringHeld x - ringRecent d x words ≡ pathLeast x words input
+    unfolding pathLeast
+    least-ring d used = ap (λ (d : ℕ). ringHeld x - ringRecent d x words) used ∙ sym (pick-false _ _ _ ring)
+
+    pub there-ring : ringHeld x + input ≡ pathHolds x words .b + input
+    unfolding pathHolds
+    there-ring = ap (λ (b : ℕ). b + input) (sym (pick-false (usesHeld (x .operator)) (x .held .0) (ringHeld x) ring))
+
+  -- the tests
+  pub unready-unusable : pathUnusable x words ≡ true → pathUnready x words input ≡ true
+  unfolding pathUnready
+  unready-unusable test = either-first _ _ test
+
+  pub unready-outside : numberInRange (x .operator) ≡ false → pathUnready x words input ≡ true
+  unfolding pathUnready
+  unready-outside outside = either-second (pathUnusable x words) _ (either-first _ _ (ap not outside))
+
+  pub unready-input : mostOnTheWay < input → pathUnready x words input ≡ true
+  unfolding pathUnready
+  unready-input above = either-second (pathUnusable x words) _ (either-second (not (numberInRange (x .operator))) _ (either-first _ _ (lt-ltb mostOnTheWay input above)))
+
+  pub is-ready : pathUnusable x words ≡ false → numberInRange (x .operator) ≡ true → input ≤ mostOnTheWay → pathUnready x words input ≡ false
+  unfolding pathUnready
+  is-ready usable inside within =
+      either-none (pathUnusable x words) _ usable (either-none (not (numberInRange (x .operator))) _ (ap not inside) (either-none (ltb mostOnTheWay input) _ (le-ltb mostOnTheWay input within) refl))
+
+  -- by section 3, with the operator named
+  pub sends-within : (op : Operator) → x .operator ≡ op → usesHeld op ≡ true → pathUnready x words input ≡ false → {low high beside : ℕ}
+      → low ≡ leastOutput op (x .slot .0) (record { b = x .held .0; h = x .beside .0; past = wordAt words }) input
+      → high ≡ greatestOutput op (x .slot .0) (record { b = x .held .0; h = x .beside .0; past = wordAt words }) input
+      → ((s : ℕ) → beside ≡ heldAfter op (record { b = x .held .0; h = x .beside .0; past = wordAt words }) input s .h)
+      → SendsWithin x words input low high (x .held .0 + input) beside
+  sends-within op named apart ready low-same high-same beside-same =
+      let y : Held = record { b = x .held .0; h = x .beside .0; past = wordAt words } in
+      let uses : usesHeld (x .operator) ≡ true = ap usesHeld named ∙ apart in
+      record {
+        apart = uses;
+        ready = ready;
+        least = low-same ∙ ap (λ (o : Operator). leastOutput o (x .slot .0) y input) (sym named) ∙ least-apart uses;
+        greatest = high-same ∙ ap (λ (o : Operator). greatestOutput o (x .slot .0) y input) (sym named) ∙ greatest-apart uses;
+        all = there-apart uses;
+        holds = λ s. beside-same s ∙ ap (λ (o : Operator). heldAfter o y input s .h) (sym named) ∙ beside-apart uses s;
+      }
 
 module _ (x : PathOperator) (words : List ℕ) (input choice : ℕ) where
-  -- with b given beside the words
-  pub path-undecidable : {single : SingleOperator} (b : ℕ) → single ≡ withoutTotals x → b ≡ pathHolds x words .b → undecidable single words b input choice ≡ pathUndecidable x words input choice
-  unfolding undecidable pathUndecidable
-  path-undecidable b single-same b-same = ap₂ (λ (single : SingleOperator) (n : ℕ). undecidable single words n input choice) single-same b-same
+  pub advanced-unready : pathUnready x words input ≡ true → Advanced.Unusable ≡ advancedOf x words input choice
+  unfolding advancedOf
+  advanced-unready test = sym (pick-true _ _ _ test)
 
-  pub path-decidable : pathUndecidable x words input choice ≡ false → Decidable (withoutTotals x) words (pathHolds x words .b) input choice
-  path-decidable passed = decidable (withoutTotals x) words (pathHolds x words .b) input choice (path-undecidable (pathHolds x words .b) refl refl ∙ passed)
+  module _ (ready : pathUnready x words input ≡ false) (l g : ℕ) (low-same : l ≡ pathLeast x words input) (high-same : g ≡ pathGreatest x words input) where
+    choice-tested : pathChoiceAbove x words input choice ≡ ltb (g - l) choice
+    unfolding pathChoiceAbove
+    choice-tested = ap₂ (λ (l g : ℕ). ltb (g - l) choice) (sym low-same) (sym high-same)
 
-  pub path-decided-undecidable : pathUndecidable x words input choice ≡ true → Decided.Undecidable ≡ pathDecidedOf x words input choice
-  unfolding pathDecidedOf
-  path-decided-undecidable test = sym (pick-true _ _ _ test)
+    pub advanced-above : g - l < choice → Advanced.ChoiceAbove ≡ advancedOf x words input choice
+    unfolding advancedOf
+    advanced-above above = sym (pick-false _ _ _ ready ∙ pick-true _ _ _ (choice-tested ∙ lt-ltb (g - l) choice above))
 
-  module _ (passed : pathUndecidable x words input choice ≡ false) where
-    pub path-decided-outside : numberInRange (x .operator) ≡ false → Decided.OutOfRange ≡ pathDecidedOf x words input choice
-    unfolding pathDecidedOf
-    path-decided-outside outside = sym (pick-false _ _ _ passed ∙ pick-true _ _ _ (ap not outside))
+    pub advanced-sends : choice ≤ g - l → (kept h : ℕ) → kept ≡ pathHolds x words .b + input - (l + choice) → ((s : ℕ) → h ≡ heldAfter (x .operator) (pathHolds x words) input s .h)
+        → Advanced.Sends (record { 0 = l + choice }) (storable kept h) (pathAdvanced x input (l + choice) kept h) ≡ advancedOf x words input choice
+    unfolding advancedOf pathSent pathHoldsSent pathHoldsNext
+    advanced-sends below kept h kept-same h-same =
+        let s = pathSent x words input choice in
+        let output : l + choice ≡ s = ap (λ (l : ℕ). l + choice) low-same in
+        let stays : kept ≡ pathHoldsNext x words input s .b =
+        kept-same ∙ ap (λ (n : ℕ). pathHolds x words .b + input - n) output ∙ sym (after-b (x .operator) (pathHolds x words) input s)
+        in
+        rw (output, stays, h-same s) (sym (pick-false _ _ _ ready ∙ pick-false _ _ _ (choice-tested ∙ le-ltb (g - l) choice below)))
 
-    module _ (inside : numberInRange (x .operator) ≡ true) (l g : ℕ) (low-same : l ≡ pathLeast x words input)
-        (high-same : g ≡ greatestOutput (x .operator) (x .slot .0) (pathHolds x words) input) where
-      choice-tested : pathChoiceAbove x words input choice ≡ ltb (g - l) choice
-      unfolding pathChoiceAbove pathGreatest
-      choice-tested = ap₂ (λ (l g : ℕ). ltb (g - l) choice) (sym low-same) (sym high-same)
+-- the state then, of an operator that is no delayer, and of one
+module _ (x : PathOperator) (input output kept beside : ℕ) where
+  pub advanced-apart : usesHeld (x .operator) ≡ true
+      → record { operator = x .operator; slot = x .slot; held = record { 0 = kept }; beside = record { 0 = beside }; entered = 0; left = 0 } ≡ pathAdvanced x input output kept beside
+  unfolding pathAdvanced pathStateKept totalNext
+  advanced-apart apart = rw apart
 
-      pub path-decided-above : g - l < choice → Decided.ChoiceAbove ≡ pathDecidedOf x words input choice
-      unfolding pathDecidedOf
-      path-decided-above above =
-          sym (pick-false _ _ _ passed ∙ pick-false _ _ _ (ap not inside) ∙ pick-true _ _ _ (choice-tested ∙ lt-ltb (g - l) choice above))
-
-      pub path-decided-sends : choice ≤ g - l → (kept h : ℕ) → kept ≡ pathHolds x words .b + input - (l + choice) → ((s : ℕ) → h ≡ heldAfter (x .operator) (pathHolds x words) input s .h)
-          → Decided.Sends (record { 0 = l + choice }) (record { 0 = kept }) (record { 0 = h }) ≡ pathDecidedOf x words input choice
-      unfolding pathDecidedOf pathSent pathHoldsNext
-      path-decided-sends below kept h kept-same h-same =
-          let s = pathSent x words input choice in
-          let output : l + choice ≡ s = ap (λ (l : ℕ). l + choice) low-same in
-          let stays : kept ≡ pathHoldsNext x words input s .b =
-          kept-same ∙ ap (λ (n : ℕ). pathHolds x words .b + input - n) output ∙ sym (after-b (x .operator) (pathHolds x words) input s)
-          in
-          rw (output, stays, h-same s) (sym (pick-false _ _ _ passed ∙ pick-false _ _ _ (ap not inside) ∙ pick-false _ _ _ (choice-tested ∙ le-ltb (g - l) choice below)))
+  pub advanced-ring : usesHeld (x .operator) ≡ false
+      → record { operator = x .operator; slot = x .slot; held = record { 0 = 0 }; beside = record { 0 = beside }; entered = totalMore (x .entered) input; left = totalMore (x .left) output } ≡ pathAdvanced x input output kept beside
+  unfolding pathAdvanced pathStateKept totalNext
+  advanced-ring ring = rw ring
 
 -- What noting writes.
 

@@ -12,3 +12,4 @@ pub mod Whole
 pub mod Single
 pub mod Parts
 pub mod Ring
+pub mod Steps

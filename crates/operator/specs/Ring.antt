@@ -15,8 +15,8 @@ use Rattle.operator.specs.Operators.{leastOutput, greatestOutput, heldAf
 use Rattle.operator.specs.Single.{wordCount, wordsUsed, usesHeld, usesBeside}
 use Rattle.operator.specs.Parts.{mostOnTheWay}
 use Rattle.operator.specs.declared.Operator.{Operator}
-use Rattle.operator.specs.declared.parts.Decided.{Decided}
 use Rattle.operator.specs.declared.ring.PathOperator.{PathOperator}
+use Rattle.operator.specs.declared.ring.Advanced.{Advanced}
 
 -- 2^32
 abbrev pub wrap : ℕ
@@ -84,18 +84,6 @@ pathUnusable x words =
     ∷ not (every (wordUnused (x .operator) words) wordCount)
     ∷ [])
 
--- the words have a wrong length, no slot number is left, an amount is above its limit
-unfoldable pub pathUndecidable : PathOperator → List ℕ → ℕ → ℕ → Bool
-pathUndecidable x words input choice =
-    anyOf
-    (not (eqb (length words) wordCount)
-    ∷ ltb lastSlot (x .slot .0)
-    ∷ ltb largestAmount (pathHolds x words .b)
-    ∷ ltb largestAmount (x .beside .0)
-    ∷ ltb mostOnTheWay input
-    ∷ ltb largestAmount choice
-    ∷ [])
-
 -- what is sent: the least and the choice
 unfoldable pub pathSent : PathOperator → List ℕ → ℕ → ℕ → ℕ
 pathSent x words input choice = pathLeast x words input + choice
@@ -107,17 +95,6 @@ pathChoiceAbove x words input choice = ltb (pathGreatest x words input - pathLea
 -- what is held once s is sent
 unfoldable pub pathHoldsNext : PathOperator → List ℕ → ℕ → ℕ → Held
 pathHoldsNext x words input s = heldAfter (x .operator) (pathHolds x words) input s
-
--- Decide: what is sent, what stays and a filter's h then, whatever they are
-unfoldable pub pathDecidedOf : PathOperator → List ℕ → ℕ → ℕ → Decided
-pathDecidedOf x words input choice =
-    pick (pathUndecidable x words input choice) Decided.Undecidable
-    (pick (not (numberInRange (x .operator))) Decided.OutOfRange
-    (pick (pathChoiceAbove x words input choice) Decided.ChoiceAbove
-    (Decided.Sends
-    (record { 0 = pathSent x words input choice })
-    (record { 0 = pathHoldsNext x words input (pathSent x words input choice) .b })
-    (record { 0 = pathHoldsNext x words input (pathSent x words input choice) .h }))))
 
 -- a delayer's totals with the slot's input and output, wrapping; another operator has none
 unfoldable pub totalNext : Operator → ℕ → ℕ → ℕ
@@ -140,7 +117,7 @@ unfoldable pub ringWordNext : PathOperator → List ℕ → ℕ → ℕ → ℕ
 ringWordNext x words input j =
     pick (both (not (usesHeld (x .operator))) (eqb j (x .slot .0 % wordsUsed (x .operator)))) (totalMore (x .entered) input) (wordAt words j)
 
--- Advance: the state of the slot after, but for the slot, which is not counted yet
+-- the state of the slot after, but for the slot, which is not counted yet
 unfoldable pub pathAdvanced : PathOperator → ℕ → ℕ → ℕ → ℕ → PathOperator
 pathAdvanced x input output kept beside =
     record {
@@ -151,6 +128,28 @@ pathAdvanced x input output kept beside =
       entered = pathStateKept x input output kept beside .entered;
       left = pathStateKept x input output kept beside .left;
     }
+
+-- what an operator would store is within the limit
+unfoldable pub storable : ℕ → ℕ → Bool
+storable b h = both (leb b largestAmount) (leb h largestAmount)
+
+-- what is lent and stored cannot be used, the operator's number is out of its range, or more is on the way than there can be
+unfoldable pub pathUnready : PathOperator → List ℕ → ℕ → Bool
+pathUnready x words input = anyOf (pathUnusable x words ∷ not (numberInRange (x .operator)) ∷ ltb mostOnTheWay input ∷ [])
+
+-- what is held once the least and the choice are sent
+unfoldable pub pathHoldsSent : PathOperator → List ℕ → ℕ → ℕ → Held
+pathHoldsSent x words input choice = pathHoldsNext x words input (pathSent x words input choice)
+
+-- Advance: what is sent, whether what stays is within the limit, and the state then
+unfoldable pub advancedOf : PathOperator → List ℕ → ℕ → ℕ → Advanced
+advancedOf x words input choice =
+    pick (pathUnready x words input) Advanced.Unusable
+    (pick (pathChoiceAbove x words input choice) Advanced.ChoiceAbove
+    (Advanced.Sends
+    (record { 0 = pathSent x words input choice })
+    (storable (pathHoldsSent x words input choice .b) (pathHoldsSent x words input choice .h))
+    (pathAdvanced x input (pathSent x words input choice) (pathHoldsSent x words input choice .b) (pathHoldsSent x words input choice .h))))
 
 -- Note: a delayer's word t mod d becomes its total; where it has not 64 words or its number is out of its range, and of another operator, nothing is written
 unfoldable pub ringNoted : PathOperator → List ℕ → List ℕ

@@ -25,7 +25,7 @@ ghost use Rattle.operator.specs.Parts.{mostOnTheWay, storedOf, undecidab
 const WORDS: usize = 64;
 
 // What sixteen operators at the limit and an input can bring to an operator within a path.
-const ON_THE_WAY: u64 = 18_253_610_991;
+pub(crate) const ON_THE_WAY: u64 = 18_253_610_991;
 
 // Section 3's b, unless what is lent and stored cannot be used.
 pub enum Stored {
@@ -144,13 +144,7 @@ pub(crate) fn keep(
 }
 
 // Whether the words have a wrong length, no slot number is left, or an amount is above its limit.
-pub(crate) fn undecidable(
-    state: SingleOperator,
-    words: &[u32],
-    held: u64,
-    input: u64,
-    choice: u64,
-) -> bool
+fn undecidable(state: SingleOperator, words: &[u32], held: u64, input: u64, choice: u64) -> bool
     ensures { λ r. ⌜ r ≡ undecidable state (now (words .entry)) held input choice ⌝ }
 {
     if words::unfit(words.len(), WORDS, state.slot.0, held, state.beside.0) {
@@ -206,8 +200,8 @@ pub(crate) fn least(
     let there = held + input;
     match operator {
         Operator::Limiter(rate) => limiter_sends(there, rate.0),
-        Operator::Compactor(interval) => at_multiple(slot, interval.0, held),
-        Operator::Expander(interval) => at_multiple(slot + 1, interval.0, there),
+        Operator::Compactor(interval) => compactor_sends(slot, interval.0, held),
+        Operator::Expander(interval) => expander_least(slot, interval.0, there),
         Operator::Filter(rate) => less(there, limited(beside, input, rate.0)),
         Operator::Delayer(delay) => {
             let oldest = delay.0 as usize - 1;
@@ -229,6 +223,22 @@ pub(crate) fn greatest(operator: Operator, low: u64, there: u64) -> u64
     }
 }
 
+// What a compactor sends: what it held in a slot divisible by its interval, else nothing.
+pub(crate) fn compactor_sends(slot: u32, interval: u32, held: u64) -> u64
+    requires { ⌜ 0 < interval ⌝ }
+    ensures { λ r. ⌜ (r ≡ pick (eqb (slot % interval) 0) held 0) × (r ≤ held) ⌝ }
+{
+    at_multiple(slot, interval, held)
+}
+
+// The least output of an expander: all that is there in the last slot of a block, else nothing.
+pub(crate) fn expander_least(slot: u32, interval: u32, there: u64) -> u64
+    requires { ⌜ (0 < interval) × (slot ≤ lastSlot) ⌝ }
+    ensures { λ r. ⌜ (r ≡ pick (eqb ((slot + 1) % interval) 0) there 0) × (r ≤ there) ⌝ }
+{
+    at_multiple(slot + 1, interval, there)
+}
+
 // So many units in a slot divisible by the interval, else none.
 fn at_multiple(slot: u32, interval: u32, units: u64) -> u64
     requires { ⌜ 0 < interval ⌝ }
@@ -238,7 +248,7 @@ fn at_multiple(slot: u32, interval: u32, units: u64) -> u64
 }
 
 // A filter's h after a slot; no other operator has one.
-pub(crate) fn beside_after(operator: Operator, beside: u64, input: u64) -> u64
+fn beside_after(operator: Operator, beside: u64, input: u64) -> u64
     requires { ⌜ (beside ≤ largestAmount) × (input ≤ mostOnTheWay) ⌝ }
     ensures { λ r. ⌜ ((x : Held) → x .h ≡ beside → (s : ℕ) → r ≡ heldAfter operator x input s .h) ⌝ }
 {
@@ -252,14 +262,14 @@ pub(crate) fn beside_after(operator: Operator, beside: u64, input: u64) -> u64
 }
 
 // What a limiter holds after a slot.
-fn limited(held: u64, input: u64, rate: u32) -> u64
+pub(crate) fn limited(held: u64, input: u64, rate: u32) -> u64
     requires { ⌜ (held ≤ largestAmount) × (input ≤ mostOnTheWay) ⌝ }
     ensures { λ r. ⌜ r ≡ held + input - min (held + input) rate ⌝ }
 {
     held + input - limiter_sends(held + input, rate)
 }
 
-fn limiter_sends(there: u64, rate: u32) -> u64
+pub(crate) fn limiter_sends(there: u64, rate: u32) -> u64
     ensures { λ r. ⌜ r ≡ min there rate ⌝ }
 {
     smaller(there, rate as u64)
@@ -279,7 +289,7 @@ pub(crate) fn less(a: u64, b: u64) -> u64
 }
 
 // What the state's field has of the units kept.
-pub(crate) fn held_apart(operator: Operator, kept: u64) -> u64
+fn held_apart(operator: Operator, kept: u64) -> u64
     ensures { λ r. ⌜ r ≡ pick (usesHeld operator) kept 0 ⌝ }
 {
     if uses_held(operator) { kept } else { 0 }

@@ -2,30 +2,31 @@
 // A delayer's words are a ring: word t mod d is the total of the units that entered by the end of slot t, for the last d slots. A slot reads one of them and writes one.
 
 use crate::Operator;
-use crate::SingleOperator;
-use crate::parts::Decided;
-use crate::parts::beside_after;
-use crate::parts::greatest;
-use crate::parts::held_apart;
-use crate::parts::least;
+use crate::parts::ON_THE_WAY;
+use crate::parts::compactor_sends;
+use crate::parts::expander_least;
 use crate::parts::less;
-use crate::parts::undecidable;
+use crate::parts::limited;
+use crate::parts::limiter_sends;
 use crate::parts::uses_beside;
 use crate::parts::uses_held;
 use crate::parts::words_used;
+use quantity::Delay;
+use quantity::Interval;
+use quantity::Rate;
 use quantity::Slots;
 use quantity::Units;
 ghost use mathlib.Core.Path.{_≡_};
-ghost use mathlib.Core.Bool.{true, not};
-ghost use Prim.Native.Nat.{_+_, _%_, _≤_, _<_};
+ghost use mathlib.Core.Bool.{true, false, not};
+ghost use mathlib.Core.List.{List};
+ghost use Prim.Native.Nat.{ℕ, _≤_, _<_};
 ghost use lib.ListN.{length};
 ghost use Rattle.quantity.specs.Choice.{pick};
-ghost use Rattle.quantity.specs.Sums.{every};
 ghost use Rattle.quantity.specs.Limits.{largestAmount, lastSlot};
-ghost use Rattle.operator.specs.Operators.{numberInRange};
-ghost use Rattle.operator.specs.Single.{wordCount, usesHeld};
+ghost use Rattle.operator.specs.Single.{wordCount, wordsUsed, usesHeld, usesBeside};
 ghost use Rattle.operator.specs.Parts.{mostOnTheWay};
-ghost use Rattle.operator.specs.Ring.{totalMore, totalLess, ringHeld, ringRecent, pathHolds, pathLeast, wordUnused, totalsFit, pathUnusable, pathDecidedOf, totalNext, pathAdvanced, ringNoted};
+ghost use Rattle.operator.specs.Ring.{totalMore, totalLess, ringHeld, ringRecent, pathUnusable, storable, advancedOf, ringNoted};
+ghost use Rattle.operator.specs.Steps.{SendsWithin};
 
 // The words of an operator.
 const WORDS: usize = 64;
@@ -44,6 +45,17 @@ pub struct PathOperator {
     pub left: u32,
 }
 
+// What advancing answers: the output, whether what stays is within the limit, and the operator once it has sent, its slot not counted yet.
+pub enum Advanced {
+    Sends {
+        output: Units,
+        fits: bool,
+        next: PathOperator,
+    },
+    Unusable,
+    ChoiceAbove,
+}
+
 // Test: whether what is lent and stored can be used.
 pub fn usable(state: PathOperator, words: &[u32]) -> bool
     ensures { λ r. ⌜ r ≡ not (pathUnusable state (now (words .entry))) ⌝ }
@@ -55,63 +67,195 @@ pub fn usable(state: PathOperator, words: &[u32]) -> bool
         return false;
     }
     let operator = state.operator;
-    if !words::stored_fits(uses_held(operator), state.held.0) {
-        return false;
+    if uses_held(operator) {
+        apart_fits(state, most_beside(operator), words)
+    } else {
+        delayer_fits(state, words_used(operator), words)
     }
-    if !words::stored_fits(uses_beside(operator), state.beside.0) {
-        return false;
-    }
-    if !totals_fit(state) {
-        return false;
-    }
-    unused_clear(operator, words)
 }
 
-// Decide, on numbers: the output, what stays and a filter's h then, whatever they are. Of a delayer's words one is read, and none is tested.
-pub fn decide(state: PathOperator, words: &[u32], input: Units, choice: Units) -> Decided
-    ensures { λ r. ⌜ r ≡ pathDecidedOf state (now (words .entry)) (input .0) (choice .0) ⌝ }
+// Advance: what is lent and stored is tested, the output decided and sent, in one pass that asks once of which kind the operator is. Of a delayer's words one is read.
+pub fn advance(state: PathOperator, words: &[u32], input: Units, choice: Units) -> Advanced
+    ensures { λ r. ⌜ r ≡ advancedOf state (now (words .entry)) (input .0) (choice .0) ⌝ }
 {
-    let held = units_held(state);
-    if undecidable(alone(state), words, held, input.0, choice.0) {
-        return Decided::Undecidable;
+    if words.len() != WORDS {
+        return Advanced::Unusable;
+    }
+    if Slots::LAST < state.slot.0 {
+        return Advanced::Unusable;
+    }
+    if ON_THE_WAY < input.0 {
+        return Advanced::Unusable;
     }
     let operator = state.operator;
-    if !operator.number_in_range() {
-        return Decided::OutOfRange;
-    }
-    let there = held + input.0;
-    let low = path_least(state, words, held, input.0);
-    if less(greatest(operator, low, there), low) < choice.0 {
-        return Decided::ChoiceAbove;
-    }
-    let output = low + choice.0;
-    Decided::Sends {
-        output: Units(output),
-        kept: Units(less(there, output)),
-        beside: Units(beside_after(operator, state.beside.0, input.0)),
+    match operator {
+        Operator::Limiter(rate) => advance_limiter(state, rate, words, input.0, choice.0),
+        Operator::Compactor(interval) => {
+            advance_compactor(state, interval, words, input.0, choice.0)
+        }
+        Operator::Expander(interval) => {
+            advance_expander(state, interval, words, input.0, choice.0)
+        }
+        Operator::Filter(rate) => advance_filter(state, rate, words, input.0, choice.0),
+        Operator::Delayer(delay) => advance_delayer(state, delay, words, input.0, choice.0),
     }
 }
 
-// Advance: the operator once it has sent, its slot not counted yet. What is kept and stands beside may be anything.
-pub fn advance(
+fn advance_limiter(
     state: PathOperator,
-    input: Units,
-    output: Units,
-    kept: Units,
-    beside: Units,
-) -> PathOperator
-    ensures { λ r. ⌜ r ≡ pathAdvanced state (input .0) (output .0) (kept .0) (beside .0) ⌝ }
+    rate: Rate,
+    words: &[u32],
+    input: u64,
+    choice: u64,
+) -> Advanced
+    requires { ⌜ (length (now words) ≡ wordCount) × (state .slot .0 ≤ lastSlot) × (input ≤ mostOnTheWay) × (state .operator ≡ Operator.Limiter rate) ⌝ }
+    ensures { λ r. ⌜ r ≡ advancedOf state (now (words .entry)) input choice ⌝ }
 {
+    if !rate.in_range() {
+        return Advanced::Unusable;
+    }
+    if !apart_fits(state, 0, words) {
+        return Advanced::Unusable;
+    }
+    let there = state.held.0 + input;
+    let sent = limiter_sends(there, rate.0);
+    sends(state, sent, sent, there, 0, choice)
+}
+
+fn advance_compactor(
+    state: PathOperator,
+    interval: Interval,
+    words: &[u32],
+    input: u64,
+    choice: u64,
+) -> Advanced
+    requires { ⌜ (length (now words) ≡ wordCount) × (state .slot .0 ≤ lastSlot) × (input ≤ mostOnTheWay) × (state .operator ≡ Operator.Compactor interval) ⌝ }
+    ensures { λ r. ⌜ r ≡ advancedOf state (now (words .entry)) input choice ⌝ }
+{
+    if !interval.in_range() {
+        return Advanced::Unusable;
+    }
+    if !apart_fits(state, 0, words) {
+        return Advanced::Unusable;
+    }
+    let there = state.held.0 + input;
+    let sent = compactor_sends(state.slot.0, interval.0, state.held.0);
+    sends(state, sent, sent, there, 0, choice)
+}
+
+fn advance_expander(
+    state: PathOperator,
+    interval: Interval,
+    words: &[u32],
+    input: u64,
+    choice: u64,
+) -> Advanced
+    requires { ⌜ (length (now words) ≡ wordCount) × (state .slot .0 ≤ lastSlot) × (input ≤ mostOnTheWay) × (state .operator ≡ Operator.Expander interval) ⌝ }
+    ensures { λ r. ⌜ r ≡ advancedOf state (now (words .entry)) input choice ⌝ }
+{
+    if !interval.in_range() {
+        return Advanced::Unusable;
+    }
+    if !apart_fits(state, 0, words) {
+        return Advanced::Unusable;
+    }
+    let there = state.held.0 + input;
+    let low = expander_least(state.slot.0, interval.0, there);
+    sends(state, low, there, there, 0, choice)
+}
+
+fn advance_filter(
+    state: PathOperator,
+    rate: Rate,
+    words: &[u32],
+    input: u64,
+    choice: u64,
+) -> Advanced
+    requires { ⌜ (length (now words) ≡ wordCount) × (state .slot .0 ≤ lastSlot) × (input ≤ mostOnTheWay) × (state .operator ≡ Operator.Filter rate) ⌝ }
+    ensures { λ r. ⌜ r ≡ advancedOf state (now (words .entry)) input choice ⌝ }
+{
+    if !rate.in_range() {
+        return Advanced::Unusable;
+    }
+    if !apart_fits(state, Units::LARGEST, words) {
+        return Advanced::Unusable;
+    }
+    let there = state.held.0 + input;
+    let beside = limited(state.beside.0, input, rate.0);
+    sends(state, less(there, beside), there, there, beside, choice)
+}
+
+fn advance_delayer(
+    state: PathOperator,
+    delay: Delay,
+    words: &[u32],
+    input: u64,
+    choice: u64,
+) -> Advanced
+    requires { ⌜ (length (now words) ≡ wordCount) × (state .slot .0 ≤ lastSlot) × (input ≤ mostOnTheWay) × (state .operator ≡ Operator.Delayer delay) ⌝ }
+    ensures { λ r. ⌜ r ≡ advancedOf state (now (words .entry)) input choice ⌝ }
+{
+    if !delay.in_range() {
+        return Advanced::Unusable;
+    }
+    let used = delay.0 as usize;
+    if !delayer_fits(state, used, words) {
+        return Advanced::Unusable;
+    }
+    let held = total_less(state.entered, state.left) as u64;
+    let there = held + input;
+    let low = less(held, recent(state, words, used));
+    if there - low < choice {
+        return Advanced::ChoiceAbove;
+    }
+    let output = low + choice;
     let operator = state.operator;
     let slot = state.slot;
-    PathOperator {
-        operator,
-        slot,
-        held: Units(held_apart(operator, kept.0)),
-        beside,
-        entered: total_next(operator, state.entered, input.0),
-        left: total_next(operator, state.left, output.0),
+    Advanced::Sends {
+        output: Units(output),
+        fits: within(there - output, 0),
+        next: PathOperator {
+            operator,
+            slot,
+            held: Units(0),
+            beside: Units(0),
+            entered: total_more(state.entered, input),
+            left: total_more(state.left, output),
+        },
     }
+}
+
+// An operator that is no delayer sends the least and the choice, and keeps the rest. Its totals are 0.
+fn sends(state: PathOperator, low: u64, high: u64, there: u64, beside: u64, choice: u64) -> Advanced
+    requires { ⌜ (low ≤ high) × (high ≤ there) ⌝ }
+    ensures { λ r. ⌜ ((words : List ℕ) (input : ℕ) → SendsWithin state words input low high there beside → r ≡ advancedOf state words input choice) ⌝ }
+{
+    if high - low < choice {
+        return Advanced::ChoiceAbove;
+    }
+    let output = low + choice;
+    let kept = there - output;
+    let operator = state.operator;
+    let slot = state.slot;
+    Advanced::Sends {
+        output: Units(output),
+        fits: within(kept, beside),
+        next: PathOperator {
+            operator,
+            slot,
+            held: Units(kept),
+            beside: Units(beside),
+            entered: 0,
+            left: 0,
+        },
+    }
+}
+
+// Whether what an operator would store is within the limit.
+fn within(kept: u64, beside: u64) -> bool
+    ensures { λ r. ⌜ r ≡ storable kept beside ⌝ }
+{
+    kept <= Units::LARGEST && beside <= Units::LARGEST
 }
 
 // Note: a delayer's word t mod d becomes the total of what entered. No word of another operator changes, nor one where a test fails.
@@ -151,62 +295,49 @@ fn units_held(state: PathOperator) -> u64
     }
 }
 
-// Whether a delayer's totals hold no more than the limit, and those of any other operator are 0.
-fn totals_fit(state: PathOperator) -> bool
-    ensures { λ r. ⌜ r ≡ totalsFit state ⌝ }
+// Whether an operator that is no delayer holds no more than the limit, its h is at most so much, and its totals and words are 0.
+fn apart_fits(state: PathOperator, most: u64, words: &[u32]) -> bool
+    requires { ⌜ (length (now words) ≡ wordCount) × (state .slot .0 ≤ lastSlot) × (usesHeld (state .operator) ≡ true) × (most ≡ pick (usesBeside (state .operator)) largestAmount 0) ⌝ }
+    ensures { λ r. ⌜ r ≡ not (pathUnusable state (now (words .entry))) ⌝ }
 {
-    let operator = state.operator;
-    if !uses_held(operator) {
-        return total_less(state.entered, state.left) as u64 <= Units::LARGEST;
-    }
-    if state.entered != 0 {
+    if Units::LARGEST < state.held.0 {
         return false;
     }
-    state.left == 0
+    if most < state.beside.0 {
+        return false;
+    }
+    if state.entered | state.left != 0 {
+        return false;
+    }
+    words::row_clear(words)
 }
 
-// Whether the words behind those that a delayer uses are 0, and all of an operator that is none.
-fn unused_clear(operator: Operator, words: &[u32]) -> bool
-    requires { ⌜ length (now words) ≡ wordCount ⌝ }
-    ensures { λ r. ⌜ r ≡ every (wordUnused operator (now (words .entry))) wordCount ⌝ }
+// The most that stands beside an operator: a filter's h is an amount, any other operator has 0 there.
+fn most_beside(operator: Operator) -> u64
+    ensures { λ r. ⌜ r ≡ pick (usesBeside operator) largestAmount 0 ⌝ }
 {
-    if uses_held(operator) {
-        return words::row_clear(words);
+    if uses_beside(operator) {
+        Units::LARGEST
+    } else {
+        0
     }
-    let used = words_used(operator);
+}
+
+// Whether a delayer's totals leave no more than the limit, and its fields and the words behind its ring are 0.
+fn delayer_fits(state: PathOperator, used: usize, words: &[u32]) -> bool
+    requires { ⌜ (length (now words) ≡ wordCount) × (state .slot .0 ≤ lastSlot) × (usesHeld (state .operator) ≡ false) × (used ≡ wordsUsed (state .operator)) ⌝ }
+    ensures { λ r. ⌜ r ≡ not (pathUnusable state (now (words .entry))) ⌝ }
+{
+    if state.held.0 | state.beside.0 != 0 {
+        return false;
+    }
+    if Units::LARGEST < total_less(state.entered, state.left) as u64 {
+        return false;
+    }
     if WORDS <= used {
         return true;
     }
     words::row_clear(&words[used..])
-}
-
-// The state without its totals: a single operator's.
-fn alone(state: PathOperator) -> SingleOperator
-    ensures { λ r. ⌜ r ≡ record { operator = state .operator; slot = state .slot; held = state .held; beside = state .beside } ⌝ }
-{
-    let operator = state.operator;
-    let slot = state.slot;
-    let held = state.held;
-    let beside = state.beside;
-    SingleOperator {
-        operator,
-        slot,
-        held,
-        beside,
-    }
-}
-
-// The least output: a delayer's is what it holds less what entered after slot t − d.
-fn path_least(state: PathOperator, words: &[u32], held: u64, input: u64) -> u64
-    requires { ⌜ (numberInRange (state .operator) ≡ true) × (length (now words) ≡ wordCount) × (state .slot .0 ≤ lastSlot) ⌝ }
-    requires { ⌜ (held ≡ pathHolds state (now words) .b) × (held ≤ largestAmount) × (state .beside .0 ≤ largestAmount) × (input ≤ mostOnTheWay) ⌝ }
-    ensures { λ r. ⌜ (r ≡ pathLeast state (now (words .entry)) input) × (r ≤ mostOnTheWay + largestAmount) ⌝ }
-{
-    let operator = state.operator;
-    if uses_held(operator) {
-        return least(operator, state.slot.0, held, state.beside.0, input, words);
-    }
-    less(held, recent(state, words, words_used(operator)))
 }
 
 // What entered after slot t − d, as the one word of the ring that slot t − d left tells.
@@ -216,17 +347,6 @@ fn recent(state: PathOperator, words: &[u32], delay: usize) -> u64
 {
     let at = state.slot.0 as usize % delay;
     total_less(state.entered, words[at]) as u64
-}
-
-// A delayer's total after the slot; another operator has none.
-fn total_next(operator: Operator, total: u32, units: u64) -> u32
-    ensures { λ r. ⌜ r ≡ totalNext operator total units ⌝ }
-{
-    if uses_held(operator) {
-        0
-    } else {
-        total_more(total, units)
-    }
 }
 
 // A total and so many units more, wrapping.

@@ -13,8 +13,8 @@ pub mod ByAge
 pub mod Taking
 mod Writing
 mod UpTo
-mod DecideLaws
 mod TestLaws
+mod MovingLaws
 mod WatchLaws
 mod OpeningLaws
 mod WithPart

@@ -1,26 +1,24 @@
--- What the parts of an operator within a path answer where what is stored can be used: what it holds is within the limit, and what is decided goes by the choice alone.
-use mathlib.Core.Path.{_≡_, refl, ap, sym, _∙_}
-use mathlib.Core.Bool.{Bool, true, false, not}
+-- What an operator within a path may send is there, what it holds is within the limit where it can be used, and what advancing answers tells of its tests.
+use mathlib.Core.Path.{_≡_, refl, sym, _∙_}
+use mathlib.Core.Bool.{Bool, true, false}
 use mathlib.Core.List.{List}
 use Prim.Native.Nat.{ℕ, _+_, _-_, _≤_}
 use native.Mathlib.Omega.{arith}
-use lib.ListN.{length}
-use lib.Dec.{ltb, eqb}
-use borrow.Author.Tests.{leb-true, ltb-false, le-ltb, eq-eqb}
+use borrow.Author.Tests.{leb-true, ltb-false}
 use Rattle.quantity.specs.Choice.{pick}
-use Rattle.quantity.specs.Limits.{largestAmount, lastSlot}
-use Rattle.quantity.proofs.Laws.{pick-true, pick-false, either-none}
+use Rattle.quantity.specs.Limits.{largestAmount}
+use Rattle.quantity.specs.declared.Units.{Units}
+use Rattle.quantity.proofs.Laws.{pick-true, pick-false}
 use Rattle.words.proofs.StoredLaws.{stored-le}
 use Rattle.operator.specs.Held.{Held}
-use Rattle.operator.specs.Operators.{leastOutput, greatestOutput, numberInRange}
+use Rattle.operator.specs.Operators.{leastOutput, greatestOutput}
 use Rattle.operator.specs.Whole.{Whole}
-use Rattle.operator.specs.Single.{wordCount, wordsUsed, usesHeld}
-use Rattle.operator.specs.Parts.{mostOnTheWay}
-use Rattle.operator.specs.Ring.{ringHeld, ringRecent, pathHolds, pathLeast, pathGreatest, totalsFit, pathUndecidable, pathSent, pathChoiceAbove, pathHoldsNext, pathDecidedOf}
+use Rattle.operator.specs.Single.{wordsUsed, usesHeld}
+use Rattle.operator.specs.Ring.{ringHeld, ringRecent, pathHolds, pathLeast, pathGreatest, totalsFit, pathSent, pathChoiceAbove, storable, pathAdvanced, pathUnready, pathHoldsSent, advancedOf}
 use Rattle.operator.specs.declared.Operator.{Operator}
 use Rattle.operator.specs.declared.Operator.the-variants.{Limiter, Compactor, Expander, Filter, Delayer}
-use Rattle.operator.specs.declared.parts.Decided.{Decided}
 use Rattle.operator.specs.declared.ring.PathOperator.{PathOperator}
+use Rattle.operator.specs.declared.ring.Advanced.{Advanced}
 use Rattle.operator.proofs.Laws.{greatest-le-there, least-le-greatest}
 use Rattle.operator.proofs.RingLaws.{PathUsable}
 
@@ -86,25 +84,51 @@ module _ (x : PathOperator) (words : List ℕ) (stored : PathUsable x words) whe
       by-use true apart = stored-le _ _ (stored .held-fits)
       by-use false ring = leb-true (ringHeld x) largestAmount (sym (pick-false _ _ _ ring) ∙ stored .totals-fit)
 
-  path-beside-le : x .beside .0 ≤ largestAmount
-  path-beside-le = stored-le _ _ (stored .beside-fits)
+-- What advancing tells.
 
-  module _ (inside : numberInRange (x .operator) ≡ true) where
-    -- what is decided goes by the choice alone
-    pub path-decided-next : (input choice : ℕ) → input ≤ mostOnTheWay → choice ≤ largestAmount
-        → pathDecidedOf x words input choice
-        ≡ pick (pathChoiceAbove x words input choice) Decided.ChoiceAbove
-        (Decided.Sends
-        (record { 0 = pathSent x words input choice })
-        (record { 0 = pathHoldsNext x words input (pathSent x words input choice) .b })
-        (record { 0 = pathHoldsNext x words input (pathSent x words input choice) .h }))
-    unfolding pathDecidedOf pathUndecidable
-    path-decided-next input choice within fits =
-        pick-false _ _ _
-        (either-none (not (eqb (length words) wordCount)) _ (ap not (eq-eqb (length words) wordCount (stored .sized)))
-        (either-none (ltb lastSlot (x .slot .0)) _ (le-ltb lastSlot (x .slot .0) (stored .slot-left))
-        (either-none (ltb largestAmount (pathHolds x words .b)) _ (le-ltb largestAmount _ path-b-le)
-        (either-none (ltb largestAmount (x .beside .0)) _ (le-ltb largestAmount _ path-beside-le)
-        (either-none (ltb mostOnTheWay input) _ (le-ltb mostOnTheWay input within)
-        (either-none (ltb largestAmount choice) _ (le-ltb largestAmount choice fits) refl))))))
-        ∙ pick-false _ _ _ (ap not inside)
+module _ (x : PathOperator) (words : List ℕ) (input choice : ℕ) where
+  -- an operator that sends
+  pub record Sending (output : Units) (fits : Bool) (next : PathOperator) : Type 0 where
+    pub ready : pathUnready x words input ≡ false
+    pub below : pathChoiceAbove x words input choice ≡ false
+    pub sent : output ≡ record { 0 = pathSent x words input choice }
+    pub stored : fits ≡ storable (pathHoldsSent x words input choice .b) (pathHoldsSent x words input choice .h)
+    pub advanced : next ≡ pathAdvanced x input (pathSent x words input choice) (pathHoldsSent x words input choice .b) (pathHoldsSent x words input choice .h)
+
+  pub sends-told : {output : Units} {fits : Bool} {next : PathOperator} → Advanced.Sends output fits next ≡ advancedOf x words input choice → Sending output fits next
+  unfolding advancedOf
+  sends-told {output} {fits} {next} told = by-tests (pathUnready x words input) (pathChoiceAbove x words input choice) refl refl told
+    where
+      by-tests : (t u : Bool) → pathUnready x words input ≡ t → pathChoiceAbove x words input choice ≡ u
+          → Advanced.Sends output fits next
+          ≡ pick t Advanced.Unusable
+          (pick u Advanced.ChoiceAbove
+          (Advanced.Sends
+          (record { 0 = pathSent x words input choice })
+          (storable (pathHoldsSent x words input choice .b) (pathHoldsSent x words input choice .h))
+          (pathAdvanced x input (pathSent x words input choice) (pathHoldsSent x words input choice .b) (pathHoldsSent x words input choice .h))))
+          → Sending output fits next
+      by-tests true u e f same = absurd (let z : _≡_ {A = ℕ} 0 1 = cc in omega arith)
+      by-tests false true e f same = absurd (let z : _≡_ {A = ℕ} 0 1 = cc in omega arith)
+      by-tests false false e f same = record { ready = e; below = f; sent = cc; stored = cc; advanced = cc }
+
+  pub above-told : Advanced.ChoiceAbove ≡ advancedOf x words input choice → (pathUnready x words input ≡ false) × (pathChoiceAbove x words input choice ≡ true)
+  unfolding advancedOf
+  above-told told = by-tests (pathUnready x words input) (pathChoiceAbove x words input choice) refl refl _ _ _ told
+    where
+      by-tests : (t u : Bool) → pathUnready x words input ≡ t → pathChoiceAbove x words input choice ≡ u
+          → (output : Units) (fits : Bool) (next : PathOperator) → Advanced.ChoiceAbove ≡ pick t Advanced.Unusable (pick u Advanced.ChoiceAbove (Advanced.Sends output fits next))
+          → (pathUnready x words input ≡ false) × (pathChoiceAbove x words input choice ≡ true)
+      by-tests true u e f output fits next same = absurd (let z : _≡_ {A = ℕ} 0 1 = cc in omega arith)
+      by-tests false true e f output fits next same = (e, f)
+      by-tests false false e f output fits next same = absurd (let z : _≡_ {A = ℕ} 0 1 = cc in omega arith)
+
+  pub unusable-told : Advanced.Unusable ≡ advancedOf x words input choice → pathUnready x words input ≡ true
+  unfolding advancedOf
+  unusable-told told = by-tests (pathUnready x words input) (pathChoiceAbove x words input choice) refl _ _ _ told
+    where
+      by-tests : (t u : Bool) → pathUnready x words input ≡ t
+          → (output : Units) (fits : Bool) (next : PathOperator) → Advanced.Unusable ≡ pick t Advanced.Unusable (pick u Advanced.ChoiceAbove (Advanced.Sends output fits next)) → pathUnready x words input ≡ true
+      by-tests true u e output fits next same = e
+      by-tests false true e output fits next same = absurd (let z : _≡_ {A = ℕ} 0 1 = cc in omega arith)
+      by-tests false false e output fits next same = absurd (let z : _≡_ {A = ℕ} 0 1 = cc in omega arith)

@@ -2,31 +2,38 @@
 use mathlib.Core.Path.{_≡_, refl, ap, ap₂, sym, _∙_, fun-ext}
 use mathlib.Core.Bool.{Bool, true, false, not}
 use mathlib.Core.List.{List}
-use mathlib.Core.Logic.{inl, inr}
+use mathlib.Core.Logic.{_⊎_, inl, inr, ⊎-elim}
 use Prim.Native.Nat.{ℕ, _≤_, _<_}
+use native.Mathlib.Decide.{decLt}
 use native.Mathlib.Omega.{arith}
 use lib.Dec.{leb, ltb}
-use lib.ListN.{length}
-use borrow.Author.Tests.{lt-ltb, le-ltb, eq-eqb, ne-eqb}
-use Rattle.quantity.specs.Choice.{pick, both}
-use Rattle.quantity.specs.Limits.{largestAmount}
+use lib.ListN.{length, getD}
+use borrow.Author.Tests.{ltb-true, ltb-false, lt-ltb, le-ltb, le-leb, lt-leb, eq-eqb, ne-eqb, not-true, not-false}
+use Rattle.quantity.specs.Choice.{pick, both, either}
+use Rattle.quantity.specs.Limits.{largestAmount, mostOperators}
 use Rattle.quantity.specs.Sums.{every, listOf}
-use Rattle.quantity.specs.Refusals.{Case}
 use Rattle.quantity.specs.declared.Units.{Units}
 use Rattle.quantity.specs.declared.refusal.Refusal.{Refusal}
-use Rattle.quantity.specs.declared.refusal.Refusal.the-variants.{Unusable, InputBreaksDeclaration}
-use Rattle.quantity.proofs.Refusals.{NoneStands, firstOf-none, FirstIs, first-answered}
+use Rattle.quantity.specs.declared.refusal.Refusal.the-variants.{Unusable, InputBreaksDeclaration, ChoiceAboveGreatest}
+use Rattle.quantity.proofs.Laws.{pick-true, pick-false, either-first}
+use Rattle.quantity.proofs.Sums.{both-true, every-same, listOf-ext}
+use Rattle.quantity.proofs.Refusals.{NoneStands, FirstIs}
 use Rattle.meter.proofs.PartsLaws.{within-breaks}
-use Rattle.run.proofs.UsableRun.{usable-run}
+use Rattle.sheet.specs.declared.read.Verdict.{Verdict}
+use Rattle.run.specs.declared.Stage.{Stage}
 use Rattle.run.specs.declared.Run.{Run}
 use Rattle.run.specs.declared.slot.Outcome.{Outcome}
 use Rattle.run.specs.declared.slot.Slotted.{Slotted}
-use Rattle.run.specs.declared.test.Tested.{Tested}
-use Rattle.run.specs.Calls.{Call, choiceFor, choicesMiscounted, amountTooLarge}
-use Rattle.run.specs.Runs.{runWordCount, meterWords, meterIn, runUnusable}
-use Rattle.run.specs.Slots.{slotBreaks, slotCases, slotOutput, wordNext, refusedSlot, takenSlot, slottedOf, wordsSlotted}
-use Rattle.run.specs.Steps.{notTested, belowIn, testedOf, runAdvanced, runWritten, wordWritten, decisionCases, tookOf, wordsTook}
-use Rattle.run.proofs.SlotAnswers.{slot-refused, words-refused}
+use Rattle.run.specs.declared.stages.Progress.{Progress}
+use Rattle.run.specs.declared.test.Begun.{Begun}
+use Rattle.run.specs.Calls.{Call, choiceFor, choicesMiscounted, amountTooLarge, callOf}
+use Rattle.run.specs.Runs.{runWordCount, meterWords, noStage, stageAt, meterIn, stageFits, runUnusable}
+use Rattle.run.specs.Slots.{slotBreaks, slotCases, slotOutput, stageNext, refusedSlot, takenSlot, slottedOf, wordsSlotted}
+use Rattle.run.specs.Steps.{stageEmpty, emptyBehind, belowIn, notBegun, meterBegunOf, begunOf, behindClear, judgedOf, outcomeOf, runAdvanced, runWritten, wordWritten, decisionCases}
+use Rattle.run.proofs.UsableRun.{MeterFits}
+use Rattle.run.proofs.TestLaws.{stages-told, usable-told}
+use Rattle.run.proofs.MovingLaws.{Ready, Begins, begun-or-not, Passing, Moving, standing-decided, unusable-decided, none-decided}
+use Rattle.run.proofs.SlotAnswers.{slot-refused, words-refused, slot-taken, words-taken}
 use Rattle.run.proofs.Writing.{run-written, word-written}
 
 never : _≡_ {A = Bool} true false → ⊥
@@ -59,7 +66,7 @@ module _ (operators : ℕ) (call : Call) where
         not-not true = refl
         not-not false = refl
 
-  pub arguments-pass : {fit : Bool} → Fit fit → fit ≡ true → (choicesMiscounted operators call ≡ false) × (amountTooLarge call ≡ false)
+  arguments-pass : {fit : Bool} → Fit fit → fit ≡ true → (choicesMiscounted operators call ≡ false) × (amountTooLarge call ≡ false)
   arguments-pass tested passed = by-tests (choicesMiscounted operators call) (amountTooLarge call) (sym tested ∙ passed)
     where
       by-tests : (a b : Bool) → both (not a) (not b) ≡ true → (a ≡ false) × (b ≡ false)
@@ -67,29 +74,161 @@ module _ (operators : ℕ) (call : Call) where
       by-tests false true e = (refl, sym e)
       by-tests true b e = absurd (never (sym e))
 
--- What was tested.
+-- what is begun goes by them
+module _ (run : Run) (words : List ℕ) (call : Call) {fit : Bool} (tested : Fit (run .count) call fit) where
+  pub begun-unfit : fit ≡ false → {begun : Begun} → begun ≡ notBegun → begun ≡ begunOf run words call
+  unfolding begunOf
+  begun-unfit unfit made = made ∙ sym (pick-true _ _ _ (by-tests (choicesMiscounted (run .count) call) (amountTooLarge call) (sym tested ∙ unfit)))
+    where
+      by-tests : (a b : Bool) → both (not a) (not b) ≡ false → either a b ≡ true
+      by-tests true b e = refl
+      by-tests false true e = refl
+      by-tests false false e = sym e
 
-module _ (run : Run) (words : List ℕ) where
-  abbrev passing : Tested
-  passing = record { usable = true; below = record { 0 = belowIn run words } }
+  pub begun-fit : fit ≡ true → {begun : Begun} → begun ≡ meterBegunOf run words → begun ≡ begunOf run words call
+  unfolding begunOf
+  begun-fit passed made =
+      let (counted, small) = arguments-pass (run .count) call tested passed in
+      made ∙ sym (ap₂ (λ (a b : Bool). pick (either a b) notBegun (meterBegunOf run words)) counted small)
 
-  module _ {tested : Tested} (found : tested ≡ testedOf run words) where
-    pub stored-fails : tested .usable ≡ false → runUnusable run words ≡ true
-    unfolding testedOf
-    stored-fails unfit = by-test (runUnusable run words) found
+-- What is decided.
+
+-- the slot is refused by the first case that stands
+pub record Refusing (run : Run) (words : List ℕ) (call : Call) (verdict : Verdict) : Type 0 where
+  pub why : Refusal
+  pub refused : verdict ≡ Verdict.Refused why
+  pub first : FirstIs (slotCases run words call) why
+
+-- or none stands, and all operators have sent
+pub record Taking (run : Run) (words : List ℕ) (call : Call) (verdict : Verdict) (count : ℕ) (p : Progress) (stages : List Stage) : Type 0 where
+  pub operators : count ≡ run .count
+  pub fits : MeterFits run words
+  pub accepted : verdict ≡ Verdict.Accepted
+  pub none : NoneStands (slotCases run words call)
+  pub sent : p .arriving .0 ≡ slotOutput run words call
+  pub stages-next : stages ≡ runAdvanced run words call .stages
+
+module _ (run : Run) (words : List ℕ) (input : Units) (choices : List ℕ) {begun : Begun} (same : begun ≡ begunOf run words (callOf input choices))
+    {p : Progress} {stages : List Stage} (moved : Moving run words (callOf input choices) (begun .count) (begun .count) p stages) where
+  abbrev call : Call
+  call = callOf input choices
+
+  -- what the tests of all stages and words come to
+  abbrev Told : Bool → Type 0
+  Told usable = usable ≡ both (both (p .usable) (every (emptyBehind (begun .count) stages) mostOperators)) (behindClear (begun .count) words)
+
+  abbrev Judged : Verdict → Type 0
+  Judged verdict = Refusing run words call verdict ⊎ Taking run words call verdict (begun .count) p stages
+
+  -- nothing is begun
+  none-begun : (begun .count ≡ 0) × FirstIs (slotCases run words call) Unusable → {usable : Bool} → Told usable → (below : ℕ) {verdict : Verdict} → verdict ≡ judgedOf usable below (input .0) p → Judged verdict
+  unfolding judgedOf
+  none-begun none told below judged =
+      let unusable : p .usable ≡ false = moved .tells ∙ ap (λ (n : ℕ). both (ltb 0 n) (every (stageFits run words) (begun .count))) (none .0) in
+      let tested = told ∙ ap (λ (t : Bool). both (both t (every (emptyBehind (begun .count) stages) mostOperators)) (behindClear (begun .count) words)) unusable in
+      inl (record { why = Unusable; refused = judged ∙ pick-true _ _ _ (ap not tested); first = none .1 })
+
+  module _ (begins : Begins run words input choices begun) where
+    ready : Ready run words input choices
+    ready = begins .ready
+
+    fits : MeterFits run words
+    fits = ready .fits
+
+    moving : Moving run words call (run .count) (run .count) p stages
+    moving = rw (begins .count) at moved
+
+    -- the stages behind are the run's
+    behind-same : every (emptyBehind (begun .count) stages) mostOperators ≡ every (emptyBehind (run .count) (run .stages)) mostOperators
+    unfolding emptyBehind stageAt
+    behind-same =
+        rw (begins .count)
+        (every-same (emptyBehind (run .count) stages) (emptyBehind (run .count) (run .stages)) mostOperators
+        (λ k less. elim (decLt k (run .count)) [
+          | yes named ↦ either-first _ _ (lt-ltb k (run .count) named) ∙ sym (either-first _ _ (lt-ltb k (run .count) named))
+          | no behind ↦ ap (λ (stage : Stage). either (ltb k (run .count)) (stageEmpty stage)) (moving .later k (omega arith))
+        ]))
+
+    named-told : p .usable ≡ every (stageFits run words) (run .count)
+    named-told = moving .tells ∙ ap (λ (t : Bool). both t (every (stageFits run words) (run .count))) (lt-ltb 0 (run .count) (omega (arith, fits .some)))
+
+    -- so the tests tell whether the run can be used
+    run-told : {usable : Bool} → Told usable → usable ≡ not (runUnusable run words)
+    run-told told =
+        told
+        ∙ ap₂ both (ap₂ both named-told behind-same) (ap (λ (n : ℕ). behindClear n words) (begins .count))
+        ∙ stages-told run words fits
+        ∙ usable-told run words fits
+
+    breaks-told : not (ltb (input .0) (begun .below .0)) ≡ slotBreaks run words call
+    unfolding belowIn slotBreaks meterIn
+    breaks-told = rw (begins .below) (within-breaks (meterIn run) (meterWords words) (input .0) (fits .declared))
+
+    stood : (why : Refusal) → (ready : Ready run words input choices) → runUnusable run words ≡ false → slotBreaks run words call ≡ false → FirstIs (decisionCases run words call) why → FirstIs (slotCases run words call) why
+    stood why ready usable keeps first = inr (ready .miscounted, inr (ready .large, inr (usable, inr (keeps, first))))
+
+    -- behind all tests
+    decided : runUnusable run words ≡ false → slotBreaks run words call ≡ false → p .usable ≡ true → {verdict : Verdict}
+        → verdict ≡ pick (ltb (p .above) mostOperators) (Verdict.Refused (ChoiceAboveGreatest (p .above))) (pick (not (p .fits)) (Verdict.Refused Unusable) Verdict.Accepted) → Judged verdict
+    unfolding runAdvanced
+    decided usable keeps all {verdict} judged =
+        ⊎-elim
+        (λ passing. by-fits passing (p .fits) refl (judged ∙ pick-false _ _ _ (le-ltb (p .above) mostOperators (omega (arith, passing .none-above)))))
+        (λ standing.
+        let early = standing .before in
+        let few = fits .few in
+        inl (record {
+          why = ChoiceAboveGreatest (p .above);
+          refused = judged ∙ pick-true _ _ _ (lt-ltb (p .above) mostOperators (omega arith));
+          first = stood _ ready usable keeps (standing-decided run words call standing);
+        }))
+        (moving .goes all)
       where
-        by-test : (t : Bool) → tested ≡ pick t notTested passing → t ≡ true
-        by-test true same = refl
-        by-test false same = absurd (never (sym (ap (λ (t : Tested). t .usable) same) ∙ unfit))
+        by-fits : Passing run words call (run .count) p stages → (t : Bool) → p .fits ≡ t → verdict ≡ pick (not (p .fits)) (Verdict.Refused Unusable) Verdict.Accepted → Judged verdict
+        by-fits passing false misfits made =
+            inl (record { why = Unusable; refused = made ∙ pick-true _ _ _ (ap not misfits); first = stood _ ready usable keeps (unusable-decided run words call passing misfits) })
+        by-fits passing true fit made =
+            inr (record {
+              operators = begins .count;
+              fits = fits;
+              accepted = made ∙ pick-false _ _ _ (ap not fit);
+              none = (ready .miscounted, (ready .large, (usable, (keeps, none-decided run words call passing fit))));
+              sent = passing .arrives;
+              stages-next = listOf-ext noStage _ mostOperators stages (moving .long) (λ i less. stage-next passing i (ltb i (run .count)) refl);
+            })
+          where
+            stage-next : Passing run words call (run .count) p stages → (i : ℕ) (t : Bool) → ltb i (run .count) ≡ t → getD stages i noStage ≡ pick t (stageNext run words call i) (stageAt run i)
+            stage-next passing i true e = passing .advanced i (ltb-true i (run .count) e)
+            stage-next passing i false e = moving .later i (ltb-false i (run .count) e)
 
-    pub stored-passes : tested .usable ≡ true → (runUnusable run words ≡ false) × (tested .below .0 ≡ belowIn run words)
-    unfolding testedOf
-    stored-passes fit = by-test (runUnusable run words) refl found
+    some-begun : {usable : Bool} → Told usable → {verdict : Verdict} → verdict ≡ judgedOf usable (begun .below .0) (input .0) p → Judged verdict
+    unfolding judgedOf
+    some-begun {usable} told {verdict} judged = by-usable usable refl
       where
-        by-test : (t : Bool) → runUnusable run words ≡ t → tested ≡ pick t notTested passing
-            → (runUnusable run words ≡ false) × (tested .below .0 ≡ belowIn run words)
-        by-test true e same = absurd (never (sym fit ∙ ap (λ (t : Tested). t .usable) same))
-        by-test false e same = (e, ap (λ (t : Tested). t .below .0) same)
+        by-breaks : runUnusable run words ≡ false → usable ≡ true → (t : Bool) → slotBreaks run words call ≡ t → Judged verdict
+        by-breaks stored fit true breaks =
+            inl (record {
+              why = InputBreaksDeclaration;
+              refused = judged ∙ pick-false _ _ _ (ap not fit) ∙ pick-true _ _ _ (le-leb (begun .below .0) (input .0) (ltb-false (input .0) (begun .below .0) (not-true _ (breaks-told ∙ breaks))));
+              first = inr (ready .miscounted, inr (ready .large, inr (stored, inl (breaks, refl))));
+            })
+        by-breaks stored fit false keeps =
+            decided stored keeps (both-true (p .usable) _ (both-true (both (p .usable) (every (emptyBehind (begun .count) stages) mostOperators)) _ (sym told ∙ fit) .0) .0)
+            (judged ∙ pick-false _ _ _ (ap not fit) ∙ pick-false _ _ _ (lt-leb (begun .below .0) (input .0) (ltb-true (input .0) (begun .below .0) (not-false _ (breaks-told ∙ keeps)))))
+
+        by-usable : (t : Bool) → usable ≡ t → Judged verdict
+        by-usable false unfit =
+            inl (record {
+              why = Unusable;
+              refused = judged ∙ pick-true _ _ _ (ap not unfit);
+              first = inr (ready .miscounted, inr (ready .large, inl (not-false _ (sym (run-told told) ∙ unfit), refl)));
+            })
+        by-usable true fit = by-breaks (not-true _ (sym (run-told told) ∙ fit)) fit (slotBreaks run words call) refl
+
+  -- what is judged of the call
+  pub judged-told : {usable : Bool} → usable ≡ both (both (p .usable) (every (emptyBehind (begun .count) stages) mostOperators)) (behindClear (begun .count) words)
+      → {verdict : Verdict} → verdict ≡ judgedOf usable (begun .below .0) (input .0) p → Refusing run words (callOf input choices) verdict ⊎ Taking run words (callOf input choices) verdict (begun .count) p stages
+  judged-told told judged = ⊎-elim (λ none. none-begun none told (begun .below .0) judged) (λ some. some-begun some told judged) (begun-or-not run words input choices same)
 
 -- The ways out.
 
@@ -98,64 +237,21 @@ module _ (run : Run) (words : List ℕ) (call : Call) where
   abbrev Answer : Slotted → List ℕ → Type 0
   Answer answer after = (answer ≡ slottedOf run words call) × (after ≡ wordsSlotted run words call)
 
-  refused-first : {why : Refusal} → FirstIs (slotCases run words call) why → {answer : Slotted} → answer ≡ refusedSlot run why → Answer answer words
-  refused-first {why} first same = (same ∙ sym (slot-refused run words call why first), sym (words-refused run words call why first))
+  pub answer-refused : {verdict : Verdict} → Refusing run words call verdict → {outcome : Outcome} (output : Units) → outcome ≡ outcomeOf verdict output
+      → {next : Run} → next ≡ run → {after : List ℕ} → after ≡ words → (record { outcome = outcome; run = next } ≡ slottedOf run words call) × (after ≡ wordsSlotted run words call)
+  unfolding outcomeOf refusedSlot
+  answer-refused refusing output made same kept = (
+    ap₂ (λ (o : Outcome) (r : Run). record { outcome = o; run = r }) (made ∙ ap (λ (v : Verdict). outcomeOf v output) (refusing .refused)) same ∙ sym (slot-refused run words call (refusing .why) (refusing .first)),
+    kept ∙ sym (words-refused run words call (refusing .why) (refusing .first)),
+  )
 
-  pub refused-arguments : {fit : Bool} → Fit (run .count) call fit → fit ≡ false → {answer : Slotted} → answer ≡ refusedSlot run Unusable → Answer answer words
-  refused-arguments tested unfit = refused-first (by-tests (choicesMiscounted (run .count) call) (amountTooLarge call) refl refl (sym tested ∙ unfit))
-    where
-      by-tests : (a b : Bool) → choicesMiscounted (run .count) call ≡ a → amountTooLarge call ≡ b → both (not a) (not b) ≡ false → FirstIs (slotCases run words call) Unusable
-      by-tests true b e f none = inl (e, refl)
-      by-tests false true e f none = inr (e, inl (f, refl))
-      by-tests false false e f none = absurd (never none)
-
-  module _ (counted : choicesMiscounted (run .count) call ≡ false) (small : amountTooLarge call ≡ false) where
-    pub refused-stored : {tested : Tested} → tested ≡ testedOf run words → tested .usable ≡ false → {answer : Slotted} → answer ≡ refusedSlot run Unusable → Answer answer words
-    refused-stored found unfit = refused-first (inr (counted, inr (small, inl (stored-fails run words found unfit, refl))))
-
-    module _ (usable : runUnusable run words ≡ false) {below : ℕ} (same-below : below ≡ belowIn run words) where
-      breaks-tested : not (ltb (call .input) below) ≡ slotBreaks run words call
-      unfolding belowIn slotBreaks meterIn
-      breaks-tested = rw same-below (within-breaks (meterIn run) (meterWords words) (call .input) (usable-run run words usable .declared))
-
-      pub refused-input : below ≤ call .input → {answer : Slotted} → answer ≡ refusedSlot run InputBreaksDeclaration → Answer answer words
-      refused-input above = refused-first (inr (counted, inr (small, inr (usable, inl (sym breaks-tested ∙ ap not (le-ltb (call .input) below above), refl)))))
-
-      pub input-keeps : call .input < below → slotBreaks run words call ≡ false
-      input-keeps keeps = sym breaks-tested ∙ ap not (lt-ltb (call .input) below keeps)
-
-    -- what is left to decide
-    module _ (usable : runUnusable run words ≡ false) (keeps : slotBreaks run words call ≡ false) where
-      abbrev decisions : List Case
-      decisions = decisionCases run words call
-
-      pub took : {answer : Slotted} → answer ≡ tookOf run words call → {after : List ℕ} → after ≡ wordsTook run words call → Answer answer after
-      unfolding tookOf wordsTook slottedOf wordsSlotted refusedSlot takenSlot
-      took same left = (same ∙ rw (counted, small, usable, keeps), left ∙ rw (counted, small, usable, keeps))
-
-      -- one stands
-      pub took-refused : (why : Refusal) → FirstIs decisions why → {answer : Slotted} → answer ≡ refusedSlot run why → (answer ≡ tookOf run words call) × (words ≡ wordsTook run words call)
-      unfolding tookOf wordsTook
-      took-refused why first same = (
-        same ∙ sym (first-answered (refusedSlot run) (takenSlot run words call) why decisions first),
-        sym (first-answered (λ why. words) (listOf (wordNext run words call) runWordCount) why decisions first),
-      )
-
-      -- none stands
-      module _ (none : NoneStands decisions) where
-        none-stands : NoneStands (slotCases run words call)
-        none-stands = (counted, (small, (usable, (keeps, none))))
-
-        pub took-taken : {output : Units} → output .0 ≡ slotOutput run words call → {advanced : Run} → advanced ≡ runAdvanced run words call
-            → {next : Run} → next ≡ runWritten advanced words (call .input) → {after : List ℕ} → after ≡ listOf (wordWritten advanced words (call .input)) runWordCount
-            → (record { outcome = Outcome.Sent output; run = next } ≡ tookOf run words call) × (after ≡ wordsTook run words call)
-        unfolding tookOf wordsTook takenSlot
-        took-taken sent same made left = (
-          ap₂ (λ (n : ℕ) (run : Run). record { outcome = Outcome.Sent (record { 0 = n }); run = run }) sent
-              (made ∙ ap (λ (run : Run). runWritten run words (call .input)) same ∙ run-written run words call none-stands)
-              ∙ sym (firstOf-none (refusedSlot run) (takenSlot run words call) decisions none),
-          left
-              ∙ ap (λ (run : Run). listOf (wordWritten run words (call .input)) runWordCount) same
-              ∙ ap (λ (word : ℕ → ℕ). listOf word runWordCount) (fun-ext (word-written run words call none-stands))
-              ∙ sym (firstOf-none (λ why. words) (listOf (wordNext run words call) runWordCount) decisions none),
-        )
+  pub answer-taken : {verdict : Verdict} {count : ℕ} {p : Progress} {stages : List Stage} → Taking run words call verdict count p stages → {outcome : Outcome} → outcome ≡ outcomeOf verdict (p .arriving)
+      → {next : Run} → next ≡ runWritten (runAdvanced run words call) words (call .input) → {after : List ℕ} → after ≡ listOf (wordWritten (runAdvanced run words call) words (call .input)) runWordCount
+      → (record { outcome = outcome; run = next } ≡ slottedOf run words call) × (after ≡ wordsSlotted run words call)
+  unfolding outcomeOf takenSlot
+  answer-taken {verdict} {count} {p} taking made written left = (
+    ap₂ (λ (o : Outcome) (r : Run). record { outcome = o; run = r })
+        (made ∙ ap (λ (v : Verdict). outcomeOf v (p .arriving)) (taking .accepted) ∙ ap (λ (n : ℕ). Outcome.Sent (record { 0 = n })) (taking .sent)) (written ∙ run-written run words call (taking .none))
+        ∙ sym (slot-taken run words call (taking .none)),
+    left ∙ ap (λ (word : ℕ → ℕ). listOf word runWordCount) (fun-ext (word-written run words call (taking .none))) ∙ sym (words-taken run words call (taking .none)),
+  )

@@ -2,21 +2,22 @@
 use mathlib.Core.Path.{_≡_, refl, ap, ap₂, sym, _∙_}
 use mathlib.Core.Bool.{Bool, true, false, not}
 use mathlib.Core.List.{List}
+use mathlib.Core.Logic.{_⊎_, inl, inr}
 use Prim.Native.Nat.{ℕ, _+_, _-_, _*_, _/_, _%_, _≤_, _<_}
 use native.Mathlib.Nat.{div-add-mod', mod-lt}
 use native.Mathlib.Decide.{decLt}
 use native.Mathlib.Omega.{arith}
-use lib.ListN.{length, getD, take, drop, length-drop}
+use lib.ListN.{length, getD, drop, length-drop}
 use lib.Seq.{length-take-le, getD-take, getD-drop}
 use lib.Bits.{bitOr}
 use lib.Dec.{ltb, eqb}
-use borrow.Author.Tests.{eq-eqb, eqb-true, lt-ltb, le-ltb, le-leb}
+use borrow.Author.Tests.{eq-eqb, ne-eqb, eqb-true, lt-ltb, le-ltb, le-leb, lt-leb}
 use Rattle.quantity.specs.Limits.{mostOperators, lastSlot}
 use Rattle.quantity.specs.Choice.{pick, both, either}
 use Rattle.quantity.specs.Sums.{every}
 use Rattle.quantity.specs.declared.Units.{Units}
 use Rattle.quantity.proofs.Laws.{pick-true, pick-false, either-first, either-second}
-use Rattle.quantity.proofs.Sums.{both-true, every-at, every-holds}
+use Rattle.quantity.proofs.Sums.{both-true, every-next, every-at, every-holds}
 use Rattle.words.specs.Stored.{wordAt, clearAt, storedFits}
 use Rattle.words.proofs.JoinLaws.{or-clear}
 use Rattle.operator.specs.Single.{wordCount, wordsUsed, usesHeld, usesBeside}
@@ -34,10 +35,11 @@ use Rattle.operator.proofs.RingLaws.{PathUsable, path-stored-usable}
 use Rattle.meter.proofs.PartsLaws.{counted-unusable, counted-outside, counted-unordered, counted-next}
 use Rattle.run.specs.declared.Stage.{Stage}
 use Rattle.run.specs.declared.Run.{Run}
-use Rattle.run.specs.Runs.{runWordCount, meterIn, meterWords, operatorAtWord, operatorWords, noStage, noOperator, stageAt, operatorOf, operatorIn, stageMisplaced, stageUnusable, stageFits}
-use Rattle.run.specs.Steps.{stageEmpty, emptyBehind, notTested, belowIn, testedOf}
+use Rattle.run.specs.declared.test.Begun.{Begun}
+use Rattle.run.specs.Runs.{runWordCount, meterIn, meterWords, operatorAtWord, operatorWords, noStage, noOperator, stageAt, operatorOf, operatorIn, stageMisplaced, stageUnusable, stageFits, runUnusable}
+use Rattle.run.specs.Steps.{stageEmpty, emptyBehind, belowIn, meterMisfits, notBegun, meterBegunOf, wordsBehind, behindClear}
 use Rattle.run.proofs.Parts.{length-operatorWords, operator-word}
-use Rattle.run.proofs.UsableRun.{UsableRun, run-usable, run-unusable, stage-usable, stage-none}
+use Rattle.run.proofs.UsableRun.{MeterFits, usable-stages, fits-meter, meter-fits, meter-misfits, run-usable, run-unusable, stage-usable, stage-none}
 
 -- An operator that is none is a limiter: it keeps its b in its field, has no h and uses no word.
 
@@ -79,15 +81,31 @@ module _ (run : Run) (words : List ℕ) where
       (ap (λ (t : Bool). both (not (not (pick t (numberInRange (stage .operator)) (both (noOperator (stage .operator)) (eqb (stage .held .0) 0))))) (not (pathUnusable (operatorOf stage (run .slot)) (operatorWords words k)))) (lt-ltb k (run .count) less)
       ∙ ap (λ (t : Bool). both t (not (pathUnusable (operatorOf stage (run .slot)) (operatorWords words k)))) (not-not (numberInRange (stage .operator))))
 
-module _ (run : Run) where
+module _ (count : ℕ) (stages : List Stage) where
   -- a stage of the path is no stage behind it
-  pub empty-named : (k : ℕ) → k < run .count → emptyBehind run k ≡ true
+  empty-named : (k : ℕ) → k < count → emptyBehind count stages k ≡ true
   unfolding emptyBehind
-  empty-named k less = either-first _ _ (lt-ltb k (run .count) less)
+  empty-named k less = either-first _ _ (lt-ltb k count less)
 
-  pub empty-told : (k : ℕ) → run .count ≤ k → {empty : Bool} → empty ≡ stageEmpty (getD (run .stages) k noStage) → emptyBehind run k ≡ empty
-  unfolding emptyBehind stageAt
-  empty-told k behind told = ap (λ (t : Bool). either t (stageEmpty (getD (run .stages) k noStage))) (le-ltb k (run .count) behind) ∙ sym told
+  pub empty-start : every (emptyBehind count stages) count ≡ true
+  empty-start = every-holds (emptyBehind count stages) count empty-named
+
+  pub empty-told : (k : ℕ) → count ≤ k → {empty : Bool} → empty ≡ stageEmpty (getD stages k noStage) → emptyBehind count stages k ≡ empty
+  unfolding emptyBehind
+  empty-told k behind told = ap (λ (t : Bool). either t (stageEmpty (getD stages k noStage))) (le-ltb k count behind) ∙ sym told
+
+  -- so joined to what was tested before
+  pub empty-next : (before : Bool) (k : ℕ) → count ≤ k → {usable : Bool} → usable ≡ both before (every (emptyBehind count stages) k) → {empty : Bool} → empty ≡ stageEmpty (getD stages k noStage)
+      → {next : Bool} → next ≡ both usable empty → next ≡ both before (every (emptyBehind count stages) (k + 1))
+  empty-next before k behind told empty joined =
+      joined
+      ∙ ap₂ both told (sym (empty-told k behind empty))
+      ∙ joins before (every (emptyBehind count stages) k) (emptyBehind count stages k)
+      ∙ ap (both before) (sym (every-next (emptyBehind count stages) k))
+    where
+      joins : (a b c : Bool) → both (both a b) c ≡ both a (both b c)
+      joins true b c = refl
+      joins false b c = refl
 
 -- an empty stage whose words are 0 fits behind the path's operators
 module _ (run : Run) (words : List ℕ) (k : ℕ) (past : run .count ≤ k) (left : run .slot .0 ≤ lastSlot) (size : length (operatorWords words k) ≡ wordCount)
@@ -129,7 +147,7 @@ module _ (run : Run) (words : List ℕ) (k : ℕ) (past : run .count ≤ k) (lef
 
 module _ (run : Run) (words : List ℕ) (sized : length words ≡ runWordCount) (some : 1 ≤ run .count) (few : run .count ≤ mostOperators) where
   abbrev tail : List ℕ
-  tail = take (length words - operatorAtWord (run .count)) (drop (operatorAtWord (run .count)) words)
+  tail = wordsBehind (run .count) words
 
   tail-length : length tail ≡ wordCount * (mostOperators - run .count)
   tail-length = omega (arith, length-take-le (length words - operatorAtWord (run .count)) (drop (operatorAtWord (run .count)) words) (omega (arith, length-drop (operatorAtWord (run .count)) words)))
@@ -146,7 +164,7 @@ module _ (run : Run) (words : List ℕ) (sized : length words ≡ runWordCount) 
   NamedFit = every (stageFits run words) (run .count)
 
   abbrev BehindEmpty : Bool
-  BehindEmpty = every (emptyBehind run) mostOperators
+  BehindEmpty = every (emptyBehind (run .count) (run .stages)) mostOperators
 
   abbrev TailClear : Bool
   TailClear = every (clearAt tail) (length tail)
@@ -186,9 +204,9 @@ module _ (run : Run) (words : List ℕ) (sized : length words ≡ runWordCount) 
         ∙ every-at (wordUnused (stageAt run k .operator) (operatorWords words k)) wordCount (stored .words-fit) a within
 
   pub all-behind : AllFit ≡ true → BehindEmpty ≡ true
-  unfolding emptyBehind
+  unfolding emptyBehind stageAt
   all-behind all =
-      every-holds (emptyBehind run) mostOperators
+      every-holds (emptyBehind (run .count) (run .stages)) mostOperators
       (λ k less. elim (decLt k (run .count)) [
         | yes named ↦ either-first _ _ (lt-ltb k (run .count) named)
         | no behind ↦ either-second (ltb k (run .count)) _ (empty all k (omega arith) less)
@@ -215,8 +233,8 @@ module _ (run : Run) (words : List ℕ) (sized : length words ≡ runWordCount) 
 
     module _ (k : ℕ) (past : run .count ≤ k) (less : k < mostOperators) where
       empty-here : stageEmpty (stageAt run k) ≡ true
-      unfolding emptyBehind
-      empty-here = sym (ap (λ (t : Bool). either t (stageEmpty (stageAt run k))) (le-ltb k (run .count) past)) ∙ every-at (emptyBehind run) mostOperators behind k less
+      unfolding emptyBehind stageAt
+      empty-here = sym (ap (λ (t : Bool). either t (stageEmpty (stageAt run k))) (le-ltb k (run .count) past)) ∙ every-at (emptyBehind (run .count) (run .stages)) mostOperators behind k less
 
       word-clear : (a : ℕ) → a < wordCount → wordAt (operatorWords words k) a ≡ 0
       word-clear a within =
@@ -245,9 +263,9 @@ module _ (run : Run) (words : List ℕ) where
   lent = meterWords words
 
   -- what is not counted cannot be used
-  pub meter-uncounted : {answer : Counted} → answer ≡ countedOf meter lent → ((below : Units) → answer ≡ Below below → ⊥) → UsableRun run words → ⊥
+  pub meter-uncounted : {answer : Counted} → answer ≡ countedOf meter lent → ((below : Units) → answer ≡ Below below → ⊥) → MeterFits run words → ⊥
   unfolding meterIn
-  meter-uncounted answered never usable = never _ (answered ∙ counted-next meter lent (usable .meter) (usable .declared) (usable .ordered))
+  meter-uncounted answered never fits = never _ (answered ∙ counted-next meter lent (fits .meter) (fits .declared) (fits .ordered))
 
   -- and what is counted can
   pub record MeterCounted (below : Units) : Type 0 where
@@ -268,13 +286,74 @@ module _ (run : Run) (words : List ℕ) where
           let made = answered ∙ counted-next meter lent usable ranged ordered in
           record { meter = usable; declared = ranged; ordered = ordered; counted = cc }
 
--- What the test answers.
+-- What is answered before the first operator.
 
 module _ (run : Run) (words : List ℕ) where
-  pub tested-not : (UsableRun run words → ⊥) → notTested ≡ testedOf run words
-  unfolding testedOf
-  tested-not fails = sym (pick-true _ _ _ (run-unusable run words fails))
+  pub begun-not : (MeterFits run words → ⊥) → notBegun ≡ meterBegunOf run words
+  unfolding meterBegunOf
+  begun-not fails = sym (pick-true _ _ _ (meter-misfits run words fails))
 
-  pub tested-usable : UsableRun run words → {below : Units} → below ≡ record { 0 = belowIn run words } → record { usable = true; below = below } ≡ testedOf run words
-  unfolding testedOf
-  tested-usable passed counts = rw counts (sym (pick-false _ _ _ (run-usable run words passed)))
+  pub begun-fits : MeterFits run words → {below : Units} → below ≡ record { 0 = belowIn run words } → record { count = run .count; below = below } ≡ meterBegunOf run words
+  unfolding meterBegunOf
+  begun-fits fits counts = rw counts (sym (pick-false _ _ _ (fits-meter run words fits)))
+
+  -- no operators, or those of the run
+  pub meter-begun : {begun : Begun} → begun ≡ meterBegunOf run words → ((begun .count ≡ 0) × (MeterFits run words → ⊥)) ⊎ (MeterFits run words × ((begun .count ≡ run .count) × (begun .below ≡ record { 0 = belowIn run words })))
+  unfolding meterBegunOf
+  meter-begun {begun} same = by-test (meterMisfits run words) refl same
+    where
+      by-test : (t : Bool) → meterMisfits run words ≡ t → begun ≡ pick t notBegun (record { count = run .count; below = record { 0 = belowIn run words } })
+          → ((begun .count ≡ 0) × (MeterFits run words → ⊥)) ⊎ (MeterFits run words × ((begun .count ≡ run .count) × (begun .below ≡ record { 0 = belowIn run words })))
+      by-test true e made = inl (ap (λ (b : Begun). b .count) made, λ fits. let z : _≡_ {A = Bool} true false = sym e ∙ fits-meter run words fits in let w : _≡_ {A = ℕ} 0 1 = cc in omega arith)
+      by-test false e made = inr (meter-fits run words e, (ap (λ (b : Begun). b .count) made, ap (λ (b : Begun). b .below) made))
+
+-- What is answered of the words behind the path's operators.
+
+module _ (count : ℕ) (words : List ℕ) where
+  pub behind-unsized : (length words ≡ runWordCount → ⊥) → false ≡ behindClear count words
+  unfolding behindClear
+  behind-unsized other = rw (ne-eqb (length words) runWordCount other)
+
+  module _ (sized : length words ≡ runWordCount) where
+    pub behind-many : mostOperators < count → false ≡ behindClear count words
+    unfolding behindClear
+    behind-many many = rw (eq-eqb (length words) runWordCount sized, lt-leb count mostOperators many)
+
+    pub behind-told : count ≤ mostOperators → every (clearAt (wordsBehind count words)) (length (wordsBehind count words)) ≡ behindClear count words
+    unfolding behindClear
+    behind-told few =
+        sym
+        (ap₂ (λ (a b : Bool). both (both a b) (every (clearAt (wordsBehind count words)) (length (wordsBehind count words)))) (eq-eqb (length words) runWordCount sized) (le-leb count mostOperators few))
+
+-- All stages fit just where the path's do, those behind are empty and their words are 0.
+module _ (run : Run) (words : List ℕ) (fits : MeterFits run words) where
+  abbrev three : Bool
+  three = both (both (every (stageFits run words) (run .count)) (every (emptyBehind (run .count) (run .stages)) mostOperators)) (behindClear (run .count) words)
+
+  all-or-not : (all : Bool) → every (stageFits run words) mostOperators ≡ all → three ≡ all
+  all-or-not true all =
+      ap₂ both
+      (ap₂ both (every-holds (stageFits run words) (run .count) (λ k less. every-at (stageFits run words) mostOperators all k (omega (arith, fits .few)))) (all-behind run words (fits .sized) (fits .some) (fits .few) all))
+      (sym (behind-told (run .count) words (fits .sized) (fits .few)) ∙ all-clear run words (fits .sized) (fits .some) (fits .few) all)
+  all-or-not false none = by-test three refl
+    where
+      by-test : (t : Bool) → three ≡ t → three ≡ false
+      by-test false e = e
+      by-test true e =
+          let (stages, clear) = both-true (both (every (stageFits run words) (run .count)) (every (emptyBehind (run .count) (run .stages)) mostOperators)) _ e in
+          let (named, behind) = both-true (every (stageFits run words) (run .count)) _ stages in
+          let all = all-fit run words (fits .sized) (fits .some) (fits .few) named behind (behind-told (run .count) words (fits .sized) (fits .few) ∙ clear) in
+          let z : _≡_ {A = Bool} true false = sym all ∙ none in
+          let w : _≡_ {A = ℕ} 0 1 = cc in
+          absurd (omega arith)
+
+  pub stages-told : both (both (every (stageFits run words) (run .count)) (every (emptyBehind (run .count) (run .stages)) mostOperators)) (behindClear (run .count) words) ≡ every (stageFits run words) mostOperators
+  stages-told = all-or-not (every (stageFits run words) mostOperators) refl
+
+  -- which tells of the run
+  pub usable-told : every (stageFits run words) mostOperators ≡ not (runUnusable run words)
+  usable-told = by-test (every (stageFits run words) mostOperators) refl
+    where
+      by-test : (t : Bool) → every (stageFits run words) mostOperators ≡ t → t ≡ not (runUnusable run words)
+      by-test true e = sym (ap not (run-usable run words (usable-stages run words fits e)))
+      by-test false e = sym (ap not (run-unusable run words (λ usable. let z : _≡_ {A = Bool} true false = sym (usable .stages) ∙ e in let w : _≡_ {A = ℕ} 0 1 = cc in omega arith)))

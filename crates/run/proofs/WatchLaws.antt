@@ -21,12 +21,9 @@ use Rattle.operator.specs.Ring.{ringHeld, pathHolds}
 use Rattle.operator.specs.declared.ring.PathOperator.{PathOperator}
 use Rattle.sheet.specs.declared.read.Verdict.{Verdict}
 use Rattle.run.specs.declared.Run.{Run}
-use Rattle.run.specs.declared.test.Tested.{Tested}
-use Rattle.run.specs.Runs.{noStage, stageAt, operatorOf, operatorIn}
+use Rattle.run.specs.Runs.{noStage, stageAt, operatorOf, operatorIn, runUnusable}
 use Rattle.run.specs.Watching.{runHolds, unitsHeld, refusedWatch, watchedOf}
-use Rattle.run.specs.Steps.{testedOf}
 use Rattle.run.proofs.UpTo.{UpTo, up-to-none, up-to-next}
-use Rattle.run.proofs.SlotLaws.{stored-passes, stored-fails}
 
 abbrev none : Units
 none = record { 0 = 0 }
@@ -79,15 +76,14 @@ module _ (run : Run) (words : List ℕ) where
       (λ i less. watching .each i less ∙ ap (λ (k : ℕ). pick (ltb i k) (unitsHeld run words i) none) ends ∙ units-behind i (ltb i (run .count)) refl)
 
   -- the watch answers by the test
-  pub watched-usable : {tested : Tested} → tested ≡ testedOf run words → tested .usable ≡ true → {held : List Units} → held ≡ listOf (unitsHeld run words) mostOperators
+  pub watched-usable : runUnusable run words ≡ false → {held : List Units} → held ≡ listOf (unitsHeld run words) mostOperators
       → record { verdict = Verdict.Accepted; held = held } ≡ watchedOf run words
   unfolding watchedOf
-  watched-usable found fit same =
+  watched-usable usable same =
       ap (λ (held : List Units). record { verdict = Verdict.Accepted; held = held }) same
-      ∙ sym (ap (λ (t : Bool). pick t (refusedWatch Unusable) (record { verdict = Verdict.Accepted; held = listOf (unitsHeld run words) mostOperators })) (stored-passes run words found fit .0))
+      ∙ sym (ap (λ (t : Bool). pick t (refusedWatch Unusable) (record { verdict = Verdict.Accepted; held = listOf (unitsHeld run words) mostOperators })) usable)
 
-  pub watched-unusable : {tested : Tested} → tested ≡ testedOf run words → tested .usable ≡ false
-      → record { verdict = Verdict.Refused Unusable; held = replicate mostOperators none } ≡ watchedOf run words
+  pub watched-unusable : runUnusable run words ≡ true → record { verdict = Verdict.Refused Unusable; held = replicate mostOperators none } ≡ watchedOf run words
   unfolding watchedOf refusedWatch
-  watched-unusable found unfit =
-      sym (ap (λ (t : Bool). pick t (refusedWatch Unusable) (record { verdict = Verdict.Accepted; held = listOf (unitsHeld run words) mostOperators })) (stored-fails run words found unfit))
+  watched-unusable unusable =
+      sym (ap (λ (t : Bool). pick t (refusedWatch Unusable) (record { verdict = Verdict.Accepted; held = listOf (unitsHeld run words) mostOperators })) unusable)

@@ -1,30 +1,33 @@
 -- Serves the private contracts of the run, and need not be believed: no public call cites it.
--- The three steps of a slot, as the code takes them: what the test finds, what is decided of each operator, and the call that the arguments are.
-use Prim.Native.Nat.{ℕ, _+_, _-_, _/_, _%_}
-use mathlib.Core.Bool.{Bool, true, false}
+-- A slot as the code takes it: what the tests find, what the operators tell one behind the other, and what is written.
+use Prim.Native.Nat.{ℕ, _+_, _-_, _/_, _%_, min}
+use mathlib.Core.Bool.{Bool, true, false, not}
 use mathlib.Core.List.{List, [], _∷_, _++_}
 use lib.Dec.{leb, ltb, eqb}
-use lib.ListN.{length, take, drop}
-use Rattle.quantity.specs.Choice.{pick, both, either}
-use Rattle.quantity.specs.Limits.{largestAmount, mostOperators}
-use Rattle.quantity.specs.Sums.{listOf}
-use Rattle.quantity.specs.Refusals.{Case, _⇒_, firstOf}
+use lib.ListN.{length, getD, take, drop}
+use Rattle.quantity.specs.Choice.{pick, both, either, anyOf}
+use Rattle.quantity.specs.Limits.{mostOperators}
+use Rattle.quantity.specs.Sums.{every, listOf}
+use Rattle.quantity.specs.Refusals.{Case, _⇒_}
 use Rattle.quantity.specs.declared.Units.{Units}
-use Rattle.quantity.specs.declared.refusal.Refusal.the-variants.{Unusable}
+use Rattle.quantity.specs.declared.refusal.Refusal.the-variants.{Unusable, InputBreaksDeclaration, ChoiceAboveGreatest}
+use Rattle.flow.specs.Declarations.{declarationInRange, rowsInOrder}
 use Rattle.operator.specs.Single.{wordCount}
 use Rattle.operator.specs.Ring.{ringNoted}
-use Rattle.meter.specs.Meter.{meterWordCount}
+use Rattle.meter.specs.Meter.{meterWordCount, meterUnusable}
 use Rattle.meter.specs.Parts.{inputsBelow, notedOf, wordsNoted}
-use Rattle.words.specs.Stored.{wordAt}
+use Rattle.words.specs.Stored.{wordAt, clearAt}
 use Rattle.operator.specs.declared.ring.PathOperator.{PathOperator}
 use Rattle.meter.specs.declared.parts.Noted.{Noted}
-use Rattle.run.specs.Calls.{Call}
-use Rattle.run.specs.Runs.{runWordCount, meterWords, operatorWords, noOperator, stageAt, meterIn, operatorIn, runUnusable}
-use Rattle.run.specs.Slots.{choiceCases, slotLeavesTooMuch, stageNext, wordNext, refusedSlot, takenSlot}
+use Rattle.sheet.specs.declared.read.Verdict.{Verdict}
+use Rattle.run.specs.Calls.{Call, choicesMiscounted, amountTooLarge}
+use Rattle.run.specs.Runs.{runWordCount, meterWords, operatorAtWord, operatorWords, noOperator, noStage, stageAt, meterIn, operatorIn}
+use Rattle.run.specs.Slots.{choiceCases, slotLeavesTooMuch, stageNext}
 use Rattle.run.specs.declared.Stage.{Stage}
 use Rattle.run.specs.declared.Run.{Run}
-use Rattle.run.specs.declared.slot.Slotted.{Slotted}
-use Rattle.run.specs.declared.test.Tested.{Tested}
+use Rattle.run.specs.declared.slot.Outcome.{Outcome}
+use Rattle.run.specs.declared.stages.Progress.{Progress}
+use Rattle.run.specs.declared.test.Begun.{Begun}
 
 -- Test.
 
@@ -32,25 +35,75 @@ use Rattle.run.specs.declared.test.Tested.{Tested}
 unfoldable pub stageEmpty : Stage → Bool
 stageEmpty stage = both (noOperator (stage .operator)) (both (both (eqb (stage .held .0) 0) (eqb (stage .beside .0) 0)) (both (eqb (stage .entered) 0) (eqb (stage .left) 0)))
 
-unfoldable pub emptyBehind : Run → ℕ → Bool
-emptyBehind run k = either (ltb k (run .count)) (stageEmpty (stageAt run k))
-
-abbrev pub notTested : Tested
-notTested = record { usable = false; below = record { 0 = 0 } }
+-- stage k, of so many stages that are the path's
+unfoldable pub emptyBehind : ℕ → List Stage → ℕ → Bool
+emptyBehind count stages k = either (ltb k count) (stageEmpty (getD stages k noStage))
 
 -- what the next input has to be below
 unfoldable pub belowIn : Run → List ℕ → ℕ
 belowIn run words = inputsBelow (meterIn run) (meterWords words)
 
-unfoldable pub testedOf : Run → List ℕ → Tested
-testedOf run words =
-    pick (runUnusable run words) notTested (record { usable = true; below = record { 0 = belowIn run words } })
+-- the words' length, the count, the declaration or the meter does not fit
+unfoldable pub meterMisfits : Run → List ℕ → Bool
+meterMisfits run words =
+    anyOf
+    (not (eqb (length words) runWordCount)
+    ∷ not (both (leb 1 (run .count)) (leb (run .count) mostOperators))
+    ∷ not (declarationInRange (run .declaration))
+    ∷ not (rowsInOrder (run .declaration))
+    ∷ meterUnusable (meterIn run) (meterWords words)
+    ∷ [])
 
--- Decide.
+abbrev pub notBegun : Begun
+notBegun = record { count = 0; below = record { 0 = 0 } }
+
+unfoldable pub meterBegunOf : Run → List ℕ → Begun
+meterBegunOf run words = pick (meterMisfits run words) notBegun (record { count = run .count; below = record { 0 = belowIn run words } })
+
+unfoldable pub begunOf : Run → List ℕ → Call → Begun
+begunOf run words call = pick (either (choicesMiscounted (run .count) call) (amountTooLarge call)) notBegun (meterBegunOf run words)
+
+abbrev pub wordsBehind : ℕ → List ℕ → List ℕ
+wordsBehind count words = take (length words - operatorAtWord count) (drop (operatorAtWord count) words)
+
+-- the words behind those of so many operators are 0
+unfoldable pub behindClear : ℕ → List ℕ → Bool
+behindClear count words =
+    both (both (eqb (length words) runWordCount) (leb count mostOperators)) (every (clearAt (wordsBehind count words)) (length (wordsBehind count words)))
+
+-- Decide, operator by operator.
 
 -- an operator within a path, as the run keeps it
 unfoldable pub stageKept : PathOperator → Stage
 stageKept x = record { operator = x .operator; held = x .held; beside = x .beside; entered = x .entered; left = x .left }
+
+unfoldable pub firstProgress : ℕ → Units → Progress
+firstProgress count input = record { usable = ltb 0 count; fits = true; above = mostOperators; arriving = input }
+
+unfoldable pub onceSent : Progress → Units → Bool → Progress
+onceSent p output fits = record { usable = p .usable; fits = both (p .fits) fits; above = p .above; arriving = output }
+
+unfoldable pub onceUnusable : Progress → Progress
+onceUnusable p = record { usable = false; fits = p .fits; above = p .above; arriving = p .arriving }
+
+unfoldable pub onceAbove : Progress → ℕ → Progress
+onceAbove p k = record { usable = p .usable; fits = p .fits; above = min (p .above) k; arriving = p .arriving }
+
+-- the first refusal that stands, of what all tests and all operators have told
+unfoldable pub judgedOf : Bool → ℕ → ℕ → Progress → Verdict
+judgedOf usable below input p =
+    pick (not usable) (Verdict.Refused Unusable)
+    (pick (leb below input) (Verdict.Refused InputBreaksDeclaration)
+    (pick (ltb (p .above) mostOperators) (Verdict.Refused (ChoiceAboveGreatest (p .above)))
+    (pick (not (p .fits)) (Verdict.Refused Unusable) Verdict.Accepted)))
+
+unfoldable pub acceptedBy : Verdict → Bool
+acceptedBy Verdict.Accepted = true
+acceptedBy (Verdict.Refused why) = false
+
+unfoldable pub outcomeOf : Verdict → Units → Outcome
+outcomeOf Verdict.Accepted output = Outcome.Sent output
+outcomeOf (Verdict.Refused why) output = Outcome.Refused why
 
 -- the run once its operators have sent: its slot is not counted yet, and its meter not written
 unfoldable pub runAdvanced : Run → List ℕ → Call → Run
@@ -62,10 +115,6 @@ runAdvanced run words call =
       count = run .count;
       stages = listOf (λ k. pick (ltb k (run .count)) (stageNext run words call k) (stageAt run k)) mostOperators;
     }
-
--- what an operator would store is within the limit
-unfoldable pub storable : ℕ → ℕ → Bool
-storable b h = both (leb b largestAmount) (leb h largestAmount)
 
 -- Write.
 
@@ -104,13 +153,6 @@ wordWritten run words input j =
     (wordAt (wordsNoted (meterIn run) (meterWords words) input) j)
     (stageWord run words ((j - meterWordCount) / wordCount) ((j - meterWordCount) % wordCount))
 
--- Both: 14 operator by operator, then 1 again, and else the slot is taken.
-
+-- 14 operator by operator, then 1 again.
 abbrev pub decisionCases : Run → List ℕ → Call → List Case
 decisionCases run words call = choiceCases run words call (run .count) ++ ((slotLeavesTooMuch run words call ⇒ Unusable) ∷ [])
-
-unfoldable pub tookOf : Run → List ℕ → Call → Slotted
-tookOf run words call = firstOf (decisionCases run words call) (refusedSlot run) (takenSlot run words call)
-
-unfoldable pub wordsTook : Run → List ℕ → Call → List ℕ
-wordsTook run words call = firstOf (decisionCases run words call) (λ why. words) (listOf (wordNext run words call) runWordCount)

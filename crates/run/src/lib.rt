@@ -8,11 +8,12 @@ use quantity::Rate;
 use quantity::Slots;
 use quantity::Units;
 ghost use mathlib.Core.Path.{_≡_};
+ghost use Rattle.quantity.specs.Choice.{both};
 ghost use Rattle.run.specs.Runs.{noStage, meterIn, operatorOf};
 
 pub mod opening;
 pub mod slot;
-mod take;
+mod stages;
 mod test;
 pub mod watch;
 
@@ -88,4 +89,10 @@ fn operator_of(stage: Stage, slot: Slots) -> PathOperator
         entered: stage.entered,
         left: stage.left,
     }
+}
+
+fn and(a: bool, b: bool) -> bool
+    ensures { λ r. ⌜ r ≡ both a b ⌝ }
+{
+    if a { b } else { false }
 }

@@ -1,4 +1,4 @@
-// The first step of a slot: every stored value and every word is tested once (document 01, section 7, 1).
+// What is lent and stored, each value and every word tested once (document 01, section 7, 1).
 
 use crate::Run;
 use crate::Stage;
@@ -13,70 +13,89 @@ use quantity::Units;
 use words::all_clear;
 ghost use mathlib.Core.Path.{_≡_};
 ghost use mathlib.Core.Bool.{not};
-ghost use Prim.Native.Nat.{_<_};
+ghost use Prim.Native.Nat.{_≤_, _<_};
 ghost use lib.ListN.{length};
 ghost use Rattle.quantity.specs.Choice.{both};
 ghost use Rattle.quantity.specs.Limits.{mostOperators};
 ghost use Rattle.operator.specs.Operators.{numberInRange};
 ghost use Rattle.operator.specs.Ring.{pathUnusable};
-ghost use Rattle.run.specs.Runs.{runWordCount, operatorWords, noOperator, operatorOf};
-ghost use Rattle.run.specs.Steps.{stageEmpty, notTested, testedOf};
+ghost use Rattle.run.specs.Runs.{runWordCount, operatorWords, noOperator, operatorOf, runUnusable};
+ghost use Rattle.run.specs.Steps.{stageEmpty, behindClear, notBegun, meterBegunOf};
 
-// Whether what is lent and stored can be used, and then what the next input has to be below.
-pub struct Tested {
-    pub usable: bool,
+// The path's operators, none where what is lent and stored cannot be used, and what the next input has to be below.
+pub struct Begun {
+    pub count: usize,
     pub below: Units,
 }
 
-pub(crate) fn test(run: Run, words: &[u32]) -> Tested
-    ensures { λ r. ⌜ r ≡ testedOf run (now (words .entry)) ⌝ }
+// The words' length, the number of operators, the declaration and the meter.
+pub(crate) fn begin_meter(run: Run, words: &[u32]) -> Begun
+    ensures { λ r. ⌜ r ≡ meterBegunOf run (now (words .entry)) ⌝ }
 {
     if words.len() != crate::WORDS {
-        return not_tested();
+        return not_begun();
     }
     let count = run.count;
     if count == 0 {
-        return not_tested();
+        return not_begun();
     }
     if crate::OPERATORS < count {
-        return not_tested();
+        return not_begun();
     }
     let Counted::Below(below) = counted_before(meter_of(run), &words[0..crate::METER_WORDS]) else {
-        return not_tested();
+        return not_begun();
     };
+    Begun { count, below }
+}
+
+pub(crate) fn not_begun() -> Begun
+    ensures { λ r. ⌜ r ≡ notBegun ⌝ }
+{
+    Begun {
+        count: 0,
+        below: Units(0),
+    }
+}
+
+// Whether all that is lent and stored can be used.
+pub(crate) fn run_usable(run: Run, words: &[u32]) -> bool
+    ensures { λ r. ⌜ r ≡ not (runUnusable run (now (words .entry))) ⌝ }
+{
+    let begun = begin_meter(run, words);
+    let count = begun.count;
+    if count == 0 {
+        return false;
+    }
     let mut k = 0;
-    while k < run.count {
+    while k < count {
         let stage = run.stages[k];
         if !stage_fits(stage, run.slot, words, k) {
-            return not_tested();
+            return false;
         }
         k += 1;
     }
     while k < crate::OPERATORS {
         let stage = run.stages[k];
         if !is_empty(stage) {
-            return not_tested();
+            return false;
         }
         k += 1;
     }
-    // the stages behind the path's operators are empty, so their words are tested in one pass
-    let behind = crate::METER_WORDS + crate::OPERATOR_WORDS * run.count;
-    if !all_clear(&words[behind..]) {
-        return not_tested();
-    }
-    Tested {
-        usable: true,
-        below,
-    }
+    behind_clear(count, words)
 }
 
-fn not_tested() -> Tested
-    ensures { λ r. ⌜ r ≡ notTested ⌝ }
+// Whether the words behind those of so many operators are 0: the stages behind the path's operators are empty, so their words are tested in one pass.
+pub(crate) fn behind_clear(count: usize, words: &[u32]) -> bool
+    ensures { λ r. ⌜ r ≡ behindClear count (now (words .entry)) ⌝ }
 {
-    Tested {
-        usable: false,
-        below: Units(0),
+    if words.len() != crate::WORDS {
+        return false;
     }
+    if crate::OPERATORS < count {
+        return false;
+    }
+    let behind = crate::METER_WORDS + crate::OPERATOR_WORDS * count;
+    all_clear(&words[behind..])
 }
 
 // Whether stage k, of an operator of the path, and its words can be used.
@@ -94,7 +113,7 @@ fn stage_fits(stage: Stage, slot: Slots, words: &[u32], k: usize) -> bool
 }
 
 // Whether a stage is empty, as those behind the path's operators are.
-fn is_empty(stage: Stage) -> bool
+pub(crate) fn is_empty(stage: Stage) -> bool
     ensures { λ r. ⌜ r ≡ stageEmpty stage ⌝ }
 {
     let operator = stage.operator;

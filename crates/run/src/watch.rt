@@ -2,7 +2,7 @@
 
 use crate::Run;
 use crate::operator_of;
-use crate::test::test;
+use crate::test::run_usable;
 use operator::ring::holds;
 use quantity::Units;
 use quantity::refusal::Refusal;
@@ -24,8 +24,7 @@ pub struct Watched {
 pub fn held(run: Run, words: &[u32]) -> Watched
     ensures { λ r. ⌜ r ≡ watchedOf run (now (words .entry)) ⌝ }
 {
-    let tested = test(run, words);
-    if tested.usable {
+    if run_usable(run, words) {
         Watched {
             verdict: Verdict::Accepted,
             held: units_held(run),

@@ -27,19 +27,18 @@ limiter-sends-requires c κs = search needs
 enum-known-operator-2 : tie.Need-enum-known-operator-2
 enum-known-operator-2 c = search needs
 
-at-multiple-requires : tie.Need-at-multiple-requires
+compactor-sends-requires : tie.Need-compactor-sends-requires
 unfolding numberInRange
-at-multiple-requires c κs = omega (arith, least-le intervalRange _ (sym (ap numberInRange (c .before .operator2 .given .1)) ∙ c .before .before .before .before .pre .0 .0))
+compactor-sends-requires c κs = omega (arith, least-le intervalRange _ (sym (ap numberInRange (c .before .operator2 .given .1)) ∙ c .before .before .before .before .pre .0 .0))
 
 enum-known-operator-3 : tie.Need-enum-known-operator-3
 enum-known-operator-3 c = search needs
 
-add-at-multiple : tie.Need-add-at-multiple
-add-at-multiple c = search needs
-
-at-multiple-requires-2 : tie.Need-at-multiple-requires-2
+expander-least-requires : tie.Need-expander-least-requires
 unfolding numberInRange
-at-multiple-requires-2 c κs = omega (arith, least-le intervalRange _ (sym (ap numberInRange (c .before .operator3 .given .1)) ∙ c .before .before .before .before .pre .0 .0))
+expander-least-requires c κs =
+    let s = c .before .before .before .before in
+    (omega (arith, least-le intervalRange _ (sym (ap numberInRange (c .before .operator3 .given .1)) ∙ s .pre .0 .0)), s .pre .0 .2)
 
 enum-known-operator-4 : tie.Need-enum-known-operator-4
 enum-known-operator-4 c = search needs
@@ -78,11 +77,11 @@ returns c = (rw (c .before .before .operator .given .1) (c .limiter-sends .ensur
 
 returns-2 : tie.Need-returns-2
 unfolding leastOutput limiterLeast compactorLeast expanderLeast filterLeast besideAfter delayerLeast
-returns-2 c = (rw (c .before .before .operator2 .given .1) (c .at-multiple .ensures .0), omega (arith, c .at-multiple .ensures .1))
+returns-2 c = (rw (c .before .before .operator2 .given .1) (c .compactor-sends .ensures .0), omega (arith, c .compactor-sends .ensures .1))
 
 returns-3 : tie.Need-returns-3
 unfolding leastOutput limiterLeast compactorLeast expanderLeast filterLeast besideAfter delayerLeast
-returns-3 c = (rw (c .before .before .operator3 .given .1) (c .at-multiple2 .ensures .0), omega (arith, c .at-multiple2 .ensures .1))
+returns-3 c = (rw (c .before .before .operator3 .given .1) (c .expander-least .ensures .0), omega (arith, c .expander-least .ensures .1))
 
 returns-4 : tie.Need-returns-4
 unfolding leastOutput limiterLeast compactorLeast expanderLeast filterLeast besideAfter delayerLeast
@@ -104,10 +103,9 @@ least-spec =
     enum-known-operator
     limiter-sends-requires
     enum-known-operator-2
-    at-multiple-requires
+    compactor-sends-requires
     enum-known-operator-3
-    add-at-multiple
-    at-multiple-requires-2
+    expander-least-requires
     enum-known-operator-4
     limited-requires
     less-requires

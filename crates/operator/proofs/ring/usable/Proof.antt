@@ -1,67 +1,41 @@
--- Any test that stands refuses; once all have passed, what is stored is usable.
-use mathlib.Core.Path.{_≡_, ap, sym, _∙_}
-use mathlib.Core.Bool.{Bool, true, false}
-use Prim.Native.Nat.{ℕ}
-use native.Mathlib.Omega.{arith}
-use borrow.Author.Tests.{not-true, not-false}
-use Rattle.words.specs.Stored.{storedFits}
-use Rattle.operator.proofs.RingLaws.{refused-unusable, told-usable}
+-- The tests in turn, and then by the kind.
+use mathlib.Core.Path.{ap, sym, _∙_}
+use mathlib.Core.Bool.{not}
+use Rattle.operator.proofs.RingLaws.{unsized-unusable, last-unusable}
 use borrow.Author.Needs.{needs}
 use Rattle.operator.proofs.ring.usable.Statement.{statement}
 use Rattle.operator.proofs.ring.usable.Tie as tie
 
-contradiction : {t : Bool} → t ≡ true → t ≡ false → ⊥
-contradiction e f = let z : _≡_ {A = ℕ} 0 1 = cc in omega arith
-
--- a field's test, with what says whether the field is used
-fits-answered : {used uses : Bool} → used ≡ uses → (amount : ℕ) {answer : Bool} → answer ≡ storedFits used amount → storedFits uses amount ≡ answer
-fits-answered same amount answered = sym (answered ∙ ap (λ (x : Bool). storedFits x amount) same)
-
 returns : tie.Need-returns
-returns c = refused-unusable _ _ (λ stored. c .if1 .taken (stored .sized))
+returns c = sym (ap not (unsized-unusable _ _ (c .if1 .taken)))
 
 returns-2 : tie.Need-returns-2
-returns-2 c = refused-unusable _ _ (λ stored. omega arith)
+returns-2 c = sym (ap not (last-unusable _ _ (c .if2 .taken)))
 
 uses-held-requires : tie.Need-uses-held-requires
 uses-held-requires c κs = search needs
 
-stored-fits-requires : tie.Need-stored-fits-requires
-stored-fits-requires c κs = search needs
+most-beside-requires : tie.Need-most-beside-requires
+most-beside-requires c κs = search needs
+
+apart-fits-requires : tie.Need-apart-fits-requires
+apart-fits-requires c κs =
+    let tested = c .before .before in
+    (tested .before .before .before .if1 .left, tested .before .if2 .left, sym (tested .uses-held .ensures) ∙ c .before .if3 .taken, c .most-beside .ensures)
+
+words-used-requires : tie.Need-words-used-requires
+words-used-requires c κs = search needs
+
+delayer-fits-requires : tie.Need-delayer-fits-requires
+delayer-fits-requires c κs =
+    let tested = c .before .before in
+    (tested .before .before .before .if1 .left, tested .before .if2 .left, sym (tested .uses-held .ensures) ∙ c .before .if3 .left, c .words-used .ensures)
 
 returns-3 : tie.Need-returns-3
-returns-3 c = refused-unusable _ _ (λ stored. contradiction (stored .held-fits) (fits-answered (c .before .before .uses-held .ensures) _ (c .before .stored-fits .ensures) ∙ not-true _ (c .if3 .taken)))
-
-uses-beside-requires : tie.Need-uses-beside-requires
-uses-beside-requires c κs = search needs
-
-stored-fits-requires-2 : tie.Need-stored-fits-requires-2
-stored-fits-requires-2 c κs = search needs
+returns-3 c = search needs
 
 returns-4 : tie.Need-returns-4
-returns-4 c = refused-unusable _ _ (λ stored. contradiction (stored .beside-fits) (fits-answered (c .before .before .uses-beside .ensures) _ (c .before .stored-fits2 .ensures) ∙ not-true _ (c .if4 .taken)))
-
-totals-fit-requires : tie.Need-totals-fit-requires
-totals-fit-requires c κs = search needs
-
-returns-5 : tie.Need-returns-5
-returns-5 c = refused-unusable _ _ (λ stored. contradiction (stored .totals-fit) (sym (c .before .totals-fit .ensures) ∙ not-true _ (c .if5 .taken)))
-
-unused-clear-requires : tie.Need-unused-clear-requires
-unused-clear-requires c κs = search needs
-
-returns-6 : tie.Need-returns-6
-returns-6 c =
-    told-usable _ _ _
-    (λ clear. record {
-      sized = c .before .before .before .before .before .before .before .before .before .before .before .if1 .left;
-      slot-left = c .before .before .before .before .before .before .before .before .before .if2 .left;
-      held-fits = fits-answered (c .before .before .before .before .before .before .before .before .uses-held .ensures) _ (c .before .before .before .before .before .before .before .stored-fits .ensures) ∙ not-false _ (c .before .before .before .before .before .before .if3 .left);
-      beside-fits = fits-answered (c .before .before .before .before .before .uses-beside .ensures) _ (c .before .before .before .before .stored-fits2 .ensures) ∙ not-false _ (c .before .before .before .if4 .left);
-      totals-fit = sym (c .before .before .totals-fit .ensures) ∙ not-false _ (c .before .if5 .left);
-      words-fit = sym (c .unused-clear .ensures) ∙ clear;
-    })
-    (λ unclear stored. contradiction (stored .words-fit) (sym (c .unused-clear .ensures) ∙ unclear))
+returns-4 c = search needs
 
 pub usable-spec : {M : Type 1} → statement M
 usable-spec =
@@ -70,12 +44,9 @@ usable-spec =
     returns
     returns-2
     uses-held-requires
-    stored-fits-requires
+    most-beside-requires
+    apart-fits-requires
+    words-used-requires
+    delayer-fits-requires
     returns-3
-    uses-beside-requires
-    stored-fits-requires-2
-    returns-4
-    totals-fit-requires
-    returns-5
-    unused-clear-requires
-    returns-6)
+    returns-4)

@@ -1,0 +1,158 @@
+// The operators of a slot, one behind the other: each is tested, decided and advanced in one step, and its words are written once all have passed (document 01, sections 3, 6 and 7).
+
+use crate::Run;
+use crate::Stage;
+use crate::and;
+use crate::meter_of;
+use crate::operator_of;
+use meter::parts::Noted;
+use operator::ring::Advanced;
+use operator::ring::PathOperator;
+use operator::ring::advance;
+use quantity::Slots;
+use quantity::Units;
+ghost use mathlib.Core.Path.{_≡_};
+ghost use mathlib.Core.Bool.{true, false};
+ghost use Prim.Native.Nat.{_<_, min};
+ghost use lib.ListN.{length};
+ghost use Rattle.quantity.specs.Limits.{mostOperators};
+ghost use Rattle.operator.specs.Ring.{advancedOf, ringNoted};
+ghost use Rattle.meter.specs.Parts.{wordsNoted};
+ghost use Rattle.run.specs.Runs.{runWordCount, operatorAtWord, meterWords, operatorWords, meterIn, operatorOf};
+ghost use Rattle.run.specs.Steps.{firstProgress, onceSent, onceUnusable, onceAbove, stageKept, withPart, blockWritten};
+
+// What the operators so far have told: whether all can be used and would store no more than the limit, the first whose choice is above, 16 if none is, and what arrives at the next.
+pub struct Progress {
+    pub usable: bool,
+    pub fits: bool,
+    pub above: usize,
+    pub arriving: Units,
+}
+
+// Before the first of so many operators; none is usable where there is none.
+pub(crate) fn first_progress(count: usize, input: Units) -> Progress
+    ensures { λ r. ⌜ r ≡ firstProgress count input ⌝ }
+{
+    Progress {
+        usable: 0 < count,
+        fits: true,
+        above: crate::OPERATORS,
+        arriving: input,
+    }
+}
+
+// Behind an operator that sends.
+pub(crate) fn once_sent(progress: Progress, output: Units, fits: bool) -> Progress
+    ensures { λ r. ⌜ r ≡ onceSent progress output fits ⌝ }
+{
+    Progress {
+        usable: progress.usable,
+        fits: and(progress.fits, fits),
+        above: progress.above,
+        arriving: output,
+    }
+}
+
+// Behind one that cannot be used.
+pub(crate) fn once_unusable(progress: Progress) -> Progress
+    ensures { λ r. ⌜ r ≡ onceUnusable progress ⌝ }
+{
+    let arriving = progress.arriving;
+    Progress {
+        usable: false,
+        fits: progress.fits,
+        above: progress.above,
+        arriving,
+    }
+}
+
+// Behind operator k, whose choice is above.
+pub(crate) fn once_above(progress: Progress, k: usize) -> Progress
+    ensures { λ r. ⌜ r ≡ onceAbove progress k ⌝ }
+{
+    let arriving = progress.arriving;
+    Progress {
+        usable: progress.usable,
+        fits: progress.fits,
+        above: smaller(progress.above, k),
+        arriving,
+    }
+}
+
+// Operator k with its words.
+pub(crate) fn advance_stage(
+    stage: Stage,
+    slot: Slots,
+    words: &[u32],
+    k: usize,
+    input: Units,
+    choice: Units,
+) -> Advanced
+    requires { ⌜ (length (now words) ≡ runWordCount) × (k < mostOperators) ⌝ }
+    ensures { λ r. ⌜ r ≡ advancedOf (operatorOf stage slot) (operatorWords (now (words .entry)) k) (input .0) (choice .0) ⌝ }
+{
+    let start = crate::METER_WORDS + crate::OPERATOR_WORDS * k;
+    let end = start + crate::OPERATOR_WORDS;
+    advance(operator_of(stage, slot), &words[start..end], input, choice)
+}
+
+// An operator within a path, as the run keeps it.
+pub(crate) fn stage_of(state: PathOperator) -> Stage
+    ensures { λ r. ⌜ r ≡ stageKept state ⌝ }
+{
+    let operator = state.operator;
+    let held = state.held;
+    let beside = state.beside;
+    Stage {
+        operator,
+        held,
+        beside,
+        entered: state.entered,
+        left: state.left,
+    }
+}
+
+fn smaller(a: usize, b: usize) -> usize
+    ensures { λ r. ⌜ r ≡ min a b ⌝ }
+{
+    if a < b { a } else { b }
+}
+
+// The meter's block, and its words: as they were, unless the slot is taken.
+pub(crate) fn write_meter(taken: bool, run: Run, words: &mut [u32], input: Units) -> Units
+    requires { ⌜ (taken ≡ true → length (now words) ≡ runWordCount) ⌝ }
+    ensures { λ r. ⌜ (taken ≡ true → (r ≡ blockWritten run (now (words .entry)) (input .0)) × (now (words .exit) ≡ withPart 0 (wordsNoted (meterIn run) (meterWords (now (words .entry))) (input .0)) (now (words .entry)))) ⌝ }
+    ensures { λ r. ⌜ (taken ≡ false → (r ≡ run .block) × (now (words .exit) ≡ now (words .entry))) ⌝ }
+{
+    if taken {
+        note_input(run, words, input)
+    } else {
+        run.block
+    }
+}
+
+// The input noted by the meter.
+fn note_input(run: Run, words: &mut [u32], input: Units) -> Units
+    requires { ⌜ length (now words) ≡ runWordCount ⌝ }
+    ensures { λ r. ⌜ r ≡ blockWritten run (now (words .entry)) (input .0) ⌝ }
+    ensures { λ r. ⌜ now (words .exit) ≡ withPart 0 (wordsNoted (meterIn run) (meterWords (now (words .entry))) (input .0)) (now (words .entry)) ⌝ }
+{
+    let Noted::Block(block) = meter::parts::note(
+        meter_of(run),
+        &mut words[0..crate::METER_WORDS],
+        input,
+    ) else {
+        return run.block;
+    };
+    block
+}
+
+// Stage k's words.
+pub(crate) fn write_stage(stage: Stage, slot: Slots, words: &mut [u32], k: usize)
+    requires { ⌜ (length (now words) ≡ runWordCount) × (k < mostOperators) ⌝ }
+    ensures { λ _. ⌜ now (words .exit) ≡ withPart (operatorAtWord k) (ringNoted (operatorOf stage slot) (operatorWords (now (words .entry)) k)) (now (words .entry)) ⌝ }
+{
+    let start = crate::METER_WORDS + crate::OPERATOR_WORDS * k;
+    let end = start + crate::OPERATOR_WORDS;
+    operator::ring::note(operator_of(stage, slot), &mut words[start..end]);
+}
