@@ -3,13 +3,14 @@
 use mathlib.Core.Path.{_≡_, refl, ap, ap₂, sym, _∙_}
 use mathlib.Core.Bool.{Bool}
 use mathlib.Core.List.{List}
-use Prim.Native.Nat.{ℕ, zero, suc, _+_, _*_, _^_, _≤_, _<_}
-use native.Mathlib.Nat.{lt-of-not-le, mod-eq-of-lt}
+use Prim.Native.Nat.{ℕ, zero, suc, _+_, _*_, _/_, _%_, _^_, _≤_, _<_, max}
+use native.Mathlib.Nat.{add-zero, add-suc, lt-of-not-le, mod-eq-of-lt}
 use native.Mathlib.Numerals.{add-one}
 use native.Mathlib.Decide.{decLe}
 use native.Mathlib.Omega.{arith}
 use lib.ListN.{length}
-use lib.Bits.{bitOr, or-lt, or-add-and, and-le-l, and-le-r}
+use lib.Arith.{bin-ind}
+use lib.Bits.{bitOr, or-step, or-zero-r, or-lt, or-add-and, and-le-l, and-le-r}
 use lib.Dec.{leb, eqb}
 use borrow.Author.Tests.{le-leb, lt-leb, leb-true, ne-eqb}
 use Rattle.quantity.specs.Choice.{both}
@@ -26,6 +27,33 @@ joined-zero f = refl
 pub joined-next : (f : ℕ → ℕ) (n : ℕ) → joined f (n + 1) ≡ bitOr (joined f n) (f n)
 unfolding joined
 joined-next f n = rw add-one
+
+pub joined-same : (f g : ℕ → ℕ) (n : ℕ) → ((k : ℕ) → k < n → f k ≡ g k) → joined f n ≡ joined g n
+unfolding joined
+joined-same f g zero same = refl
+joined-same f g (suc n) same = ap₂ bitOr (joined-same f g n (λ k less. same k (omega arith))) (same n (omega arith))
+
+-- the last binary digits are joined apart from those before them
+or-half : (a b : ℕ) → bitOr a b / 2 ≡ bitOr (a / 2) (b / 2)
+or-half a b = omega (arith, or-step a b)
+
+or-last : (a b : ℕ) → bitOr a b % 2 ≡ max (a % 2) (b % 2)
+or-last a b = omega (arith, or-step a b)
+
+or-assoc : (a b c : ℕ) → bitOr (bitOr a b) c ≡ bitOr a (bitOr b c)
+or-assoc a =
+    bin-ind (λ (n : ℕ). (b c : ℕ) → bitOr (bitOr n b) c ≡ bitOr n (bitOr b c)) (λ b c. refl)
+    (λ n halves b c.
+    let before : bitOr (bitOr n b / 2) (c / 2) ≡ bitOr (n / 2) (bitOr b c / 2) = rw (or-half n b, or-half b c) (halves (b / 2) (c / 2)) in
+    omega (arith, or-step (bitOr n b) c, or-step n (bitOr b c), or-last n b, or-last b c))
+    a
+
+-- a join in two parts
+pub joined-parts : (f : ℕ → ℕ) (n k : ℕ) → joined f (n + k) ≡ bitOr (joined f n) (joined (λ j. f (n + j)) k)
+unfolding joined
+joined-parts f n zero = ap (joined f) (add-zero n) ∙ sym (or-zero-r (joined f n))
+joined-parts f n (suc k) =
+    ap (joined f) (add-suc n k) ∙ ap (λ (t : ℕ). bitOr t (f (n + k))) (joined-parts f n k) ∙ or-assoc (joined f n) (joined (λ j. f (n + j)) k) (f (n + k))
 
 -- the join of two is at least each of them
 le-or-l : (a b : ℕ) → a ≤ bitOr a b

@@ -1,3 +1,4 @@
 pub mod StoredLaws
 pub mod ScanLaws
 pub mod JoinLaws
+pub mod PartLaws

@@ -3,11 +3,11 @@ use mathlib.Core.Path.{_≡_, refl, ap, ap₂, sym, _∙_}
 use mathlib.Core.Bool.{Bool, true, false}
 use mathlib.Core.List.{List}
 use Prim.Native.Nat.{ℕ, zero, suc, _+_, _-_, _≤_, _<_}
-use native.Mathlib.Nat.{add-zero, add-suc}
+use native.Mathlib.Nat.{add-zero, add-suc, le-refl}
 use native.Mathlib.Decide.{decLt}
 use native.Mathlib.Omega.{arith}
-use lib.ListN.{length, take, drop, length-drop}
-use lib.Seq.{length-take-le, getD-take, getD-drop}
+use lib.ListN.{length, take}
+use lib.Seq.{length-take-le, getD-take}
 use lib.Dec.{leb, eqb}
 use borrow.Author.Tests.{lt-ltb, le-ltb, le-leb, lt-leb}
 use Rattle.quantity.specs.Choice.{pick, both}
@@ -21,6 +21,7 @@ use Rattle.words.specs.Gathering.{gatheredOf}
 use Rattle.words.specs.declared.Scanned.{Scanned}
 use Rattle.words.proofs.StoredLaws.{total-used}
 use Rattle.words.proofs.JoinLaws.{joined-within}
+use Rattle.words.proofs.PartLaws.{partOf, part-length, part-word}
 
 every-parts : (test : ℕ → Bool) (n k : ℕ) → every test (n + k) ≡ both (every test n) (every (λ j. test (n + j)) k)
 unfolding every
@@ -35,18 +36,15 @@ every-parts test n (suc k) =
 -- words of which the first `from` are 0, and the next of them up to `end` are tested
 module _ (words : List ℕ) (from end : ℕ) (first : every (clearAt words) from ≡ true) (behind : from ≤ end) (inside : end ≤ length words) where
   abbrev row : List ℕ
-  row = take (end - from) (drop from words)
-
-  row-length : length row ≡ end - from
-  row-length = length-take-le (end - from) (drop from words) (omega (arith, length-drop from words))
+  row = partOf words from end
 
   row-word : (j : ℕ) → j < end - from → clearAt row j ≡ clearAt words (from + j)
-  row-word j less = ap (λ (w : ℕ). eqb w 0) (getD-take (end - from) (drop from words) j 0 less ∙ getD-drop from words j 0)
+  row-word j less = ap (λ (w : ℕ). eqb w 0) (part-word words from end behind inside j less)
 
   pub row-clear : every (clearAt row) (length row) ≡ every (clearAt words) end
   row-clear =
       let whole : from + (end - from) ≡ end = omega arith in
-      ap (every (clearAt row)) row-length
+      ap (every (clearAt row)) (part-length words from end behind inside)
       ∙ every-same (clearAt row) (λ j. clearAt words (from + j)) (end - from) row-word
       ∙ ap (λ (t : Bool). both t (every (λ j. clearAt words (from + j)) (end - from))) (sym first)
       ∙ sym (every-parts (clearAt words) from (end - from))
@@ -75,7 +73,7 @@ module _ (words : List ℕ) (used end : ℕ) (below : end ≤ used) (within : en
   first = take (end - 0) words
 
   abbrev behind : List ℕ
-  behind = take (length words - end) (drop end words)
+  behind = partOf words end (length words)
 
   abbrev rest : ℕ
   rest = length words - end
@@ -84,13 +82,13 @@ module _ (words : List ℕ) (used end : ℕ) (below : end ≤ used) (within : en
   first-length = let long = length-take-le (end - 0) words (omega arith) in omega arith
 
   behind-length : length behind ≡ rest
-  behind-length = length-take-le rest (drop end words) (omega (arith, length-drop end words))
+  behind-length = part-length words end (length words) within (le-refl _)
 
   first-word : (j : ℕ) → j < end → wordAt first j ≡ wordAt words j
   first-word j less = getD-take (end - 0) words j 0 (omega (arith, less))
 
   behind-word : (j : ℕ) → j < rest → wordAt behind j ≡ wordAt words (end + j)
-  behind-word j less = getD-take rest (drop end words) j 0 less ∙ getD-drop end words j 0
+  behind-word = part-word words end (length words) within (le-refl _)
 
   whole : end + rest ≡ length words
   whole = omega arith

@@ -87,7 +87,7 @@ fn at_most(count: usize, most: usize) -> usize
 }
 
 // The words of a row, which is joined without a loop.
-const ROW: usize = 64;
+const ROW: usize = 128;
 
 // Whether every word is 0: row by row, and then those that are left.
 pub fn all_clear(words: &[u32]) -> bool
@@ -124,8 +124,29 @@ fn join(words: &[u32]) -> u32
     join
 }
 
-// The same join, and the sum of the words modulo 2^32, in one pass.
+// The same join, and the sum of the words modulo 2^32: row by row, and then those that are left.
 fn gather(words: &[u32]) -> Gathered
+    ensures { λ r. ⌜ r ≡ gatheredOf (now (words .entry)) ⌝ }
+{
+    let mut join: u32 = 0;
+    let mut low: u32 = 0;
+    let mut j = 0;
+    while ROW <= words.len() - j {
+        let end = j + ROW;
+        let row = gather_row(&words[j..end]);
+        join = join | row.join;
+        low = wrapping_add_u32(low, row.low);
+        j = end;
+    }
+    let rest = gather_row(&words[j..]);
+    Gathered {
+        join: join | rest.join,
+        low: wrapping_add_u32(low, rest.low),
+    }
+}
+
+// The same of few words, in one row.
+fn gather_row(words: &[u32]) -> Gathered
     ensures { λ r. ⌜ r ≡ gatheredOf (now (words .entry)) ⌝ }
 {
     let mut join: u32 = 0;

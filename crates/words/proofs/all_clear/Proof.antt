@@ -48,8 +48,8 @@ returns : tie.Need-returns Inv-loop μ-loop
 returns c =
     let at = c .before .before .before .before in
     let words = at .before .before .args .words .now in
-    let inside : at .loop .j + 64 ≤ length words = omega (arith, at .loop .inv .0, c .before .before .before .loop-test .taken) in
-    row-unclear words (at .loop .j) (at .loop .j + 64) (at .loop .inv .1) (omega arith) inside (sym (c .before .row-clear .ensures) ∙ not-true _ (c .if1 .taken))
+    let inside : at .loop .j + 128 ≤ length words = omega (arith, at .loop .inv .0, c .before .before .before .loop-test .taken) in
+    row-unclear words (at .loop .j) (at .loop .j + 128) (at .loop .inv .1) (omega arith) inside (sym (c .before .row-clear .ensures) ∙ not-true _ (c .if1 .taken))
 
 loop-less : tie.Need-loop-less Inv-loop μ-loop
 loop-less c = omega (arith, c .before .before .before .before .loop .inv .0, c .before .before .before .loop-test .taken)
@@ -58,8 +58,8 @@ loop-again : tie.Need-loop-again Inv-loop μ-loop
 loop-again c =
     let at = c .before .before .before .before in
     let words = at .before .before .args .words .now in
-    let inside : at .loop .j + 64 ≤ length words = omega (arith, at .loop .inv .0, c .before .before .before .loop-test .taken) in
-    (inside, sym (row-clear words (at .loop .j) (at .loop .j + 64) (at .loop .inv .1) (omega arith) inside) ∙ sym (c .before .row-clear .ensures) ∙ not-false _ (c .if1 .left))
+    let inside : at .loop .j + 128 ≤ length words = omega (arith, at .loop .inv .0, c .before .before .before .loop-test .taken) in
+    (inside, sym (row-clear words (at .loop .j) (at .loop .j + 128) (at .loop .inv .1) (omega arith) inside) ∙ sym (c .before .row-clear .ensures) ∙ not-false _ (c .if1 .left))
 
 mul-row-clear-2 : tie.Need-mul-row-clear-2 Inv-loop μ-loop
 mul-row-clear-2 c = search needs

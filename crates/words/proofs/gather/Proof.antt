@@ -1,15 +1,18 @@
--- The words passed, joined and added.
+-- The loop: the words of the rows passed are joined and added, and each row goes on them.
 use mathlib.Core.Path.{_≡_, sym, _∙_, ap, ap₂}
-use Prim.Native.Nat.{ℕ, _-_, _%_, _^_, _≤_}
+use Prim.Native.Nat.{ℕ, _+_, _-_, _%_, _^_, _≤_}
+use native.Mathlib.Nat.{le-refl}
 use native.Mathlib.Omega.{arith}
 use lib.ListN.{length}
 use lib.Bits.{bitOr}
 use borrow.Author.Needs.{needs}
 use Rattle.quantity.specs.Sums.{total}
-use Rattle.quantity.proofs.Sums.{total-zero, total-next}
+use Rattle.quantity.proofs.Sums.{total-zero}
 use Rattle.words.specs.Stored.{wordAt}
 use Rattle.words.specs.Gathering.{joined, gatheredOf}
-use Rattle.words.proofs.JoinLaws.{joined-zero, joined-next}
+use Rattle.words.specs.declared.Gathered.{Gathered}
+use Rattle.words.proofs.JoinLaws.{joined-zero}
+use Rattle.words.proofs.PartLaws.{part-joined, part-total}
 use Rattle.words.proofs.gather.Statement.{statement}
 use Rattle.words.proofs.gather.Tie as tie
 
@@ -22,35 +25,74 @@ abbrev μ-loop : tie.MeasureT-loop
 loop-holds : tie.Need-loop-holds Inv-loop μ-loop
 loop-holds c = (omega arith, sym (joined-zero _), sym (ap (λ (n : ℕ). n % 2 ^ 32) (total-zero _)))
 
-mul-word : tie.Need-mul-word Inv-loop μ-loop
-mul-word c = search needs
+sub-loop : tie.Need-sub-loop Inv-loop μ-loop
+sub-loop c = c .loop .inv .0
 
-shared-slice-read-word : tie.Need-shared-slice-read-word Inv-loop μ-loop
-shared-slice-read-word c = omega arith
+add-end : tie.Need-add-end Inv-loop μ-loop
+add-end c = search needs
+
+mul-gather-row : tie.Need-mul-gather-row Inv-loop μ-loop
+mul-gather-row c = search needs
+
+sub-gather-row : tie.Need-sub-gather-row Inv-loop μ-loop
+sub-gather-row c = search needs
+
+part-gather-row-start : tie.Need-part-gather-row-start Inv-loop μ-loop
+part-gather-row-start c = search needs
+
+part-gather-row-end : tie.Need-part-gather-row-end Inv-loop μ-loop
+part-gather-row-end c = search needs
+
+gather-row-requires : tie.Need-gather-row-requires Inv-loop μ-loop
+gather-row-requires c κs = search needs
 
 wrapping-add-u32-requires : tie.Need-wrapping-add-u32-requires Inv-loop μ-loop
 wrapping-add-u32-requires c κs = search needs
 
-add-j : tie.Need-add-j Inv-loop μ-loop
-add-j c = omega arith
-
 loop-less : tie.Need-loop-less Inv-loop μ-loop
-loop-less c = omega arith
+loop-less c = search needs
 
 loop-again : tie.Need-loop-again Inv-loop μ-loop
+unfolding gatheredOf
 loop-again c =
-    let j = c .before .before .before .loop .j in
-    let words = c .before .before .before .before .before .args .words .now in
-    let (_, join, low) = c .before .before .before .loop .inv in
-    (omega arith, ap (λ (joined : ℕ). bitOr joined (wordAt words j)) join ∙ sym (joined-next (wordAt words) j), omega (arith, c .wrapping-add-u32 .ensures, total-next (wordAt words) j))
+    let at = c .before .before .before .before .before in
+    let words = at .before .before .args .words .now in
+    let (_, join, low) = at .loop .inv in
+    let inside : at .loop .j + 128 ≤ length words = omega (arith, at .loop .inv .0, c .before .before .before .before .loop-test .taken) in
+    let row = c .before .before .gather-row .ensures in (
+      inside,
+      ap₂ bitOr join (ap (λ (g : Gathered). g .join) row) ∙ part-joined words (at .loop .j) (at .loop .j + 128) (omega arith) inside,
+      omega (arith, c .wrapping-add-u32 .ensures, low, ap (λ (g : Gathered). g .low) row, part-total words (at .loop .j) (at .loop .j + 128) (omega arith) inside),
+    )
+
+mul-gather-row-2 : tie.Need-mul-gather-row-2 Inv-loop μ-loop
+mul-gather-row-2 c = search needs
+
+sub-gather-row-2 : tie.Need-sub-gather-row-2 Inv-loop μ-loop
+sub-gather-row-2 c = search needs
+
+part-gather-row-start-2 : tie.Need-part-gather-row-start-2 Inv-loop μ-loop
+part-gather-row-start-2 c = search needs
+
+part-gather-row-end-2 : tie.Need-part-gather-row-end-2 Inv-loop μ-loop
+part-gather-row-end-2 c = search needs
+
+gather-row-requires-2 : tie.Need-gather-row-requires-2 Inv-loop μ-loop
+gather-row-requires-2 c κs = search needs
+
+wrapping-add-u32-requires-2 : tie.Need-wrapping-add-u32-requires-2 Inv-loop μ-loop
+wrapping-add-u32-requires-2 c κs = search needs
 
 returns : tie.Need-returns Inv-loop μ-loop
 unfolding gatheredOf
 returns c =
-    let words = c .before .before .before .args .words .now in
-    let all : c .before .loop .j ≡ length words = omega arith in
-    let (_, join, low) = c .before .loop .inv in
-    ap₂ (λ (join low : ℕ). record { join = join; low = low }) (join ∙ ap (joined (wordAt words)) all) (low ∙ ap (λ (n : ℕ). total (wordAt words) n % 2 ^ 32) all)
+    let at = c .before .before .before .before .before in
+    let words = at .before .before .args .words .now in
+    let (passed, join, low) = at .loop .inv in
+    let rest = c .before .before .gather-row2 .ensures in
+    ap₂ (λ (join low : ℕ). record { join = join; low = low })
+    (ap₂ bitOr join (ap (λ (g : Gathered). g .join) rest) ∙ part-joined words (at .loop .j) (length words) passed (le-refl _))
+    (omega (arith, c .wrapping-add-u322 .ensures, low, ap (λ (g : Gathered). g .low) rest, part-total words (at .loop .j) (length words) passed (le-refl _)))
 
 pub gather-spec : {M : Type 1} → statement M
 gather-spec =
@@ -59,10 +101,20 @@ gather-spec =
     Inv-loop
     μ-loop
     loop-holds
-    mul-word
-    shared-slice-read-word
+    sub-loop
+    add-end
+    mul-gather-row
+    sub-gather-row
+    part-gather-row-start
+    part-gather-row-end
+    gather-row-requires
     wrapping-add-u32-requires
-    add-j
     loop-less
     loop-again
+    mul-gather-row-2
+    sub-gather-row-2
+    part-gather-row-start-2
+    part-gather-row-end-2
+    gather-row-requires-2
+    wrapping-add-u32-requires-2
     returns)
