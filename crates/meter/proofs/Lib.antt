@@ -3,6 +3,7 @@ pub mod Metering
 mod RingLaws
 mod Least
 mod UsableMeter
+mod PlaceLaws
 pub mod PartsLaws
 mod EarlierRows
 mod MeterAnswers

@@ -48,8 +48,6 @@ stateAfter x block = record { declaration = x .declaration; slot = record { 0 = 
 abbrev pub meteredNoted : SourceMeter → Noted → Metered
 meteredNoted x (Noted.Block block) = record { intake = Intake.Taken; state = stateAfter x block }
 meteredNoted x Noted.Unfit = refusedWith x Unusable
-meteredNoted x Noted.OutOfRange = refusedWith x (OutOfRange 0)
-meteredNoted x Noted.OutOfOrder = refusedWith x (RowsOutOfOrder 0)
 
 -- what is known of a meter that answered its count
 pub record Counting (x : SourceMeter) (words : List ℕ) (end : ℕ) : Type 0 where

@@ -1,31 +1,32 @@
 -- A meter's input in its parts: what each answers, from its tests in plain facts, and what it answers where the meter can be used.
 use mathlib.Core.Path.{_≡_, refl, ap, sym, _∙_}
 use mathlib.Core.Bool.{Bool, true, false, not}
-use mathlib.Core.List.{List}
+use mathlib.Core.List.{List, [], _∷_}
 use Prim.Native.Nat.{ℕ, suc, _+_, _-_, _%_, _≤_, _<_}
-use native.Mathlib.Nat.{le-dest}
+use native.Mathlib.Nat.{le-dest, mod-lt}
 use native.Mathlib.Omega.{arith}
 use lib.ListN.{length, set, length-set}
 use lib.Seq.{getD-set-same, getD-set-other}
 use lib.Dec.{leb, ltb, eqb}
 use borrow.Author.Tests.{eqb-true, eqb-false}
-use Rattle.quantity.specs.Choice.{pick, anyOf}
+use Rattle.quantity.specs.Choice.{pick, either, anyOf}
 use Rattle.quantity.specs.Limits.{largestAmount}
 use Rattle.quantity.specs.Sums.{every, listOf}
-use Rattle.quantity.proofs.Laws.{pick-true, pick-false}
+use Rattle.quantity.proofs.Laws.{pick-true, pick-false, either-first, either-second, either-none}
 use Rattle.quantity.proofs.Sums.{every-same, listOf-ext}
 use Rattle.flow.specs.Declarations.{rowCount, rowAt, declarationInRange, rowsInOrder}
 use Rattle.words.specs.Stored.{wordAt}
 use Rattle.meter.specs.Meter.{meterWordCount, usesBlock, ringLength, meterUnusable, blockBefore, countedBefore, inputBreaks, roomIn, leastBelow, blockNext, meterWordNext}
-use Rattle.meter.specs.Parts.{inputsBelow, countedOf, notedOf, wordsNoted}
+use Rattle.meter.specs.Parts.{inputsBelow, countedOf, hasPlace, noteUnfit, notedOf, wordsNoted}
 use Rattle.meter.specs.declared.SourceMeter.{SourceMeter}
 use Rattle.meter.specs.declared.parts.Counted.{Counted}
 use Rattle.meter.specs.declared.parts.Counted.the-variants.{Below}
 use Rattle.meter.specs.declared.parts.Noted.{Noted}
 use Rattle.flow.proofs.Declarations.{one-count, one-at}
-use Rattle.words.proofs.StoredLaws.{unfitTests, fit, none-unfit, stored-le}
+use Rattle.words.proofs.StoredLaws.{either-last, anyOf-append, unfitTests, fit, none-unfit, stored-le}
 use Rattle.meter.proofs.Least.{leastFrom, least-from-last, least-less-one, below-least, within-below}
-use Rattle.meter.proofs.UsableMeter.{usable-meter, declaration-ranged, smooth-one, counted-block, place-inside, ring-fits}
+use Rattle.meter.proofs.UsableMeter.{usable-meter, declaration-ranged, smooth-one, counted-block}
+use Rattle.meter.proofs.PlaceLaws.{ring-placed, place-ranged}
 
 -- What the count answers.
 
@@ -96,69 +97,63 @@ module _ (x : SourceMeter) (words : List ℕ) (input : ℕ) where
   abbrev Noting : Noted → List ℕ → Type 0
   Noting answer after = (answer ≡ notedOf x words input) × (after ≡ wordsNoted x words input)
 
-  pub noted-unfit : anyOf (unfitTests (length words) meterWordCount (x .slot .0) (x .block .0) input) ≡ true → Noting Noted.Unfit words
-  unfolding notedOf wordsNoted
-  noted-unfit test = (sym (pick-true _ _ _ test), sym (pick-true _ _ _ test))
+  abbrev tests : List Bool
+  tests = unfitTests (length words) meterWordCount (x .slot .0) (x .block .0) input
 
-  module _ (passed : anyOf (unfitTests (length words) meterWordCount (x .slot .0) (x .block .0) input) ≡ false) where
-    pub noted-outside : declarationInRange (x .declaration) ≡ false → Noting Noted.OutOfRange words
+  -- the place is tested behind the numbers
+  place-last : noteUnfit x words input ≡ either (anyOf tests) (not (hasPlace (x .declaration)))
+  place-last = anyOf-append tests (not (hasPlace (x .declaration)) ∷ []) ∙ ap (either (anyOf tests)) (either-last (not (hasPlace (x .declaration))))
+
+  unfit : noteUnfit x words input ≡ true → Noting Noted.Unfit words
+  unfolding notedOf wordsNoted
+  unfit test = (sym (pick-true _ _ _ test), sym (pick-true _ _ _ test))
+
+  pub noted-unfit : anyOf tests ≡ true → Noting Noted.Unfit words
+  noted-unfit test = unfit (place-last ∙ either-first (anyOf tests) _ test)
+
+  pub noted-nowhere : hasPlace (x .declaration) ≡ false → Noting Noted.Unfit words
+  noted-nowhere none = unfit (place-last ∙ either-second (anyOf tests) _ (ap not none))
+
+  module _ (passed : anyOf tests ≡ false) (placed : hasPlace (x .declaration) ≡ true) where
+    noting : Noting (Noted.Block (record { 0 = blockNext x input })) (listOf (meterWordNext x words input) meterWordCount)
     unfolding notedOf wordsNoted
-    noted-outside outside = (
-      sym (pick-false _ _ _ passed ∙ pick-true _ _ _ (ap not outside)),
-      sym (pick-false _ _ _ passed ∙ pick-true _ _ _ (ap not outside)),
+    noting =
+        let none = place-last ∙ either-none (anyOf tests) _ passed (ap not placed) in
+        (sym (pick-false _ _ _ none), sym (pick-false _ _ _ none))
+
+    sized : length words ≡ meterWordCount
+    sized = fit (length words) meterWordCount (x .slot .0) (x .block .0) input passed .sized
+
+    -- with a block, the words stay
+    pub noted-block : usesBlock (x .declaration .kind) ≡ true → Noting (Noted.Block (record { 0 = blockBefore x + input })) words
+    unfolding blockNext meterWordNext
+    noted-block smooth = (
+      ap (λ (n : ℕ). Noted.Block (record { 0 = n })) (sym (pick-true _ _ _ smooth)) ∙ noting .0,
+      listOf-ext 0 (meterWordNext x words input) meterWordCount words sized (λ j less. rw smooth) ∙ noting .1,
     )
 
-    module _ (ranged : declarationInRange (x .declaration) ≡ true) where
-      pub noted-unordered : rowsInOrder (x .declaration) ≡ false → Noting Noted.OutOfOrder words
-      unfolding notedOf wordsNoted
-      noted-unordered unordered = (
-        sym (pick-false _ _ _ passed ∙ pick-false _ _ _ (ap not ranged) ∙ pick-true _ _ _ (ap not unordered)),
-        sym (pick-false _ _ _ passed ∙ pick-false _ _ _ (ap not ranged) ∙ pick-true _ _ _ (ap not unordered)),
+    module _ (ring : usesBlock (x .declaration .kind) ≡ false) where
+      abbrev place : ℕ
+      place = x .slot .0 % ringLength (x .declaration)
+
+      -- the word that the input replaces is among the words
+      pub place-within : place < length words
+      place-within = let (large, within) = ring-placed (x .declaration) ring placed in omega (arith, mod-lt (x .slot .0) large, sized)
+
+      -- with a ring, the input replaces the word of its slot
+      pub noted-word : Noting (Noted.Block (record { 0 = 0 })) (set words place input)
+      unfolding blockNext meterWordNext
+      noted-word = (
+        ap (λ (n : ℕ). Noted.Block (record { 0 = n })) (sym (pick-false _ _ _ ring)) ∙ noting .0,
+        listOf-ext 0 (meterWordNext x words input) meterWordCount (set words place input)
+            (length-set words place input ∙ sized)
+            (λ j less. rw ring (word-set j (eqb j place) refl))
+            ∙ noting .1,
       )
-
-      module _ (ordered : rowsInOrder (x .declaration) ≡ true) where
-        noting : Noting (Noted.Block (record { 0 = blockNext x input })) (listOf (meterWordNext x words input) meterWordCount)
-        unfolding notedOf wordsNoted
-        noting = (
-          sym (pick-false _ _ _ passed ∙ pick-false _ _ _ (ap not ranged) ∙ pick-false _ _ _ (ap not ordered)),
-          sym (pick-false _ _ _ passed ∙ pick-false _ _ _ (ap not ranged) ∙ pick-false _ _ _ (ap not ordered)),
-        )
-
-        sized : length words ≡ meterWordCount
-        sized = fit (length words) meterWordCount (x .slot .0) (x .block .0) input passed .sized
-
-        -- with a block, the words stay
-        pub noted-block : usesBlock (x .declaration .kind) ≡ true → Noting (Noted.Block (record { 0 = blockBefore x + input })) words
-        unfolding blockNext meterWordNext
-        noted-block smooth = (
-          ap (λ (n : ℕ). Noted.Block (record { 0 = n })) (sym (pick-true _ _ _ smooth)) ∙ noting .0,
-          listOf-ext 0 (meterWordNext x words input) meterWordCount words sized (λ j less. rw smooth) ∙ noting .1,
-        )
-
-        module _ (ring : usesBlock (x .declaration .kind) ≡ false) where
-          abbrev place : ℕ
-          place = x .slot .0 % ringLength (x .declaration)
-
-          -- the word that the input replaces is among the words
-          pub place-within : place < length words
-          place-within =
-              let known = declaration-ranged (x .declaration) ranged in
-              omega (arith, place-inside x words ring known ordered, ring-fits (x .declaration) ring known, sized)
-
-          -- with a ring, the input replaces the word of its slot
-          pub noted-word : Noting (Noted.Block (record { 0 = 0 })) (set words place input)
-          unfolding blockNext meterWordNext
-          noted-word = (
-            ap (λ (n : ℕ). Noted.Block (record { 0 = n })) (sym (pick-false _ _ _ ring)) ∙ noting .0,
-            listOf-ext 0 (meterWordNext x words input) meterWordCount (set words place input)
-                (length-set words place input ∙ sized)
-                (λ j less. rw ring (word-set j (eqb j place) refl))
-                ∙ noting .1,
-          )
-            where
-              word-set : (j : ℕ) (test : Bool) → eqb j place ≡ test → wordAt (set words place input) j ≡ pick test input (wordAt words j)
-              word-set j true e = rw (eqb-true j _ e) (getD-set-same words place input 0 place-within)
-              word-set j false e = getD-set-other words place j input 0 (eqb-false j _ e)
+        where
+          word-set : (j : ℕ) (test : Bool) → eqb j place ≡ test → wordAt (set words place input) j ≡ pick test input (wordAt words j)
+          word-set j true e = rw (eqb-true j _ e) (getD-set-same words place input 0 place-within)
+          word-set j false e = getD-set-other words place j input 0 (eqb-false j _ e)
 
 -- where the meter can be used
 pub noted-next : (x : SourceMeter) (words : List ℕ) (input : ℕ) → meterUnusable x words ≡ false → declarationInRange (x .declaration) ≡ true → rowsInOrder (x .declaration) ≡ true
@@ -168,5 +163,5 @@ noted-next x words input usable ranged ordered small =
     let stored = usable-meter x words usable in
     let block-le = stored-le (usesBlock (x .declaration .kind)) (x .block .0) (stored .block-fits) in
     let tested = none-unfit (length words) meterWordCount (x .slot .0) (x .block .0) input (record { sized = stored .sized; slot-left = stored .slot-left; first-le = block-le; second-le = small }) in
-    let (answer, after) = noting x words input tested ranged ordered in
+    let (answer, after) = noting x words input tested (place-ranged (x .declaration) (declaration-ranged (x .declaration) ranged)) in
     (sym answer, sym after)

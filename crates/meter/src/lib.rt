@@ -74,8 +74,6 @@ pub fn take(state: SourceMeter, words: &mut [u32], input: Units) -> Metered
             match note(state, words, input) {
                 Noted::Block(block) => taken(state, block),
                 Noted::Unfit => refused(state, Refusal::Unusable),
-                Noted::OutOfRange => refused(state, Refusal::OutOfRange(0)),
-                Noted::OutOfOrder => refused(state, Refusal::RowsOutOfOrder(0)),
             }
         }
     }

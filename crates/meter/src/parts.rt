@@ -16,7 +16,7 @@ ghost use Rattle.quantity.specs.Sums.{total};
 ghost use Rattle.words.specs.Stored.{wordAt};
 ghost use Rattle.flow.specs.Declarations.{declarationInRange, rowsInOrder};
 ghost use Rattle.meter.specs.Meter.{meterWordCount, usesBlock, ringLength, meterUnusable, blockBefore, wordBefore};
-ghost use Rattle.meter.specs.Parts.{inputsBelow, countedOf, notedOf, wordsNoted};
+ghost use Rattle.meter.specs.Parts.{inputsBelow, countedOf, hasPlace, notedOf, wordsNoted};
 
 // The words of a meter.
 const WORDS: usize = 1024;
@@ -33,8 +33,6 @@ pub enum Counted {
 pub enum Noted {
     Block(Units),
     Unfit,
-    OutOfRange,
-    OutOfOrder,
 }
 
 // Test: what the next input has to be below, so that it keeps every row.
@@ -56,7 +54,7 @@ pub fn counted_before(state: SourceMeter, words: &[u32]) -> Counted
     }
 }
 
-// Write: the block's total, and the input's word where there is a ring. No word is tested, and no quota.
+// Write: the block's total, and the input's word where there is a ring. No word is tested, no quota, and of the declaration only that the slot has a place.
 pub fn note(state: SourceMeter, words: &mut [u32], input: Units) -> Noted
     ensures { λ r. ⌜ (r ≡ notedOf state (now (words .entry)) (input .0)) × (now (words .exit) ≡ wordsNoted state (now (words .entry)) (input .0)) ⌝ }
 {
@@ -64,20 +62,31 @@ pub fn note(state: SourceMeter, words: &mut [u32], input: Units) -> Noted
         return Noted::Unfit;
     }
     let declaration = state.declaration;
-    if !declaration.in_range() {
-        return Noted::OutOfRange;
-    }
-    if !declaration.in_order() {
-        return Noted::OutOfOrder;
+    if !has_place(declaration) {
+        return Noted::Unfit;
     }
     let kind = declaration.kind;
     if uses_block(kind) {
         return Noted::Block(Units(block_before(state) + input.0));
     }
-    let last = declaration.last_row();
-    let at = (state.slot.0 % last.interval.0) as usize;
+    let at = state.slot.0 as usize % ring_length(declaration);
     words[at] = input.0 as u32;
     Noted::Block(Units(0))
+}
+
+// Whether a slot has a place: in a block, or in a ring within the words.
+fn has_place(declaration: Declaration) -> bool
+    ensures { λ r. ⌜ r ≡ hasPlace declaration ⌝ }
+{
+    let kind = declaration.kind;
+    if uses_block(kind) {
+        return 1 <= declaration.interval.0;
+    }
+    let ring = ring_length(declaration);
+    if ring == 0 {
+        return false;
+    }
+    ring <= WORDS
 }
 
 // The sum of the words, unless what is lent and stored cannot be used.

@@ -1,6 +1,6 @@
 -- Writing operator by operator: before stage k the words of the meter and of the stages before it are written, and every other is as it was. Behind the last stage that is what a slot writes.
 use mathlib.Core.Path.{_≡_, refl, ap, sym, _∙_}
-use mathlib.Core.Bool.{Bool, true, false, not}
+use mathlib.Core.Bool.{Bool, true, false}
 use mathlib.Core.List.{List, _++_}
 use mathlib.Core.Logic.{_⊎_, inl, inr}
 use Prim.Native.Nat.{ℕ, _+_, _-_, _/_, _%_, _<_}
@@ -19,7 +19,6 @@ use Rattle.words.specs.Stored.{wordAt}
 use Rattle.operator.specs.Operators.{numberInRange}
 use Rattle.operator.specs.Single.{wordCount, usesHeld}
 use Rattle.operator.specs.Ring.{ringNoted}
-use Rattle.flow.specs.Declarations.{declarationInRange, rowsInOrder}
 use Rattle.meter.specs.Meter.{meterWordCount, meterWordNext}
 use Rattle.meter.specs.Parts.{noteUnfit, notedOf, wordsNoted}
 use Rattle.meter.specs.declared.SourceMeter.{SourceMeter}
@@ -43,9 +42,7 @@ length-either n false words next was will = will
 length-noted : (x : SourceMeter) (words : List ℕ) (input : ℕ) → length words ≡ meterWordCount → length (wordsNoted x words input) ≡ meterWordCount
 unfolding wordsNoted
 length-noted x words input size =
-    length-either meterWordCount (noteUnfit x words input) words _ size
-    (length-either meterWordCount (not (declarationInRange (x .declaration))) words _ size
-    (length-either meterWordCount (not (rowsInOrder (x .declaration))) words _ size (length-listOf (meterWordNext x words input) meterWordCount)))
+    length-either meterWordCount (noteUnfit x words input) words _ size (length-listOf (meterWordNext x words input) meterWordCount)
 
 length-ring : (x : PathOperator) (words : List ℕ) → length words ≡ wordCount → length (ringNoted x words) ≡ wordCount
 unfolding ringNoted
@@ -66,14 +63,6 @@ meter-word words sized j less = part-at 0 meterWordCount words (omega arith) j l
 abbrev pub blockThen : Units → Noted → Units
 blockThen block (Noted.Block next) = next
 blockThen block Noted.Unfit = block
-blockThen block Noted.OutOfRange = block
-blockThen block Noted.OutOfOrder = block
-
-pub block-stays : (block : Units) (answer : Noted) → ((next : Units) → answer ≡ Noted.Block next → ⊥) → block ≡ blockThen block answer
-block-stays block (Noted.Block next) never = absurd (never next refl)
-block-stays block Noted.Unfit never = refl
-block-stays block Noted.OutOfRange never = refl
-block-stays block Noted.OutOfOrder never = refl
 
 module _ (run : Run) (words : List ℕ) (input : ℕ) where
   abbrev noted : List ℕ
@@ -83,8 +72,6 @@ module _ (run : Run) (words : List ℕ) (input : ℕ) where
   unfolding blockWritten
   block-taken (Noted.Block next) e = rw (← e)
   block-taken Noted.Unfit e = rw (← e)
-  block-taken Noted.OutOfRange e = rw (← e)
-  block-taken Noted.OutOfOrder e = rw (← e)
 
   pub meter-written : length words ≡ runWordCount → {meter : SourceMeter} → meter ≡ meterIn run → {answer : Noted} → answer ≡ notedOf meter (meterWords words) input
       → {new : List ℕ} → new ≡ wordsNoted meter (meterWords words) input

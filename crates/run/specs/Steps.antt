@@ -125,8 +125,6 @@ withPart at new words = take at words ++ (new ++ drop (at + length new) words)
 blockNamed : Units → Noted → Units
 blockNamed block (Noted.Block next) = next
 blockNamed block Noted.Unfit = block
-blockNamed block Noted.OutOfRange = block
-blockNamed block Noted.OutOfOrder = block
 
 -- the meter's block once the input is noted
 unfoldable pub blockWritten : Run → List ℕ → ℕ → Units

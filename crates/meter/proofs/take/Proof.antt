@@ -77,18 +77,6 @@ enum-told-4 c = search needs
 refused-requires-6 : tie.Need-refused-requires-6
 refused-requires-6 c κs = search needs
 
-enum-told-5 : tie.Need-enum-told-5
-enum-told-5 c = search needs
-
-refused-requires-7 : tie.Need-refused-requires-7
-refused-requires-7 c κs = search needs
-
-enum-told-6 : tie.Need-enum-told-6
-enum-told-6 c = search needs
-
-refused-requires-8 : tie.Need-refused-requires-8
-refused-requires-8 c κs = search needs
-
 same-length-2 : tie.Need-same-length-2
 same-length-2 c = search needs
 
@@ -125,18 +113,6 @@ same-length-6 c = search needs
 returns-7 : tie.Need-returns-7
 returns-7 c = noted (c .before .before .before .before .before) (c .before .enum-told4 .given .1) (c .refused6 .ensures)
 
-same-length-7 : tie.Need-same-length-7
-same-length-7 c = search needs
-
-returns-8 : tie.Need-returns-8
-returns-8 c = noted (c .before .before .before .before .before) (c .before .enum-told5 .given .1) (c .refused7 .ensures)
-
-same-length-8 : tie.Need-same-length-8
-same-length-8 c = search needs
-
-returns-9 : tie.Need-returns-9
-returns-9 c = noted (c .before .before .before .before .before) (c .before .enum-told6 .given .1) (c .refused8 .ensures)
-
 pub take-spec : {M : Type 1} → statement M
 take-spec =
     tie.close
@@ -159,10 +135,6 @@ take-spec =
     taken-requires
     enum-told-4
     refused-requires-6
-    enum-told-5
-    refused-requires-7
-    enum-told-6
-    refused-requires-8
     same-length-2
     returns-3
     same-length-3
@@ -172,8 +144,4 @@ take-spec =
     same-length-5
     returns-6
     same-length-6
-    returns-7
-    same-length-7
-    returns-8
-    same-length-8
-    returns-9)
+    returns-7)

@@ -1,10 +1,8 @@
 -- The meter's words are lent, and are back as many.
 use mathlib.Core.Path.{sym, _∙_}
-use mathlib.Core.Logic.{⊎-elim}
-use native.Mathlib.Omega.{arith}
 use Rattle.sheet.specs.Bodies.{part}
 use Rattle.run.specs.Runs.{meterWords}
-use Rattle.run.proofs.WriteLaws.{block-stays, meter-written}
+use Rattle.run.proofs.WriteLaws.{meter-written}
 use borrow.Author.Needs.{needs}
 use Rattle.run.proofs.stages.note_input.Statement.{statement}
 use Rattle.run.proofs.stages.note_input.Tie as tie
@@ -27,15 +25,17 @@ note-requires c κs = search needs
 enum-known-block : tie.Need-enum-known-block
 enum-known-block c = search needs
 
+enum-told : tie.Need-enum-told
+enum-told c = search needs
+
 same-length : tie.Need-same-length
 same-length c = search needs
 
 returns : tie.Need-returns
 unfolding meterWords part
 returns c =
-    let called = c .before .before .before .before in
-    let (made, left) = meter-written _ _ _ (called .before .before .before .before .pre) (called .before .before .meter-of .ensures) (called .note .ensures .0) (called .note .ensures .1) in
-    (block-stays _ (called .note .result) (λ next noted. ⊎-elim (λ e. omega arith) (⊎-elim (λ e. omega arith) (λ e. omega arith)) (rw noted at (c .before .match .keys2))) ∙ made, left)
+    let called = c .before .before .before .before .before in
+    meter-written _ _ _ (called .before .before .before .before .pre) (called .before .before .meter-of .ensures) (sym (c .before .enum-told .given .1) ∙ called .note .ensures .0) (called .note .ensures .1)
 
 same-length-2 : tie.Need-same-length-2
 same-length-2 c = search needs
@@ -56,6 +56,7 @@ note-input-spec =
     part-note-end
     note-requires
     enum-known-block
+    enum-told
     same-length
     returns
     same-length-2
