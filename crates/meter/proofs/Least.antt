@@ -1,9 +1,9 @@
 -- The least of several numbers: what is below it is below each; and it may be found from any of them on.
 use mathlib.Core.Path.{_≡_, refl, sym, ap, ap₂, _∙_}
 use mathlib.Core.Bool.{Bool, true, false}
-use Prim.Native.Nat.{ℕ, zero, suc, _+_, _-_, _<_, min}
+use Prim.Native.Nat.{ℕ, zero, suc, _+_, _-_, _≤_, _<_, min}
 use native.Mathlib.Numerals.{add-one}
-use native.Mathlib.Nat.{lt-of-not-le}
+use native.Mathlib.Nat.{le-refl, lt-of-not-le}
 use native.Mathlib.Decide.{decLe}
 use native.Mathlib.Omega.{arith}
 use lib.Dec.{leb, ltb}
@@ -40,6 +40,15 @@ least-from-first : (first : ℕ) (f : ℕ → ℕ) (n : ℕ) → leastFrom first
 unfolding leastFrom leastBelow
 least-from-first first f zero = refl
 least-from-first first f (suc n) = let shorter = least-from-first first f n in omega arith
+
+-- from a number that the first of them is not above
+least-le-first : (f : ℕ → ℕ) (n : ℕ) → leastBelow f (suc n) ≤ f 0
+unfolding leastBelow
+least-le-first f zero = le-refl (f 0)
+least-le-first f (suc n) = let shorter = least-le-first f n in omega arith
+
+pub least-from-limit : (limit : ℕ) (f : ℕ → ℕ) (n : ℕ) → f 0 ≤ limit → leastFrom limit f (suc n) ≡ leastBelow f (suc n)
+least-from-limit limit f n within = omega (arith, least-from-first limit f n, least-le-first f n)
 
 -- from the last number on
 pub least-from-last : (f : ℕ → ℕ) (n : ℕ) → leastFrom (f n) f n ≡ leastBelow f (suc n)

@@ -6,5 +6,7 @@ mod UsableMeter
 mod PlaceLaws
 pub mod PartsLaws
 mod EarlierRows
+mod AgeLaws
+mod VisitedRows
 mod MeterAnswers
 pub mod ReferenceMeters

@@ -21,13 +21,13 @@ module _ (ring : ℕ) (words : List ℕ) where
   age-total t n few = total-same _ _ n (λ a less. ap (wordAt words) (age-place ring t a (omega arith)))
 
   module _ (at : ℕ) (inside : at < ring) where
-    word-near : (a : ℕ) → a < at → wordBefore ring at words a ≡ wordAt words (at - suc a)
+    pub word-near : (a : ℕ) → a < at → wordBefore ring at words a ≡ wordAt words (at - suc a)
     unfolding wordBefore
     word-near a young =
         let round : at + ring - suc a ≡ ring + (at - suc a) = omega arith in
         ap (wordAt words) (ap (λ (n : ℕ). n % ring) round ∙ add-mod-left ring (at - suc a) ∙ mod-eq-of-lt {n = at - suc a} {m = ring} (omega arith))
 
-    word-far : (a : ℕ) → at ≤ a → a < ring → wordBefore ring at words a ≡ wordAt words (at + ring - suc a)
+    pub word-far : (a : ℕ) → at ≤ a → a < ring → wordBefore ring at words a ≡ wordAt words (at + ring - suc a)
     unfolding wordBefore
     word-far a old young = ap (wordAt words) (mod-eq-of-lt {n = at + ring - suc a} {m = ring} (omega arith))
 

@@ -80,6 +80,12 @@ smooth-one Kind.Smooth e = refl
 smooth-one Kind.Uniform e = absurd (true≢false (sym e))
 smooth-one Kind.Rows e = absurd (true≢false (sym e))
 
+pub several-ring : (kind : Kind) → hasRows kind ≡ true → usesBlock kind ≡ false
+unfolding usesBlock
+several-ring Kind.Smooth e = absurd (true≢false (sym e))
+several-ring Kind.Uniform e = refl
+several-ring Kind.Rows e = refl
+
 -- so a block has a slot
 pub block-interval : (declared : Declaration) → usesBlock (declared .kind) ≡ true → Ranged declared → 1 ≤ declared .interval .0
 block-interval declared smooth ranged =
@@ -139,21 +145,21 @@ ring-uniform declared uniform =
     ring-of-last declared (ap usesBlock uniform) (omega arith) (omega arith) ∙ ap (λ (row : Row). row .interval) (one-last declared one)
 
 module _ (declared : Declaration) (several : declared .kind ≡ Kind.Rows) where
-  several-ring : usesBlock (declared .kind) ≡ false
+  rows-ring : usesBlock (declared .kind) ≡ false
   unfolding usesBlock
-  several-ring = ap usesBlock several
+  rows-ring = ap usesBlock several
 
   several-count : rowCount declared ≡ declared .count
   several-count = rows-count declared (ap hasRows several)
 
   pub ring-several : 1 ≤ declared .count → declared .count ≤ mostRows → ringLength declared ≡ lastRow declared .interval
-  ring-several some few = ring-of-last declared several-ring (omega (arith, several-count)) (omega (arith, several-count))
+  ring-several some few = ring-of-last declared rows-ring (omega (arith, several-count)) (omega (arith, several-count))
 
   pub ring-several-none : declared .count ≡ 0 → ringLength declared ≡ 0
-  ring-several-none none = ring-without declared several-ring (omega (arith, several-count))
+  ring-several-none none = ring-without declared rows-ring (omega (arith, several-count))
 
   pub ring-several-beyond : mostRows < declared .count → ringLength declared ≡ 0
-  ring-several-beyond many = ring-beyond declared several-ring (omega (arith, several-count))
+  ring-several-beyond many = ring-beyond declared rows-ring (omega (arith, several-count))
 
 module _ (declared : Declaration) (ring : usesBlock (declared .kind) ≡ false) (ranged : Ranged declared) where
   pub ring-interval : ringLength declared ≡ lastRow declared .interval

@@ -1,4 +1,5 @@
 pub mod Meter
 pub mod Parts
+pub mod Counting
 pub mod Metering
 pub mod Words

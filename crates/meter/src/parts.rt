@@ -6,16 +6,20 @@ use flow::Declaration;
 use flow::Kind;
 use quantity::Slots;
 use quantity::Units;
+use std::num::wrapping_add_u32;
+use words::Gathered;
 ghost use mathlib.Core.Path.{_≡_};
 ghost use mathlib.Core.Bool.{true, false};
 ghost use Prim.Native.Nat.{_+_, _-_, _≤_, _<_, min};
 ghost use lib.ListN.{length};
 ghost use Rattle.quantity.specs.Choice.{pick};
 ghost use Rattle.quantity.specs.Limits.{largestAmount};
-ghost use Rattle.quantity.specs.Sums.{total};
-ghost use Rattle.words.specs.Stored.{wordAt};
+ghost use Rattle.quantity.specs.Sums.{total, every};
+ghost use Rattle.words.specs.Stored.{wordAt, wordFits};
+ghost use Rattle.words.specs.Gathering.{mostExact};
 ghost use Rattle.flow.specs.Declarations.{declarationInRange, rowsInOrder};
 ghost use Rattle.meter.specs.Meter.{meterWordCount, usesBlock, ringLength, meterUnusable, blockBefore, wordBefore};
+ghost use Rattle.meter.specs.Counting.{RowsTested, AgesGathered};
 ghost use Rattle.meter.specs.Parts.{inputsBelow, countedOf, hasPlace, notedOf, wordsNoted};
 
 // The words of a meter.
@@ -35,23 +39,17 @@ pub enum Noted {
     Unfit,
 }
 
-// Test: what the next input has to be below, so that it keeps every row.
+// Test: what the next input has to be below, so that it keeps every row. Under several rows each word is visited once, unless one is so large that a sum could wrap.
 pub fn counted_before(state: SourceMeter, words: &[u32]) -> Counted
     ensures { λ r. ⌜ r ≡ countedOf state (now (words .entry)) ⌝ }
 {
-    match stored_in(state, words) {
-        Stored::Unusable => Counted::Unusable,
-        Stored::Words(units) => {
-            let declaration = state.declaration;
-            if !declaration.in_range() {
-                return Counted::OutOfRange;
-            }
-            if !declaration.in_order() {
-                return Counted::OutOfOrder;
-            }
-            Counted::Below(Units(inputs_below(state, words, units)))
+    if rows_tested(state, words) {
+        let rows = rows_below(state, words);
+        if rows.join <= words::MOST_EXACT {
+            return Counted::Below(Units(rows.least));
         }
     }
+    counted_by_scan(state, words)
 }
 
 // Write: the block's total, and the input's word where there is a ring. No word is tested, no quota, and of the declaration only that the slot has a place.
@@ -87,6 +85,113 @@ fn has_place(declaration: Declaration) -> bool
         return false;
     }
     ring <= WORDS
+}
+
+// What one pass over the words finds under several rows: the words joined, and what the input has to be below where none of them is large.
+struct RowsBelow {
+    join: u32,
+    least: u64,
+}
+
+// Whether there are several rows, and no test stands but those of the words in the ring.
+fn rows_tested(state: SourceMeter, words: &[u32]) -> bool
+    ensures { λ r. ⌜ (r ≡ true → RowsTested state (now (words .entry))) ⌝ }
+{
+    let declaration = state.declaration;
+    let kind = declaration.kind;
+    if !kind.has_rows() {
+        return false;
+    }
+    if !declaration.unused_clear() {
+        return false;
+    }
+    if !declaration.in_range() {
+        return false;
+    }
+    if !declaration.in_order() {
+        return false;
+    }
+    if words.len() != WORDS {
+        return false;
+    }
+    if Slots::LAST < state.slot.0 {
+        return false;
+    }
+    if state.block.0 != 0 {
+        return false;
+    }
+    let ring = ring_length(declaration);
+    words::all_clear(&words[ring..])
+}
+
+// Each row goes on the words of the row before: it joins and adds those up to its own reach. The last reaches all but the word that the input replaces.
+fn rows_below(state: SourceMeter, words: &[u32]) -> RowsBelow
+    requires { ⌜ RowsTested state (now words) ⌝ }
+    ensures { λ r. ⌜ (r .join ≤ mostExact → (every (wordFits (ringLength (state .declaration)) (now (words .entry))) meterWordCount ≡ true) × (r .least ≡ inputsBelow state (now (words .entry)))) ⌝ }
+{
+    let declaration = state.declaration;
+    let count = declaration.count;
+    let rows = declaration.rows;
+    let ring = ring_length(declaration);
+    let at = state.slot.0 as usize % ring;
+    let mut join = words[at];
+    let mut low: u32 = 0;
+    let mut reach: usize = 0;
+    let mut least = Units::LARGEST + 1;
+    let mut i: usize = 0;
+    while i < count {
+        let row = rows[i];
+        let end = row.interval.0 as usize - 1;
+        let part = ring_gather(words, ring, at, reach, end);
+        join = join | part.join;
+        low = wrapping_add_u32(low, part.low);
+        reach = end;
+        least = smaller(least, left_below(row.quota.0, low as u64));
+        i = i + 1;
+    }
+    RowsBelow { join, least }
+}
+
+// The words of the slots before the one at `at`, from age `from` to below age `to`, joined and added: one part of the words, or two.
+fn ring_gather(words: &[u32], ring: usize, at: usize, from: usize, to: usize) -> Gathered
+    requires { ⌜ (length (now words) ≡ meterWordCount) × (ring ≤ meterWordCount) × (at < ring) × (from ≤ to) × (to ≤ ring) ⌝ }
+    ensures { λ r. ⌜ AgesGathered (now (words .entry)) ring at from to r ⌝ }
+{
+    let start = at + ring - to;
+    if at <= from {
+        let end = at + ring - from;
+        return words::gather(&words[start..end]);
+    }
+    let end = at - from;
+    if at < to {
+        let near = words::gather(&words[0..end]);
+        let far = words::gather(&words[start..ring]);
+        return Gathered {
+            join: near.join | far.join,
+            low: wrapping_add_u32(near.low, far.low),
+        };
+    }
+    let start = at - to;
+    words::gather(&words[start..end])
+}
+
+// The same by a scan of all words, and then row by row.
+fn counted_by_scan(state: SourceMeter, words: &[u32]) -> Counted
+    ensures { λ r. ⌜ r ≡ countedOf state (now (words .entry)) ⌝ }
+{
+    match stored_in(state, words) {
+        Stored::Unusable => Counted::Unusable,
+        Stored::Words(units) => {
+            let declaration = state.declaration;
+            if !declaration.in_range() {
+                return Counted::OutOfRange;
+            }
+            if !declaration.in_order() {
+                return Counted::OutOfOrder;
+            }
+            Counted::Below(Units(inputs_below(state, words, units)))
+        }
+    }
 }
 
 // The sum of the words, unless what is lent and stored cannot be used.

@@ -17,7 +17,7 @@ use Rattle.quantity.specs.Choice.{both}
 use Rattle.quantity.specs.Sums.{total, every}
 use Rattle.quantity.proofs.Sums.{total-zero, total-suc, every-at, every-same}
 use Rattle.words.specs.Stored.{wordAt}
-use Rattle.words.specs.Gathering.{joined, gatheredOf}
+use Rattle.words.specs.Gathering.{joined, mostExact, gatheredOf}
 
 pub joined-zero : (f : ℕ → ℕ) → joined f 0 ≡ 0
 unfolding joined
@@ -56,10 +56,10 @@ joined-parts f n (suc k) =
     ap (joined f) (add-suc n k) ∙ ap (λ (t : ℕ). bitOr t (f (n + k))) (joined-parts f n k) ∙ or-assoc (joined f n) (joined (λ j. f (n + j)) k) (f (n + k))
 
 -- the join of two is at least each of them
-le-or-l : (a b : ℕ) → a ≤ bitOr a b
+pub le-or-l : (a b : ℕ) → a ≤ bitOr a b
 le-or-l a b = omega (arith, or-add-and a b, and-le-r a b)
 
-le-or-r : (a b : ℕ) → b ≤ bitOr a b
+pub le-or-r : (a b : ℕ) → b ≤ bitOr a b
 le-or-r a b = omega (arith, or-add-and a b, and-le-l a b)
 
 -- `most` is 2^k − 1: k binary digits, each of them 1
@@ -94,10 +94,17 @@ total-at-most : (f : ℕ → ℕ) (m n : ℕ) → ((k : ℕ) → k < n → f k �
 total-at-most f m zero each = omega (arith, total-zero f)
 total-at-most f m (suc n) each = omega (arith, total-suc f n, each n (omega arith), total-at-most f m n (λ k less. each k (omega arith)))
 
--- at most 1,024 words whose join is at most 2^22 − 1 sum to less than 2^32
-pub low-exact : (words : List ℕ) → length words ≤ 1_024 → gatheredOf words .join ≤ 4_194_303 → gatheredOf words .low ≡ total (wordAt words) (length words)
+-- where the join is at most 2^22 − 1, so is each
+pub joined-small : (f : ℕ → ℕ) (n : ℕ) → joined f n ≤ mostExact → (k : ℕ) → k < n → f k ≤ mostExact
+joined-small f n within k less =
+    let each = sym (joined-within 22 mostExact refl f n) ∙ le-leb _ mostExact within in
+    leb-true (f k) mostExact (every-at (λ k. leb (f k) mostExact) n each k less)
+
+-- and at most 1,024 of them sum to less than 2^32
+pub small-total : (f : ℕ → ℕ) (n : ℕ) → n ≤ 1_024 → ((k : ℕ) → k < n → f k ≤ mostExact) → total f n < 2 ^ 32
+small-total f n few small = omega (arith, total-at-most f mostExact n small)
+
+-- so the low 32 bits of the words' sum are all of it
+pub low-exact : (words : List ℕ) → length words ≤ 1_024 → gatheredOf words .join ≤ mostExact → gatheredOf words .low ≡ total (wordAt words) (length words)
 unfolding gatheredOf
-low-exact words few within =
-    let each = sym (joined-within 22 4_194_303 refl (wordAt words) (length words)) ∙ le-leb _ 4_194_303 within in
-    let most = total-at-most (wordAt words) 4_194_303 (length words) (λ j less. leb-true (wordAt words j) 4_194_303 (every-at (λ j. leb (wordAt words j) 4_194_303) (length words) each j less)) in
-    mod-eq-of-lt (omega arith)
+low-exact words few within = mod-eq-of-lt (small-total (wordAt words) (length words) few (joined-small (wordAt words) (length words) within))

@@ -23,16 +23,16 @@ pub struct Scanned {
 }
 
 // What one pass over words gathers: the words joined by "or", and the low 32 bits of their sum.
-struct Gathered {
-    join: u32,
-    low: u32,
+pub struct Gathered {
+    pub join: u32,
+    pub low: u32,
 }
 
 // The most words that are scanned at once, so that their sum fits.
 const MOST_SCANNED: usize = 1024;
 
 // The largest word of which so many sum to less than 2^32: 2^22 − 1.
-const MOST_EXACT: u32 = 4_194_303;
+pub const MOST_EXACT: u32 = 4_194_303;
 
 // Every lent word tested once, and the words added.
 pub fn scan(words: &[u32], used: usize) -> Scanned
@@ -125,7 +125,7 @@ fn join(words: &[u32]) -> u32
 }
 
 // The same join, and the sum of the words modulo 2^32: row by row, and then those that are left.
-fn gather(words: &[u32]) -> Gathered
+pub fn gather(words: &[u32]) -> Gathered
     ensures { λ r. ⌜ r ≡ gatheredOf (now (words .entry)) ⌝ }
 {
     let mut join: u32 = 0;

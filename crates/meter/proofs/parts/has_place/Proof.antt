@@ -2,7 +2,6 @@
 use mathlib.Core.Path.{_≡_, sym, ap, _∙_}
 use mathlib.Core.Bool.{false}
 use Prim.Native.Nat.{ℕ}
-use native.Mathlib.Omega.{arith}
 use lib.Dec.{leb}
 use Rattle.meter.specs.Meter.{meterWordCount, usesBlock}
 use Rattle.meter.proofs.PlaceLaws.{place-block, place-none, place-some}
