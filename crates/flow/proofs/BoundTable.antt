@@ -4,7 +4,7 @@ use mathlib.Core.List.{List}
 use mathlib.Core.Bool.{Bool, true, false}
 use mathlib.Core.Logic.{_⊎_, inl, inr, ⊎-elim}
 use Prim.Native.Nat.{ℕ, zero, suc, _+_, _-_, _*_, _≤_, _<_, min}
-use native.Mathlib.Nat.{zero-mul, suc-mul, mul-le-mul-right, eq-or-lt-of-le}
+use native.Mathlib.Nat.{suc-mul, mul-le-mul-right, eq-or-lt-of-le}
 use native.Mathlib.Omega.{arith}
 use lib.Dec.{ltb}
 use lib.ListN.{length, getD, set}
@@ -13,7 +13,7 @@ use borrow.Author.Tests.{ltb-true, ltb-false}
 use Rattle.quantity.specs.Sums.{listOf}
 use Rattle.quantity.proofs.Sums.{length-listOf, getD-listOf, listOf-ext}
 use Rattle.flow.specs.Rows.{Row, Most, units, behindRows, unitsIn, rowsMost}
-use Rattle.flow.specs.Bounds.{largestSigned, RowInside, RowsInside, Sized, Table, withRow, Remade, lowered, Lowers}
+use Rattle.flow.specs.Bounds.{largestSigned, RowsInside, Sized, Table, withRow, Stepped, Remade, lowered, Lowers}
 use Rattle.flow.proofs.RowsWindows.{rows-at-most}
 use Rattle.flow.proofs.Rows.{from-below, behind-number, rows-none, one-step, rows-step}
 
@@ -173,6 +173,28 @@ module _ (m Q : ℕ) (before : List ℕ) (given : Table before) (large : 1 ≤ m
   pub follows-all : (table : List ℕ) → Follows m Q before table (length before) → table ≡ withRow m Q before
   follows-all table follows = with-row-of m Q before large (given .none) table (follows .size) (follows .none) (follows .steps)
 
+-- A table of one row.
+
+pub stepped-start : (m Q : ℕ) (table : List ℕ) → entry table 0 ≡ 0 → Stepped m Q table 1
+stepped-start m Q table none = record { none = none; steps = λ j positive less. absurd (omega arith) }
+
+-- one block more, in which the most is the quota more than any entry of the interval before
+pub stepped-block : (m Q : ℕ) (table after : List ℕ) (from end most : ℕ) → Stepped m Q table from → 1 ≤ from → end ≤ from + m
+    → ((k : ℕ) → k < m → Q + entry table (from + k - m) ≡ most) → Remade table after from end (λ j. most) → Stepped m Q after end
+stepped-block m Q table after from end most stepped begun short level remade =
+    let read : (j : ℕ) → j - m < from → entry table (j - m) ≡ entry after (j - m) = λ j earlier. sym (remade .below (j - m) earlier) in
+    record {
+      none = remade .below 0 begun ∙ stepped .none;
+      steps =
+          λ j some early.
+          ⊎-elim
+          (λ less. remade .below j less ∙ stepped .steps j some less ∙ ap (λ (x : ℕ). Q + x) (read j (omega arith)))
+          (λ late.
+          let place : from + (j - from) - m ≡ j - m = omega arith in
+          remade .anew j late early ∙ sym (level (j - from) (omega arith)) ∙ ap (λ (x : ℕ). Q + entry table x) place ∙ ap (λ (x : ℕ). Q + x) (read j (omega arith)))
+          (below-or-from j from);
+    }
+
 -- The tables of rows.
 
 pub sized-same : (before after : List ℕ) → length after ≡ length before → Sized before → Sized after
@@ -182,36 +204,16 @@ sized-same before after same sized =
     record { long = omega arith; short = omega arith }
 
 module _ (rows : ℕ → Row) where
-  -- a row of one slot: its quota for each
-  pub each-slot-most : rows 0 .interval ≡ 1 → (n : ℕ) → rowsMost rows 1 n ≡ n * rows 0 .quota
-  each-slot-most one zero = rows-none rows 1 ∙ sym (zero-mul (rows 0 .quota))
-  each-slot-most one (suc n) =
-      let less : suc n - rows 0 .interval ≡ n = omega arith in
-      omega (arith, one-step rows (omega arith) (suc n) (omega arith), ap (rowsMost rows 1) less, each-slot-most one n, suc-mul n (rows 0 .quota))
-
-  -- the first row over its quota in each slot, which is never less
-  pub first-table : (before : List ℕ) → Table before → ((n : ℕ) → n < length before → entry before n ≡ n * rows 0 .quota) → RowInside (rows 0)
-      → withRow (rows 0 .interval) (rows 0 .quota) before ≡ listOf (rowsMost rows 1) (length before)
-  first-table before given each inside = listOf-ext 0 (rowsMost rows 1) (length before) after (with-row-size (rows 0 .interval) (rows 0 .quota) before (inside .large) (given .none)) (from-below by-slots)
+  -- a table of the first row alone
+  pub first-table : (table : List ℕ) → Stepped (rows 0 .interval) (rows 0 .quota) table (length table) → 1 ≤ rows 0 .interval → table ≡ listOf (rowsMost rows 1) (length table)
+  first-table table stepped large = listOf-ext 0 (rowsMost rows 1) (length table) table refl (from-below by-slots)
     where
-      only : (i : ℕ) → i < 1 → (1 ≤ rows i .interval) × (rows i .quota ≤ rows 0 .quota)
-      only zero less = (inside .large, omega arith)
-      only (suc i) less = absurd (omega arith)
-
-      after : List ℕ
-      after = withRow (rows 0 .interval) (rows 0 .quota) before
-
-      by-slots : (n : ℕ) → ((j : ℕ) → j < n → j < length before → entry after j ≡ rowsMost rows 1 j) → n < length before → entry after n ≡ rowsMost rows 1 n
-      by-slots zero below less = with-row-none (rows 0 .interval) (rows 0 .quota) before (inside .large) (given .none) less ∙ sym (rows-none rows 1)
+      by-slots : (n : ℕ) → ((j : ℕ) → j < n → j < length table → entry table j ≡ rowsMost rows 1 j) → n < length table → entry table n ≡ rowsMost rows 1 n
+      by-slots zero below less = stepped .none ∙ sym (rows-none rows 1)
       by-slots (suc n) below less =
-          omega (
-            arith,
-            with-row-step (rows 0 .interval) (rows 0 .quota) before (inside .large) (given .none) (suc n) (omega arith) less,
-            each (suc n) less,
-            below (suc n - rows 0 .interval) (omega (arith, inside .large)) (omega arith),
-            one-step rows (inside .large) (suc n) (omega arith),
-            rows-at-most rows 1 (rows 0 .quota) (omega arith) only (suc n),
-          )
+          stepped .steps (suc n) (omega arith) less
+          ∙ ap (λ (t : ℕ). rows 0 .quota + t) (below (suc n - rows 0 .interval) (omega arith) (omega arith))
+          ∙ sym (one-step rows large (suc n) (omega arith))
 
   module _ (k : ℕ) (some : 1 ≤ k) (size : ℕ) (table : List ℕ) (filled : table ≡ listOf (rowsMost rows k) size) where
     rows-size : length table ≡ size

@@ -68,6 +68,11 @@ pub record Table (table : List ℕ) : Type 0 where
 unfoldable pub withRow : ℕ → ℕ → List ℕ → List ℕ
 withRow m Q table = listOf (λ n. unitsIn (behindRows (λ j. units (getD table j 0)) (record { interval = m; quota = Q }) n)) (length table)
 
+-- below a place the entries are those of one row: nothing in no slots, and its quota more than in the slots that its interval leaves
+pub record Stepped (m Q : ℕ) (table : List ℕ) (n : ℕ) : Type 0 where
+  pub none : getD table 0 0 ≡ 0
+  pub steps : (j : ℕ) → 1 ≤ j → j < n → getD table j 0 ≡ Q + getD table (j - m) 0
+
 -- the entries from one place to before another are made anew, each by its place, and the others are as they were
 pub record Remade (before after : List ℕ) (from end : ℕ) (made : ℕ → ℕ) : Type 0 where
   pub anew : (j : ℕ) → from ≤ j → j < end → getD after j 0 ≡ made j

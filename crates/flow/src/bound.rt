@@ -9,7 +9,7 @@ ghost use lib.ListN.{length, getD};
 ghost use Rattle.quantity.specs.Sums.{listOf};
 ghost use Rattle.flow.specs.Rows.{rowsMost};
 ghost use Rattle.flow.specs.Declarations.{emptyRow, rowOf};
-ghost use Rattle.flow.specs.Bounds.{largestSigned, boundable, boundFilled, pairAt, RowsInside, Sized, Table, withRow, Remade, Lowers, lowered};
+ghost use Rattle.flow.specs.Bounds.{largestSigned, boundable, boundFilled, pairAt, RowsInside, Sized, Table, withRow, Stepped, Remade, Lowers, lowered};
 
 // The entries of a table, at least and at the most: the most in 0 to 1,024 slots, and in 0 to 1,984. That is as far as figures ask.
 pub const SHORTEST: usize = 1025;
@@ -69,7 +69,7 @@ fn fill_rows(table: &mut [u32], rows: [[u32; 2]; 4], left: usize)
     next_row(table, rows, last);
 }
 
-// The first row alone. Its quota in each slot is the most over an interval of one slot, and never less than it is over a longer one, so that one row more is that row alone.
+// The first row alone: its quota for each interval begun.
 fn first_row(table: &mut [u32], rows: [[u32; 2]; 4])
     requires { ⌜ Sized (now table) × RowsInside (pairAt rows) 1 ⌝ }
     ensures { λ r. ⌜ now (table .exit) ≡ listOf (rowsMost (pairAt rows) 1) (length (now (table .entry))) ⌝ }
@@ -77,11 +77,49 @@ fn first_row(table: &mut [u32], rows: [[u32; 2]; 4])
     let interval = rows[0][0] as usize;
     let quota = rows[0][1];
     table[0] = 0;
-    each_slot(table, quota);
-    if interval == 1 {
-        return;
+    row_alone(table, interval, quota);
+}
+
+// An interval of up to four slots is given as a constant, so that its entries are stored at once.
+fn row_alone(table: &mut [u32], interval: usize, quota: u32)
+    requires { ⌜ Sized (now table) × (1 ≤ interval) × (interval ≤ 1_024) × (quota ≤ 65_535) × (getD (now table) 0 0 ≡ 0) ⌝ }
+    ensures { λ r. ⌜ Stepped interval quota (now (table .exit)) (length (now (table .exit))) ⌝ }
+{
+    match interval {
+        1 => each_interval(table, 1, quota),
+        2 => each_interval(table, 2, quota),
+        3 => each_interval(table, 3, quota),
+        4 => each_interval(table, 4, quota),
+        _ => each_interval(table, interval, quota),
     }
-    with_row(table, interval, quota);
+}
+
+// A quota more in each interval.
+fn each_interval(table: &mut [u32], interval: usize, quota: u32)
+    requires { ⌜ Sized (now table) × (1 ≤ interval) × (interval ≤ 1_024) × (quota ≤ 65_535) × (getD (now table) 0 0 ≡ 0) ⌝ }
+    ensures { λ r. ⌜ Stepped interval quota (now (table .exit)) (length (now (table .exit))) ⌝ }
+{
+    let length = table.len();
+    let mut most = quota;
+    let mut from = 1;
+    while from + interval <= length {
+        level(table, from, from + interval, most);
+        most += quota;
+        from += interval;
+    }
+    level(table, from, length, most);
+}
+
+// The same in the slots of a block.
+fn level(table: &mut [u32], from: usize, end: usize, most: u32)
+    requires { ⌜ (from ≤ end) × (end ≤ length (now table)) ⌝ }
+    ensures { λ r. ⌜ Remade (now (table .entry)) (now (table .exit)) from end (λ j. most) ⌝ }
+{
+    let mut n = from;
+    while n < end {
+        table[n] = most;
+        n += 1;
+    }
 }
 
 // One row more: it is not used in n slots, or once more than in those that its interval leaves.
@@ -92,20 +130,6 @@ fn next_row(table: &mut [u32], rows: [[u32; 2]; 4], last: usize)
     let interval = rows[last][0] as usize;
     let quota = rows[last][1];
     with_row(table, interval, quota);
-}
-
-// A quota more in each slot.
-fn each_slot(table: &mut [u32], quota: u32)
-    requires { ⌜ Sized (now table) × (quota ≤ 65_535) ⌝ }
-    ensures { λ r. ⌜ Remade (now (table .entry)) (now (table .exit)) 1 (length (now (table .entry))) (λ j. j * quota) ⌝ }
-{
-    let mut most = 0;
-    let mut n = 1;
-    while n < table.len() {
-        most += quota;
-        table[n] = most;
-        n += 1;
-    }
 }
 
 // Numbers below 2^31 have the same order as signed ones, which plain x86-64 compares four at once.
