@@ -187,8 +187,14 @@ fn figures_read(answer: ReadSheet, bound: &[u32]) -> PathFigures
                 return planned;
             }
             Planned::Fits(held, behind) => {
-                planned.figures[k] = fullest(carried, declaration, bound, operator, held);
-                delay = delay.plus(held.delay);
+                let most = held.capacity;
+                let own = held.delay;
+                let capacity = fullest(carried, declaration, bound, operator, most);
+                planned.figures[k] = Figure {
+                    capacity,
+                    delay: own,
+                };
+                delay = Slots(delay.0 + own.0);
                 carried = behind;
             }
         }
