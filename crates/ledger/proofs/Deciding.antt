@@ -4,7 +4,7 @@ use mathlib.Core.Bool.{Bool, true, false, not}
 use mathlib.Core.List.{List}
 use Prim.Native.Nat.{ℕ, _+_, _-_, _≤_, _<_}
 use native.Mathlib.Omega.{arith}
-use lib.ListN.{length, getD, take, set, replicate, length-set, length-replicate}
+use lib.ListN.{length, getD, set, replicate, length-set, length-replicate}
 use lib.Dec.{ltb}
 use lib.Seq.{getD-set-same, getD-set-other}
 use borrow.Author.Count.{below-none, below-more}
@@ -21,7 +21,7 @@ use Rattle.quantity.specs.declared.CheckedLink.{CheckedLink}
 use Rattle.quantity.specs.declared.CheckedLinkCapacity.{CheckedLinkCapacity}
 use Rattle.quantity.specs.declared.refusal.Refusal.the-variants.{Unusable, OutOfRange, PathNumberWrong}
 use Rattle.quantity.proofs.Laws.{pick-true, pick-false, picked-true, picked-false, least-le, le-largest}
-use Rattle.quantity.proofs.Sums.{term-le-total, every-next, every-at, length-listOf, getD-listOf, listOf-ext, both-true, every-fails}
+use Rattle.quantity.proofs.Sums.{term-le-total, every-next, every-at, listOf-ext, both-true, every-fails}
 use Rattle.sheet.specs.declared.read.Verdict.{Verdict}
 use Rattle.ledger.specs.declared.Ledger.{Ledger}
 use Rattle.ledger.specs.declared.opening.Clearing.{Clearing}
@@ -34,7 +34,7 @@ use Rattle.ledger.specs.Ledgers.{linkCount, recordCount, capacityOf, tot
 use Rattle.ledger.specs.Opening.{askedFor, newLedger, noLedger}
 use Rattle.ledger.specs.Release.{acceptedRelease}
 use Rattle.ledger.specs.Steps.{checkedOf, clearingOf, refusedClearing, refusedReleasing, releasingOf, discharged, notTested, testedOf}
-use Rattle.ledger.proofs.Numbers.{place-at-most, place-among, place-in-front}
+use Rattle.ledger.proofs.Numbers.{place-at-most, place-among}
 use Rattle.ledger.proofs.Testing.{tested as passing}
 use Rattle.ledger.proofs.UsableLedger.{usable-ledger}
 
@@ -175,30 +175,28 @@ module _ (ledger : Ledger) (records : List Record) where
     unfolding capacitiesFit
     capacity-le link less = le-largest linkCapacityRange (capacityOf ledger link) (every-at _ linkCount (usable-ledger ledger records usable .capacities-fit) link less)
 
-  module _ {tested : Tested} (found : tested ≡ testedOf ledger records) where
+  module _ (number : ℕ) {tested : Tested} (found : tested ≡ testedOf ledger records number) where
     pub tested-refuses : not (tested .usable) ≡ ledgerUnusable ledger records
     unfolding testedOf
     tested-refuses = ap (λ (t : Tested). not (t .usable)) found ∙ by-test (ledgerUnusable ledger records)
       where
-        by-test : (t : Bool) → not (pick {A = Tested} t notTested (passing ledger records) .usable) ≡ t
+        by-test : (t : Bool) → not (pick {A = Tested} t notTested (passing ledger records number) .usable) ≡ t
         by-test true = refl
         by-test false = refl
 
     module _ (usable : ledgerUnusable ledger records ≡ false) where
-      tested-passing : tested ≡ passing ledger records
+      tested-passing : tested ≡ passing ledger records number
       unfolding testedOf
       tested-passing = found ∙ pick-false _ _ _ usable
 
-      -- the numbers of the standing records are a part of those tested
-      pub numbers-whole : ledger .count ≤ length (tested .numbers)
-      numbers-whole = rw (tested-passing, length-listOf) (count-few usable)
+      -- the place that was found is the number's among the records, and there its record was read
+      pub place-found : tested .at ≡ placeAmong (numberAt records) (ledger .count) number
+      place-found = ap (λ (t : Tested). t .at) tested-passing
 
-      -- in which a number has the place that it has among the records
-      pub place-found : (number : ℕ) → placeAmong (λ k. getD (take (ledger .count - 0) (tested .numbers)) k 0) (length (take (ledger .count - 0) (tested .numbers))) number
-          ≡ placeAmong (numberAt records) (ledger .count) number
-      place-found number =
-          place-in-front (tested .numbers) (numberAt records) (ledger .count) numbers-whole
-          (λ k less. ap (λ (t : Tested). getD (t .numbers) k 0) tested-passing ∙ getD-listOf 0 (numberAt records) recordCount k (omega (arith, count-few usable))) number
+      pub record-found : tested .at < ledger .count → tested .found ≡ recordAt records (tested .at)
+      record-found below =
+          ap (λ (t : Tested). t .found) tested-passing
+          ∙ pick-true _ _ noRecord (lt-ltb _ (ledger .count) (rw place-found at below)) ∙ ap (recordAt records) (sym place-found)
 
 -- a path of the number stands where its place is below the count
 pub stands-below : (records : List Record) (count number : ℕ) {at : ℕ} → at ≡ placeAmong (numberAt records) count number → ltb at count ≡ stands records count number

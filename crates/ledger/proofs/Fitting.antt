@@ -26,7 +26,7 @@ use Rattle.ledger.proofs.Sparing.{left-below}
 abbrev two : ℕ → ℕ → ℕ → ℕ
 two a b j = getD (a ∷ b ∷ []) j 0
 
-or-clear : (a b : ℕ) → eqb (bitOr a b) 0 ≡ both (eqb a 0) (eqb b 0)
+pub or-clear : (a b : ℕ) → eqb (bitOr a b) 0 ≡ both (eqb a 0) (eqb b 0)
 unfolding joined every
 or-clear a b = joined-clear (two a b) 2
 
@@ -88,18 +88,3 @@ module _ (r : Record) where
   excess-of-clear =
       or-clear (r .number .0) (bitOr (r .rate .0) (bitOr (r .links) (r .mark)))
       ∙ ap (both (eqb (r .number .0) 0)) (or-clear (r .rate .0) (bitOr (r .links) (r .mark)) ∙ ap (both (eqb (r .rate .0) 0)) (or-clear (r .links) (r .mark)))
-
--- The records passed: those that stand, and then the others.
-module _ (count : ℕ) (records : List Record) where
-  abbrev fits : ℕ → Bool
-  fits = recordFits count records
-
-  pub standing-next : (excess more j : ℕ) → j < count → eqb excess 0 ≡ every fits j → eqb more 0 ≡ recordInRange (recordAt records j) → eqb (bitOr excess more) 0 ≡ every fits (j + 1)
-  unfolding recordFits
-  standing-next excess more j less before here =
-      or-clear excess more ∙ ap₂ both before (here ∙ sym (pick-true (ltb j count) _ _ (lt-ltb j count less))) ∙ sym (every-next fits j)
-
-  pub clear-next : (excess more j : ℕ) → count ≤ j → eqb excess 0 ≡ every fits j → eqb more 0 ≡ recordClear (recordAt records j) → eqb (bitOr excess more) 0 ≡ every fits (j + 1)
-  unfolding recordFits
-  clear-next excess more j past before here =
-      or-clear excess more ∙ ap₂ both before (here ∙ sym (pick-false (ltb j count) _ _ (le-ltb j count past))) ∙ sym (every-next fits j)

@@ -8,6 +8,7 @@ pub mod Fitting
 pub mod Reserving
 pub mod UsableLedger
 pub mod Testing
+pub mod Reading
 pub mod Naming
 pub mod Deciding
 pub mod DecidingConfirm

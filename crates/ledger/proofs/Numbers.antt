@@ -127,7 +127,7 @@ module _ (numbers : ℕ → ℕ) (number : ℕ) where
             le-ltb (placeAmong numbers n number) n last ∙ sym (not-among n (λ k less. before-place n k (omega arith)))
       ]
 
-not-both : (a b : Bool) → not (both a (not b)) ≡ either (not a) b
+pub not-both : (a b : Bool) → not (both a (not b)) ≡ either (not a) b
 not-both true true = refl
 not-both true false = refl
 not-both false b = refl

@@ -3,7 +3,7 @@ use mathlib.Core.Path.{_≡_, refl, ap, ap₂, sym, _∙_}
 use mathlib.Core.Bool.{Bool, true, false}
 use mathlib.Core.List.{List, [], _∷_, _++_}
 use Prim.Native.Nat.{ℕ, zero, suc, _+_, _*_, _≤_, _<_}
-use native.Mathlib.Nat.{mod-eq-of-lt, mul-suc}
+use native.Mathlib.Nat.{mul-suc}
 use native.Mathlib.Omega.{arith}
 use lib.ListN.{length, set, replicate}
 use lib.Seq.{getD-set-other}
@@ -18,7 +18,7 @@ use Rattle.quantity.proofs.Sums.{total-zero, total-suc, total-next, both-true, 
 use Rattle.ledger.specs.declared.Record.{Record}
 use Rattle.ledger.specs.Records.{recordAt, hasLink, share, reserved}
 use Rattle.ledger.specs.Ledgers.{recordCount, linkCount, recordInRange, recordClear, recordFits}
-use Rattle.ledger.specs.Steps.{rateAt, wrapped, charged, reservedRates}
+use Rattle.ledger.specs.Steps.{rateAt}
 use Rattle.ledger.proofs.Numbers.{Written, written-first, written-next, written-all}
 
 abbrev none : Rate
@@ -27,9 +27,6 @@ none = record { 0 = 0 }
 -- a record's share of a link, as a rate
 abbrev shareRate : Record → ℕ → Rate
 shareRate r link = record { 0 = share r link }
-
-abbrev reservedRate : List Record → ℕ → ℕ → Rate
-reservedRate records n link = record { 0 = reserved records n link }
 
 -- The rates while a record is charged or discharged: below the link changed by its share, from there on as they were given.
 module _ (change : Rate → Rate → Rate) (rates : List Rate) (r : Record) where
@@ -84,10 +81,6 @@ pub reserved-next : (records : List Record) (n link : ℕ) → reserved records 
 unfolding reserved
 reserved-next records n link = total-next (λ j. share (recordAt records j) link) n
 
-pub reserved-first : (records : List Record) → replicate linkCount none ≡ reservedRates records 0
-unfolding reservedRates reserved total listOf
-reserved-first records = refl
-
 -- a sum of n that are each at most m
 pub total-at-most : (f : ℕ → ℕ) (m n : ℕ) → ((k : ℕ) → k < n → f k ≤ m) → total f n ≤ m * n
 total-at-most f m zero each = omega (arith, total-zero f)
@@ -106,15 +99,3 @@ module _ (records : List Record) (count : ℕ) (fit : every (recordFits count re
   pub reserved-at-most : (n link : ℕ) → n ≤ recordCount → reserved records n link ≤ 65535 * n
   unfolding reserved
   reserved-at-most n link few = total-at-most (λ j. share (recordAt records j) link) 65535 n (λ j less. share-fits j link (omega arith))
-
-  -- so one record more is charged to each link as it is reserved there
-  pub charged-next : (n : ℕ) → n < recordCount → charged (reservedRates records n) (recordAt records n) ≡ reservedRates records (n + 1)
-  unfolding charged reservedRates
-  charged-next n less = listOf-same _ _ linkCount each
-    where
-      each : (link : ℕ) → link < linkCount → wrapped (rateAt (reservedRates records n) link) (shareRate (recordAt records n) link) ≡ reservedRate records (n + 1) link
-      each link inside =
-          let more = shareRate (recordAt records n) link in
-          ap (λ (a : Rate). wrapped a more) (getD-listOf none (reservedRate records n) linkCount link inside)
-          ∙ ap (λ (m : ℕ). record { 0 = m })
-          (mod-eq-of-lt (omega (arith, reserved-at-most n link (omega arith), share-fits n link less)) ∙ sym (reserved-next records n link))

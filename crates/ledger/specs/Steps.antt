@@ -7,7 +7,8 @@ use mathlib.Core.List.{List, [], _++_}
 use lib.ListN.{length, getD, set, drop, replicate}
 use lib.Dec.{leb, ltb, eqb}
 use Rattle.quantity.specs.Choice.{pick, both}
-use Rattle.quantity.specs.Sums.{every, listOf}
+use Rattle.quantity.specs.Sums.{total, every, listOf}
+use Rattle.quantity.specs.Ranges.{inRange, linkCapacityRange}
 use Rattle.quantity.specs.Quantities.{ratesSum}
 use Rattle.quantity.specs.Refusals.{firstOf}
 use Rattle.quantity.specs.declared.refusal.Refusal.{Refusal}
@@ -29,7 +30,7 @@ use Rattle.ledger.specs.declared.holding.Appending.{Appending}
 use Rattle.ledger.specs.declared.release.Releasing.{Releasing}
 use Rattle.ledger.specs.declared.confirming.Marking.{Marking}
 use Rattle.ledger.specs.declared.spare.Spares.{Spares}
-use Rattle.ledger.specs.Records.{markHeld, noRecord, numberAt, share, reserved, placeAmong}
+use Rattle.ledger.specs.Records.{markHeld, noRecord, recordAt, numberAt, markAt, hasLink, share, among, placeAmong}
 use Rattle.ledger.specs.Ledgers.{recordCount, linkCount, capacityOf, totalOf, capacitiesFit, ledgerUnusable}
 use Rattle.ledger.specs.Opening.{askedFor, openCases, newLedger, noLedger, refusedOpening}
 use Rattle.ledger.specs.Holding.{namesLink, recordOf, holdingCases, refusedHolding, acceptedHolding}
@@ -58,22 +59,58 @@ filled records count with = replicate count with ++ drop count records
 
 -- Test.
 
--- above every path number
-abbrev pub noNumber : ℕ
-noNumber = 65536
+-- each field of the records, as a list of its own
+abbrev pub numbersOf : List Record → List ℕ
+numbersOf records = listOf (numberAt records) recordCount
 
--- the first so many numbers and none behind them, as a ring of 64 whose first half comes once more
-unfoldable pub standingAt : List ℕ → ℕ → ℕ → ℕ
-standingAt numbers count j = pick (ltb j count) (getD numbers j 0) noNumber
+abbrev pub ratesOf : List Record → List ℕ
+ratesOf records = listOf (λ j. recordAt records j .rate .0) recordCount
 
+abbrev pub linkBitsOf : List Record → List ℕ
+linkBitsOf records = listOf (λ j. recordAt records j .links) recordCount
+
+abbrev pub marksOf : List Record → List ℕ
+marksOf records = listOf (markAt records) recordCount
+
+-- 16 bits of each number, as a ring of 64 whose first half comes once more
 abbrev pub half : ℕ
 half = 32
 
 abbrev pub ringSize : ℕ
 ringSize = 96
 
-unfoldable pub ringAt : List ℕ → ℕ → ℕ → ℕ
-ringAt numbers count j = pick (ltb j recordCount) (standingAt numbers count j) (standingAt numbers count (j - recordCount))
+abbrev pub lowBits : List ℕ → ℕ → ℕ
+lowBits numbers j = getD numbers j 0 % 65536
+
+unfoldable pub ringAt : List ℕ → ℕ → ℕ
+ringAt numbers j = pick (ltb j recordCount) (lowBits numbers j) (lowBits numbers (j - recordCount))
+
+abbrev pub oneIf : Bool → ℕ
+oneIf t = pick t 1 0
+
+-- a number that is not 0 is among the 32 behind it in a ring; and one of the first n is
+unfoldable pub metBehind : List ℕ → ℕ → Bool
+metBehind ring j = both (not (eqb (getD ring j 0) 0)) (among (λ k. getD ring (j + 1 + k) 0) half (getD ring j 0))
+
+unfoldable pub repeatsIn : List ℕ → ℕ → Bool
+repeatsIn ring n = not (every (λ j. not (metBehind ring j)) n)
+
+unfoldable pub zerosIn : (ℕ → ℕ) → ℕ → ℕ
+zerosIn numbers n = total (λ j. oneIf (eqb (numbers j) 0)) n
+
+-- numbers of 16 bits, of which those from the count on are 0
+abbrev pub Narrow : (ℕ → ℕ) → ℕ → Type 0
+Narrow numbers count = ((j : ℕ) → j < recordCount → numbers j < 65536) × ((j : ℕ) → count ≤ j → j < recordCount → numbers j ≡ 0)
+
+-- what the first n rates come to on a link
+unfoldable pub sumOn : List ℕ → List ℕ → ℕ → ℕ → ℕ
+sumOn rates links n link = total (λ j. pick (hasLink (getD links j 0) link) (getD rates j 0) 0) n
+
+-- a link has its capacity in its range, the sum is at most that, and the stored total is the sum
+unfoldable pub linkHolds : Ledger → List ℕ → List ℕ → ℕ → Bool
+linkHolds ledger rates links link =
+    let sum = sumOn rates links recordCount link % 2 ^ 32 in
+    both (inRange linkCapacityRange (capacityOf ledger link)) (both (leb sum (capacityOf ledger link)) (eqb (totalOf ledger link) sum))
 
 abbrev pub rateAt : List Rate → ℕ → Rate
 rateAt rates link = getD rates link (record { 0 = 0 })
@@ -90,15 +127,16 @@ charged rates r = listOf (λ link. wrapped (rateAt rates link) (record { 0 = sha
 unfoldable pub discharged : List Rate → Record → List Rate
 discharged rates r = listOf (λ link. record { 0 = rateAt rates link .0 - share r link }) linkCount
 
-unfoldable pub reservedRates : List Record → ℕ → List Rate
-reservedRates records count = listOf (λ link. record { 0 = reserved records count link }) linkCount
-
 abbrev pub notTested : Tested
-notTested = record { numbers = replicate recordCount 0; usable = false }
+notTested = record { usable = false; at = 0; found = noRecord }
 
-unfoldable pub testedOf : Ledger → List Record → Tested
-testedOf ledger records =
-    pick (ledgerUnusable ledger records) notTested (record { numbers = listOf (numberAt records) recordCount; usable = true })
+-- a number's place and its record, the clear one where it does not stand
+abbrev pub foundAt : List Record → ℕ → ℕ → Tested
+foundAt records count at = record { usable = true; at = at; found = pick (ltb at count) (recordAt records at) noRecord }
+
+unfoldable pub testedOf : Ledger → List Record → ℕ → Tested
+testedOf ledger records number =
+    pick (ledgerUnusable ledger records) notTested (foundAt records (ledger .count) (placeAmong (numberAt records) (ledger .count) number))
 
 -- Decide.
 

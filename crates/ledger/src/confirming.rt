@@ -5,7 +5,6 @@ use crate::Record;
 use crate::records::Loaded;
 use crate::records::load;
 use crate::records::mark;
-use crate::test::find;
 use crate::test::test;
 use quantity::CheckedPathNumber;
 use quantity::PathNumber;
@@ -43,17 +42,16 @@ fn decide(ledger: Ledger, loaded: Loaded, number: u32) -> Marking
     match PathNumber::checked(number) {
         CheckedPathNumber::OutOfRange => refused(Refusal::Unusable),
         CheckedPathNumber::InRange(number) => {
-            let tested = test(ledger, loaded);
+            let tested = test(ledger, loaded, number.0);
             if !tested.usable {
                 return refused(Refusal::Unusable);
             }
             let count = ledger.count;
-            let numbers = tested.numbers;
-            let at = find(&numbers[0..count], number.0);
+            let at = tested.at;
             if at == count {
                 return refused(Refusal::PathNumberWrong);
             }
-            let entry = loaded.records[at];
+            let entry = tested.found;
             if entry.mark == crate::CONFIRMED {
                 return refused(Refusal::ConfirmedAlready);
             }

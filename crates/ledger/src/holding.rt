@@ -8,7 +8,6 @@ use crate::records::append;
 use crate::records::load;
 use crate::test::Tested;
 use crate::test::charge;
-use crate::test::find;
 use crate::test::test;
 use figures::figures;
 use flow::Declaration;
@@ -70,7 +69,7 @@ fn decide(ledger: Ledger, loaded: Loaded, number: u32, sheet: &[u8]) -> Appendin
     match PathNumber::checked(number) {
         CheckedPathNumber::OutOfRange => refused(ledger, Refusal::Unusable),
         CheckedPathNumber::InRange(number) => {
-            let tested = test(ledger, loaded);
+            let tested = test(ledger, loaded, number.0);
             if !tested.usable {
                 return refused(ledger, Refusal::Unusable);
             }
@@ -97,11 +96,10 @@ fn decide_standing(
     delay: Slots,
 ) -> Appending
     requires { ⌜ Decidable ledger path ⌝ }
-    ensures { λ r. ⌜ ((records : List Record) (given : Path) → ledgerUnusable ledger records ≡ false → tested ≡ testedOf ledger records → pathInRange given ≡ true → path ≡ valueOfPath (path .form) given → delay ≡ record { 0 = pathDelay given } → r ≡ firstOf (standingCases ledger records (number .0) given) (refusedAppending ledger) (acceptedAppending ledger (number .0) given)) ⌝ }
+    ensures { λ r. ⌜ ((records : List Record) (given : Path) → ledgerUnusable ledger records ≡ false → tested ≡ testedOf ledger records (number .0) → pathInRange given ≡ true → path ≡ valueOfPath (path .form) given → delay ≡ record { 0 = pathDelay given } → r ≡ firstOf (standingCases ledger records (number .0) given) (refusedAppending ledger) (acceptedAppending ledger (number .0) given)) ⌝ }
 {
     let count = ledger.count;
-    let numbers = tested.numbers;
-    if find(&numbers[0..count], number.0) < count {
+    if tested.at < count {
         return refused(ledger, Refusal::PathNumberWrong);
     }
     if count == crate::RECORDS {

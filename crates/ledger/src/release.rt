@@ -6,7 +6,6 @@ use crate::no_record;
 use crate::records::Loaded;
 use crate::records::close_up;
 use crate::records::load;
-use crate::test::find;
 use crate::test::share_on;
 use crate::test::test;
 use quantity::CheckedPathNumber;
@@ -52,17 +51,16 @@ fn decide(ledger: Ledger, loaded: Loaded, number: u32) -> Releasing
     match PathNumber::checked(number) {
         CheckedPathNumber::OutOfRange => refused(ledger, Refusal::Unusable),
         CheckedPathNumber::InRange(number) => {
-            let tested = test(ledger, loaded);
+            let tested = test(ledger, loaded, number.0);
             if !tested.usable {
                 return refused(ledger, Refusal::Unusable);
             }
             let count = ledger.count;
-            let numbers = tested.numbers;
-            let at = find(&numbers[0..count], number.0);
+            let at = tested.at;
             if at == count {
                 return refused(ledger, Refusal::PathNumberWrong);
             }
-            let gone = loaded.records[at];
+            let gone = tested.found;
             let totals = ledger.totals;
             let left = discharge(totals, gone);
             let capacities = ledger.capacities;

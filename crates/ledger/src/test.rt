@@ -2,91 +2,118 @@
 
 use crate::Ledger;
 use crate::Record;
+use crate::no_record;
 use crate::records::Loaded;
-use quantity::LinkCapacity;
+use quantity::PathNumber;
 use quantity::Rate;
 use std::num::wrapping_add_u32;
 use std::num::wrapping_sub_u32;
 ghost use mathlib.Core.Path.{_≡_};
-ghost use mathlib.Core.Bool.{true};
-ghost use Prim.Native.Nat.{ℕ, _≤_, _<_};
+ghost use mathlib.Core.List.{List};
+ghost use Prim.Native.Nat.{ℕ, _%_, _^_, _≤_, _<_};
 ghost use lib.ListN.{length, getD};
-ghost use lib.Dec.{leb, eqb};
+ghost use lib.Dec.{eqb};
 ghost use Rattle.quantity.specs.Choice.{both};
 ghost use Rattle.quantity.specs.Sums.{every, listOf};
-ghost use Rattle.ledger.specs.Records.{numberAt, share, among, placeAmong, allDiffer};
-ghost use Rattle.ledger.specs.Ledgers.{linkCount, recordCount, recordInRange, recordClear, recordFits, capacitiesFit};
-ghost use Rattle.ledger.specs.Steps.{loadedRecords, noNumber, ringSize, ringAt, rateAt, charged, reservedRates, notTested, testedOf};
-
-// No path's number: it is above them all.
-const NO_NUMBER: u32 = 65536;
+ghost use Rattle.ledger.specs.declared.Record.{Record};
+ghost use Rattle.ledger.specs.Records.{recordAt, share, among, placeAmong, allDiffer};
+ghost use Rattle.ledger.specs.Ledgers.{linkCount, recordCount, recordInRange, recordClear, recordFits};
+ghost use Rattle.ledger.specs.Steps.{loadedRecords, numbersOf, ratesOf, linkBitsOf, marksOf, ringSize, ringAt, oneIf, repeatsIn, zerosIn, Narrow, sumOn, linkHolds, charged, notTested, testedOf};
 
 // Half of the records.
 const HALF: usize = 32;
 
-// Whether what is lent and stored can be used; then the records' numbers.
+// Whether what is lent and stored can be used; then the place of the number that was asked for, the count where it does not stand, and its record, the clear one there.
 pub struct Tested {
-    pub numbers: [u32; 64],
     pub usable: bool,
+    pub at: usize,
+    pub found: Record,
 }
 
-pub(crate) fn test(ledger: Ledger, loaded: Loaded) -> Tested
-    ensures { λ r. ⌜ r ≡ testedOf ledger (loadedRecords loaded) ⌝ }
+// The records are read once, each field into a list of its own.
+pub(crate) fn test(ledger: Ledger, loaded: Loaded, number: u32) -> Tested
+    ensures { λ r. ⌜ r ≡ testedOf ledger (loadedRecords loaded) number ⌝ }
 {
-    let count = ledger.count;
     if !loaded.sized {
         return not_tested();
     }
-    if crate::RECORDS < count {
-        return not_tested();
+    let count = ledger.count;
+    let mut excess: u32 = 0;
+    let mut numbers = [0; 64];
+    let mut rates = [0; 64];
+    let mut links = [0; 64];
+    let mut marks = [0; 64];
+    let mut j = 0;
+    let mut place: u32 = 0;
+    while j < crate::RECORDS {
+        let entry = loaded.records[j];
+        excess = excess | excess_of(entry, place, count);
+        numbers[j] = entry.number.0;
+        rates[j] = entry.rate.0;
+        links[j] = entry.links;
+        marks[j] = entry.mark;
+        j += 1;
+        place += 1;
     }
-    let capacities = ledger.capacities;
-    if !capacities_fit(capacities) {
-        return not_tested();
-    }
-    let records = loaded.records;
-    if !records_fit(records, count) {
-        return not_tested();
-    }
-    let numbers = numbers_of(records);
-    if !all_differ(numbers, count) {
-        return not_tested();
-    }
-    let reserved = reserve(records, count);
-    if !totals_fit(capacities, reserved) {
-        return not_tested();
-    }
-    let totals = ledger.totals;
-    if !same_rates(totals, reserved) {
-        return not_tested();
-    }
-    Tested {
-        numbers,
-        usable: true,
-    }
+    judge(ledger, excess, numbers, rates, links, marks, number)
 }
 
 fn not_tested() -> Tested
     ensures { λ r. ⌜ r ≡ notTested ⌝ }
 {
+    let found = no_record();
     Tested {
-        numbers: [0; 64],
         usable: false,
+        at: 0,
+        found,
     }
 }
 
-// All links are tested, so that the loop has no branch.
-fn capacities_fit(capacities: [LinkCapacity; 16]) -> bool
-    ensures { λ r. ⌜ r ≡ capacitiesFit (λ link. getD capacities link (record { 0 = 0 }) .0) ⌝ }
+// What the lists of the records' fields show.
+fn judge(
+    ledger: Ledger,
+    excess: u32,
+    numbers: [u32; 64],
+    rates: [u32; 64],
+    links: [u32; 64],
+    marks: [u32; 64],
+    number: u32,
+) -> Tested
+    ensures { λ r. ⌜ ((records : List Record) → length records ≡ recordCount → eqb excess 0 ≡ every (recordFits (ledger .count) records) recordCount → numbers ≡ numbersOf records → rates ≡ ratesOf records → links ≡ linkBitsOf records → marks ≡ marksOf records → r ≡ testedOf ledger records number) ⌝ }
 {
-    let mut fit = true;
-    let mut link = 0;
-    while link < crate::LINKS {
-        let capacity = capacities[link];
-        fit = and(fit, capacity.in_range());
-        link += 1;
+    let count = ledger.count;
+    if crate::RECORDS < count {
+        return not_tested();
     }
-    fit
+    if excess != 0 {
+        return not_tested();
+    }
+    if !all_differ(&numbers, count) {
+        return not_tested();
+    }
+    if !links_fit(ledger, &rates, &links) {
+        return not_tested();
+    }
+    let at = find(&numbers[0..count], number);
+    if at == count {
+        let found = no_record();
+        return Tested {
+            usable: true,
+            at,
+            found,
+        };
+    }
+    let found = Record {
+        number: PathNumber(numbers[at]),
+        rate: Rate(rates[at]),
+        links: links[at],
+        mark: marks[at],
+    };
+    Tested {
+        usable: true,
+        at,
+        found,
+    }
 }
 
 pub(crate) fn and(a: bool, b: bool) -> bool
@@ -114,42 +141,22 @@ fn excess_of_clear(entry: Record) -> u32
     number.0 | (rate.0 | (entry.links | entry.mark))
 }
 
-// The excess of all records is joined, so that neither loop has a branch.
-fn records_fit(records: [Record; 64], count: usize) -> bool
-    requires { ⌜ count ≤ recordCount ⌝ }
-    ensures { λ r. ⌜ r ≡ every (recordFits count records) recordCount ⌝ }
+// Of a record at a place: both are had, so that a loop over the records has no branch. A count above 64 is that of all.
+fn excess_of(entry: Record, place: u32, count: usize) -> u32
+    ensures { λ r. ⌜ ((records : List Record) → entry ≡ recordAt records place → place < recordCount → eqb r 0 ≡ recordFits count records place) ⌝ }
 {
-    let mut excess: u32 = 0;
-    let mut j = 0;
-    while j < count {
-        let entry = records[j];
-        excess = excess | excess_of_standing(entry);
-        j += 1;
-    }
-    while j < crate::RECORDS {
-        let entry = records[j];
-        excess = excess | excess_of_clear(entry);
-        j += 1;
-    }
-    excess == 0
-}
-
-fn numbers_of(records: [Record; 64]) -> [u32; 64]
-    ensures { λ r. ⌜ r ≡ listOf (numberAt records) recordCount ⌝ }
-{
-    let mut numbers = [0; 64];
-    let mut j = 0;
-    while j < crate::RECORDS {
-        let entry = records[j];
-        let number = entry.number;
-        numbers[j] = number.0;
-        j += 1;
-    }
-    numbers
+    let standing = excess_of_standing(entry);
+    let clear = excess_of_clear(entry);
+    let end: u32 = if count < crate::RECORDS {
+        count as u32
+    } else {
+        64
+    };
+    if place < end { standing } else { clear }
 }
 
 // The first place of a number, or how many there are where it is not among them.
-pub(crate) fn find(numbers: &[u32], number: u32) -> usize
+fn find(numbers: &[u32], number: u32) -> usize
     ensures { λ r. ⌜ r ≡ placeAmong (λ j. getD (now (numbers .entry)) j 0) (length (now (numbers .entry))) number ⌝ }
 {
     let mut j = 0;
@@ -162,29 +169,29 @@ pub(crate) fn find(numbers: &[u32], number: u32) -> usize
     j
 }
 
-// Whether a number is among some. All are compared, so that the loop has no branch.
-fn is_among(numbers: &[u32], number: u32) -> bool
-    ensures { λ r. ⌜ r ≡ among (λ j. getD (now (numbers .entry)) j 0) (length (now (numbers .entry))) number ⌝ }
+// Whether a number is among some, as 1 or 0. All are compared, so that the loop has no branch.
+fn is_among(numbers: &[u16], number: u16) -> u16
+    ensures { λ r. ⌜ r ≡ oneIf (among (λ j. getD (now (numbers .entry)) j 0) (length (now (numbers .entry))) number) ⌝ }
 {
-    let mut met: u32 = 0;
+    let mut met: u16 = 0;
     let mut j = 0;
     while j < numbers.len() {
         let same = if numbers[j] == number { 1 } else { 0 };
         met = met | same;
         j += 1;
     }
-    met != 0
+    met
 }
 
-// The numbers in a ring of 64, with none behind them, and its first 32 once more.
-fn ring_of(numbers: [u32; 64], count: usize) -> [u32; 96]
-    requires { ⌜ count ≤ recordCount ⌝ }
-    ensures { λ r. ⌜ r ≡ listOf (ringAt numbers count) ringSize ⌝ }
+// The numbers' 16 bits in a ring of 64, and its first 32 once more.
+fn ring_of(numbers: &[u32]) -> [u16; 96]
+    requires { ⌜ length (now numbers) ≡ recordCount ⌝ }
+    ensures { λ r. ⌜ r ≡ listOf (ringAt (now (numbers .entry))) ringSize ⌝ }
 {
-    let mut ring = [NO_NUMBER; 96];
+    let mut ring = [0; 96];
     let mut j = 0;
-    while j < count {
-        ring[j] = numbers[j];
+    while j < crate::RECORDS {
+        ring[j] = (numbers[j] % 65536) as u16;
         j += 1;
     }
     let mut k = 0;
@@ -195,23 +202,50 @@ fn ring_of(numbers: [u32; 64], count: usize) -> [u32; 96]
     ring
 }
 
-// Each number is compared with the 32 behind it in the ring: of two, one is among those behind the other.
-fn all_differ(numbers: [u32; 64], count: usize) -> bool
-    requires { ⌜ (count ≤ recordCount) × ((j : ℕ) → j < count → getD numbers j 0 < noNumber) ⌝ }
-    ensures { λ r. ⌜ r ≡ allDiffer (λ j. getD numbers j 0) count ⌝ }
+// Whether a number that is not 0 is twice in a ring. Each is compared with the 32 behind it: of two, one is among those behind the other.
+fn repeats(ring: &[u16]) -> bool
+    requires { ⌜ length (now ring) ≡ ringSize ⌝ }
+    ensures { λ r. ⌜ r ≡ repeatsIn (now (ring .entry)) recordCount ⌝ }
 {
-    let ring = ring_of(numbers, count);
+    let mut met: u16 = 0;
     let mut j = 0;
-    while j < count {
-        let number = numbers[j];
+    while j < crate::RECORDS {
+        let number = ring[j];
         let next = j + 1;
         let end = next + HALF;
-        if is_among(&ring[next..end], number) {
-            return false;
-        }
+        let behind = is_among(&ring[next..end], number);
+        let here = if number == 0 { 0 } else { behind };
+        met = met | here;
         j += 1;
     }
-    true
+    met != 0
+}
+
+// How many of 64 numbers are 0.
+fn zeros(numbers: &[u32]) -> u32
+    requires { ⌜ length (now numbers) ≡ recordCount ⌝ }
+    ensures { λ r. ⌜ r ≡ zerosIn (λ j. getD (now (numbers .entry)) j 0) recordCount ⌝ }
+{
+    let mut met: u32 = 0;
+    let mut j = 0;
+    while j < crate::RECORDS {
+        let none = if numbers[j] == 0 { 1 } else { 0 };
+        met += none;
+        j += 1;
+    }
+    met
+}
+
+// Whether the first so many of 64 numbers differ, if they have 16 bits and all others are 0: no other number is there twice, and 0 once more than behind them at most.
+fn all_differ(numbers: &[u32], count: usize) -> bool
+    requires { ⌜ (length (now numbers) ≡ recordCount) × (count ≤ recordCount) ⌝ }
+    ensures { λ r. ⌜ (Narrow (λ j. getD (now (numbers .entry)) j 0) count → r ≡ allDiffer (λ j. getD (now (numbers .entry)) j 0) count) ⌝ }
+{
+    let ring = ring_of(numbers);
+    if repeats(&ring) {
+        return false;
+    }
+    zeros(numbers) as usize + count <= crate::RECORDS + 1
 }
 
 // What a record reserves on a link: its rate where the link's bit is set.
@@ -241,49 +275,36 @@ pub(crate) fn charge(rates: [Rate; 16], entry: Record) -> [Rate; 16]
     sums
 }
 
-// The reserved total of each link.
-fn reserve(records: [Record; 64], count: usize) -> [Rate; 16]
-    requires { ⌜ (count ≤ recordCount) × (every (recordFits count records) recordCount ≡ true) ⌝ }
-    ensures { λ r. ⌜ r ≡ reservedRates records count ⌝ }
+// What the first so many records reserve on a link, wrapping as the sum of one more does.
+fn reserved_on(rates: &[u32], links: &[u32], link: usize) -> u32
+    requires { ⌜ (length (now rates) ≡ recordCount) × (length (now links) ≡ recordCount) × (link < linkCount) ⌝ }
+    ensures { λ r. ⌜ r ≡ sumOn (now (rates .entry)) (now (links .entry)) recordCount link % 2 ^ 32 ⌝ }
 {
-    let none = Rate(0);
-    let mut rates = [none; 16];
+    let mut sum: u32 = 0;
     let mut j = 0;
-    while j < count {
-        let entry = records[j];
-        let charged = charge(rates, entry);
-        rates = charged;
+    while j < crate::RECORDS {
+        let rate = rates[j];
+        let share = if (links[j] >> link) % 2 == 1 { rate } else { 0 };
+        sum = wrapping_add_u32(sum, share);
         j += 1;
     }
-    rates
+    sum
 }
 
-// Whether each link's total is at most its capacity.
-fn totals_fit(capacities: [LinkCapacity; 16], totals: [Rate; 16]) -> bool
-    ensures { λ r. ⌜ r ≡ every (λ link. leb (rateAt totals link .0) (getD capacities link (record { 0 = 0 }) .0)) linkCount ⌝ }
+// Whether each link's capacity is in its range, the sum over the records at most the capacity, and the stored total the sum.
+fn links_fit(ledger: Ledger, rates: &[u32], links: &[u32]) -> bool
+    requires { ⌜ (length (now rates) ≡ recordCount) × (length (now links) ≡ recordCount) ⌝ }
+    ensures { λ r. ⌜ r ≡ every (linkHolds ledger (now (rates .entry)) (now (links .entry))) linkCount ⌝ }
 {
     let mut fit = true;
     let mut link = 0;
     while link < crate::LINKS {
-        let sum = totals[link];
-        let capacity = capacities[link];
-        fit = and(fit, sum.0 <= capacity.0);
+        let capacity = ledger.capacities[link];
+        let total = ledger.totals[link];
+        let sum = reserved_on(rates, links, link);
+        let kept = and(sum <= capacity.0, total.0 == sum);
+        fit = and(fit, and(capacity.in_range(), kept));
         link += 1;
     }
     fit
-}
-
-fn same_rates(rates: [Rate; 16], others: [Rate; 16]) -> bool
-    ensures { λ r. ⌜ r ≡ every (λ link. eqb (rateAt rates link .0) (rateAt others link .0)) linkCount ⌝ }
-{
-    let mut link = 0;
-    while link < crate::LINKS {
-        let rate = rates[link];
-        let other = others[link];
-        if rate.0 != other.0 {
-            return false;
-        }
-        link += 1;
-    }
-    true
 }

@@ -10,9 +10,7 @@ use Rattle.ledger.specs.declared.Record.{Record}
 use Rattle.ledger.specs.Records.{recordAt, numberAt, placeAmong}
 use Rattle.ledger.specs.Ledgers.{recordCount, ledgerUnusable}
 use Rattle.ledger.specs.Steps.{loadedRecords}
-use Rattle.ledger.proofs.Testing.{usable-sized, held-records}
-use Rattle.ledger.proofs.UsableLedger.{usable-ledger}
-use Rattle.ledger.proofs.Deciding.{number-inside, number-outside, count-few, tested-refuses, numbers-whole, place-found}
+use Rattle.ledger.proofs.Deciding.{number-inside, number-outside, tested-refuses, place-found, record-found}
 use Rattle.ledger.proofs.DecidingConfirm.{confirm-outside, confirm-unusable, confirm-unknown, confirm-below, confirm-already, confirm-held}
 use Rattle.ledger.proofs.confirming.decide.Statement.{statement}
 use Rattle.ledger.proofs.confirming.decide.Tie as tie
@@ -27,53 +25,40 @@ numbered c = c .before .before
 abbrev tested : tie.Else1 → tie.After-test
 tested c = c .before .before
 
-abbrev passed : tie.After-find → tie.Else1
-passed c = c .before .before .before .before
-
 -- the number that was checked
 checked : (c : tie.After-number) → (inRange pathNumberRange (start c .args .number) ≡ true) × (c .number .given .0 .0 .0 ≡ start c .args .number)
 checked c = number-inside (start c .args .number) (c .before .before .checked .ensures) (c .number .given .1)
 
 -- whether the ledger can be used
-refuses : (c : tie.After-test) → let args = start (numbered c) .args in not (c .test .result .usable) ≡ ledgerUnusable (args .ledger) (loadedRecords (args .t2))
-refuses c = let args = start (numbered c) .args in tested-refuses (args .ledger) (loadedRecords (args .t2)) (c .test .ensures)
+refuses : (c : tie.After-test) → let args = start (numbered c) .args in not (c .test .result .usable) ≡ ledgerUnusable (args .ledger) (loadedRecords (args .loaded))
+refuses c = let args = start (numbered c) .args in tested-refuses (args .ledger) (loadedRecords (args .loaded)) _ (c .test .ensures)
 
-usable : (c : tie.Else1) → let args = start (numbered (tested c)) .args in ledgerUnusable (args .ledger) (loadedRecords (args .t2)) ≡ false
+usable : (c : tie.Else1) → let args = start (numbered (tested c)) .args in ledgerUnusable (args .ledger) (loadedRecords (args .loaded)) ≡ false
 usable c = sym (refuses (tested c)) ∙ c .if1 .left
 
--- the place that was found
-place : (c : tie.After-find) →
-    let args = start (numbered (tested (passed c))) .args in
-    c .find .result ≡ placeAmong (numberAt (loadedRecords (args .t2))) (args .ledger .count) (args .number)
+-- the place that was found, and the record there
+place : (c : tie.Else1) →
+    let args = start (numbered (tested c)) .args in
+    tested c .test .result .at ≡ placeAmong (numberAt (loadedRecords (args .loaded))) (args .ledger .count) (args .number)
 place c =
-    let before = tested (passed c) in
+    let before = tested c in
     let args = start (numbered before) .args in
-    let records = loadedRecords (args .t2) in
-    c .find .ensures
-    ∙ place-found (args .ledger) records (before .test .ensures) (usable (passed c)) _
-    ∙ ap (placeAmong (numberAt records) (args .ledger .count)) (checked (numbered before) .1)
+    let records = loadedRecords (args .loaded) in
+    place-found (args .ledger) records _ (before .test .ensures) (usable c) ∙ ap (placeAmong (numberAt records) (args .ledger .count)) (checked (numbered before) .1)
 
 -- a path of the number stands there
-below : (c : tie.Else2) → c .before .find .result < start (numbered (tested (passed (c .before)))) .args .ledger .count
+below : (c : tie.Else2) → tested (c .before) .test .result .at < start (numbered (tested (c .before))) .args .ledger .count
 below c =
-    let before = tested (passed (c .before)) in
+    let before = tested (c .before) in
     let args = start (numbered before) .args in
-    confirm-below (args .ledger) (loadedRecords (args .t2)) (args .number) (checked (numbered before) .0) (usable (passed (c .before))) (place (c .before)) (c .if2 .left)
+    confirm-below (args .ledger) (loadedRecords (args .loaded)) (args .number) (checked (numbered before) .0) (usable (c .before)) (place (c .before)) (c .if2 .left)
 
-within : (c : tie.Else2) → c .before .find .result < recordCount
-within c =
-    let args = start (numbered (tested (passed (c .before)))) .args in
-    omega (arith, below c, count-few (args .ledger) (loadedRecords (args .t2)) (usable (passed (c .before))))
-
--- and the records are those lent
-held : (c : tie.Else1) → let args = start (numbered (tested c)) .args in args .t2 .records ≡ loadedRecords (args .t2)
-held c =
-    let args = start (numbered (tested c)) .args in
-    held-records (args .ledger) (args .t2) (usable-sized (args .ledger) (args .t2) (usable-ledger (args .ledger) (loadedRecords (args .t2)) (usable c)))
-
--- the record that was read is the one at the place
-read : (c : tie.Else2) → let args = start (numbered (tested (passed (c .before)))) .args in recordAt (args .t2 .records) (c .before .find .result) ≡ recordAt (loadedRecords (args .t2)) (c .before .find .result)
-read c = ap (λ (records : List Record). recordAt records (c .before .find .result)) (held (passed (c .before)))
+-- and its record was read
+read : (c : tie.Else2) → let result = tested (c .before) .test .result in result .found ≡ recordAt (loadedRecords (start (numbered (tested (c .before))) .args .loaded)) (result .at)
+read c =
+    let before = tested (c .before) in
+    let args = start (numbered before) .args in
+    record-found (args .ledger) (loadedRecords (args .loaded)) _ (before .test .ensures) (usable (c .before)) (below c)
 
 checked-requires : tie.Need-checked-requires
 checked-requires c κs = search needs
@@ -98,22 +83,7 @@ returns c =
     let before = c .before .before .before in
     let args = start (numbered before) .args in
     c .refused2 .ensures
-    ∙ confirm-unusable (args .ledger) (loadedRecords (args .t2)) (args .number) (checked (numbered before) .0) (sym (refuses before) ∙ c .before .if1 .taken)
-
-sub-find : tie.Need-sub-find
-sub-find c = search needs
-
-part-find-start : tie.Need-part-find-start
-part-find-start c = search needs
-
-part-find-end : tie.Need-part-find-end
-part-find-end c =
-    let before = tested (c .before .before) in
-    let args = start (numbered before) .args in
-    numbers-whole (args .ledger) (loadedRecords (args .t2)) (before .test .ensures) (usable (c .before .before))
-
-find-requires : tie.Need-find-requires
-find-requires c κs = search needs
+    ∙ confirm-unusable (args .ledger) (loadedRecords (args .loaded)) (args .number) (checked (numbered before) .0) (sym (refuses before) ∙ c .before .if1 .taken)
 
 refused-requires-3 : tie.Need-refused-requires-3
 refused-requires-3 c κs = search needs
@@ -121,15 +91,9 @@ refused-requires-3 c κs = search needs
 returns-2 : tie.Need-returns-2
 returns-2 c =
     let found = c .before .before in
-    let args = start (numbered (tested (passed found))) .args in
+    let args = start (numbered (tested found)) .args in
     c .refused3 .ensures
-    ∙ confirm-unknown (args .ledger) (loadedRecords (args .t2)) (args .number) (checked (numbered (tested (passed found))) .0) (usable (passed found)) (place found) (c .before .if2 .taken)
-
-mul-entry : tie.Need-mul-entry
-mul-entry c = omega (arith, within c)
-
-element-copy-out-entry : tie.Need-element-copy-out-entry
-element-copy-out-entry c = within c
+    ∙ confirm-unknown (args .ledger) (loadedRecords (args .loaded)) (args .number) (checked (numbered (tested found)) .0) (usable found) (place found) (c .before .if2 .taken)
 
 refused-requires-4 : tie.Need-refused-requires-4
 refused-requires-4 c κs = search needs
@@ -138,22 +102,22 @@ returns-3 : tie.Need-returns-3
 returns-3 c =
     let other = c .before .before .before .before in
     let found = other .before in
-    let args = start (numbered (tested (passed found))) .args in
+    let args = start (numbered (tested found)) .args in
     c .refused4 .ensures
-    ∙ confirm-already (args .ledger) (loadedRecords (args .t2)) (args .number) (checked (numbered (tested (passed found))) .0) (usable (passed found)) (place found) (other .if2 .left) (read other) (c .before .if3 .taken)
+    ∙ confirm-already (args .ledger) (loadedRecords (args .loaded)) (args .number) (checked (numbered (tested found)) .0) (usable found) (place found) (other .if2 .left) (read other) (c .before .if3 .taken)
 
 returns-4 : tie.Need-returns-4
 returns-4 c =
     let args = c .before .before .before .before .args in
     c .refused .ensures
-    ∙ confirm-outside (args .ledger) (loadedRecords (args .t2)) (args .number) (number-outside (args .number) (c .before .before .before .checked .ensures) (c .before .enum-told .given .1))
+    ∙ confirm-outside (args .ledger) (loadedRecords (args .loaded)) (args .number) (number-outside (args .number) (c .before .before .before .checked .ensures) (c .before .enum-told .given .1))
 
 returns-5 : tie.Need-returns-5
 returns-5 c =
     let other = c .before .before .before in
     let found = other .before in
-    let args = start (numbered (tested (passed found))) .args in
-    confirm-held (args .ledger) (loadedRecords (args .t2)) (args .number) (checked (numbered (tested (passed found))) .0) (usable (passed found)) (place found) (other .if2 .left) (read other) (c .if3 .left)
+    let args = start (numbered (tested found)) .args in
+    confirm-held (args .ledger) (loadedRecords (args .loaded)) (args .number) (checked (numbered (tested found)) .0) (usable found) (place found) (other .if2 .left) (read other) (c .if3 .left)
 
 pub decide-spec : {M : Type 1} → statement M
 decide-spec =
@@ -166,14 +130,8 @@ decide-spec =
     test-requires
     refused-requires-2
     returns
-    sub-find
-    part-find-start
-    part-find-end
-    find-requires
     refused-requires-3
     returns-2
-    mul-entry
-    element-copy-out-entry
     refused-requires-4
     returns-3
     returns-4

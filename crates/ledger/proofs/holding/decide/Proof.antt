@@ -32,7 +32,7 @@ checked c = number-inside (start c .args .number) (c .before .before .checked .e
 
 -- whether the ledger can be used
 refuses : (c : tie.After-test) → let args = start (numbered c) .args in not (c .test .result .usable) ≡ ledgerUnusable (args .ledger) (loadedRecords (args .loaded))
-refuses c = let args = start (numbered c) .args in tested-refuses (args .ledger) (loadedRecords (args .loaded)) (c .test .ensures)
+refuses c = let args = start (numbered c) .args in tested-refuses (args .ledger) (loadedRecords (args .loaded)) _ (c .test .ensures)
 
 usable : (c : tie.Else1) → let args = start (numbered (tested c)) .args in ledgerUnusable (args .ledger) (loadedRecords (args .loaded)) ≡ false
 usable c = sym (refuses (tested c)) ∙ c .if1 .left

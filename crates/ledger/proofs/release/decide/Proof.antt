@@ -10,9 +10,7 @@ use Rattle.ledger.specs.declared.Record.{Record}
 use Rattle.ledger.specs.Records.{recordAt, numberAt, placeAmong}
 use Rattle.ledger.specs.Ledgers.{recordCount, ledgerUnusable}
 use Rattle.ledger.specs.Steps.{loadedRecords}
-use Rattle.ledger.proofs.Testing.{usable-sized, held-records}
-use Rattle.ledger.proofs.UsableLedger.{usable-ledger}
-use Rattle.ledger.proofs.Deciding.{number-inside, number-outside, count-few, share-le, tested-refuses, numbers-whole, place-found, release-outside, release-unusable, release-unknown, place-below, release-stands}
+use Rattle.ledger.proofs.Deciding.{number-inside, number-outside, share-le, tested-refuses, place-found, record-found, release-outside, release-unusable, release-unknown, place-below, release-stands}
 use Rattle.ledger.proofs.release.decide.Statement.{statement}
 use Rattle.ledger.proofs.release.decide.Tie as tie
 
@@ -26,49 +24,40 @@ numbered c = c .before .before
 abbrev tested : tie.Else1 → tie.After-test
 tested c = c .before .before
 
-abbrev passed : tie.After-find → tie.Else1
-passed c = c .before .before .before .before
-
 -- the number that was checked
 checked : (c : tie.After-number) → (inRange pathNumberRange (start c .args .number) ≡ true) × (c .number .given .0 .0 .0 ≡ start c .args .number)
 checked c = number-inside (start c .args .number) (c .before .before .checked .ensures) (c .number .given .1)
 
 -- whether the ledger can be used
-refuses : (c : tie.After-test) → let args = start (numbered c) .args in not (c .test .result .usable) ≡ ledgerUnusable (args .ledger) (loadedRecords (args .t2))
-refuses c = let args = start (numbered c) .args in tested-refuses (args .ledger) (loadedRecords (args .t2)) (c .test .ensures)
+refuses : (c : tie.After-test) → let args = start (numbered c) .args in not (c .test .result .usable) ≡ ledgerUnusable (args .ledger) (loadedRecords (args .loaded))
+refuses c = let args = start (numbered c) .args in tested-refuses (args .ledger) (loadedRecords (args .loaded)) _ (c .test .ensures)
 
-usable : (c : tie.Else1) → let args = start (numbered (tested c)) .args in ledgerUnusable (args .ledger) (loadedRecords (args .t2)) ≡ false
+usable : (c : tie.Else1) → let args = start (numbered (tested c)) .args in ledgerUnusable (args .ledger) (loadedRecords (args .loaded)) ≡ false
 usable c = sym (refuses (tested c)) ∙ c .if1 .left
 
--- the place that was found
-place : (c : tie.After-find) →
-    let args = start (numbered (tested (passed c))) .args in
-    c .find .result ≡ placeAmong (numberAt (loadedRecords (args .t2))) (args .ledger .count) (args .number)
+-- the place that was found, and the record there
+place : (c : tie.Else1) →
+    let args = start (numbered (tested c)) .args in
+    tested c .test .result .at ≡ placeAmong (numberAt (loadedRecords (args .loaded))) (args .ledger .count) (args .number)
 place c =
-    let before = tested (passed c) in
+    let before = tested c in
     let args = start (numbered before) .args in
-    let records = loadedRecords (args .t2) in
-    c .find .ensures
-    ∙ place-found (args .ledger) records (before .test .ensures) (usable (passed c)) _
-    ∙ ap (placeAmong (numberAt records) (args .ledger .count)) (checked (numbered before) .1)
+    let records = loadedRecords (args .loaded) in
+    place-found (args .ledger) records _ (before .test .ensures) (usable c) ∙ ap (placeAmong (numberAt records) (args .ledger .count)) (checked (numbered before) .1)
 
 -- a path of the number stands there
-below : (c : tie.Else2) → c .before .find .result < start (numbered (tested (passed (c .before)))) .args .ledger .count
+below : (c : tie.Else2) → tested (c .before) .test .result .at < start (numbered (tested (c .before))) .args .ledger .count
 below c =
-    let before = tested (passed (c .before)) in
+    let before = tested (c .before) in
     let args = start (numbered before) .args in
-    place-below (args .ledger) (loadedRecords (args .t2)) (args .number) (checked (numbered before) .0) (usable (passed (c .before))) (place (c .before)) (c .if2 .left)
+    place-below (args .ledger) (loadedRecords (args .loaded)) (args .number) (checked (numbered before) .0) (usable (c .before)) (place (c .before)) (c .if2 .left)
 
-within : (c : tie.Else2) → c .before .find .result < recordCount
-within c =
-    let args = start (numbered (tested (passed (c .before)))) .args in
-    omega (arith, below c, count-few (args .ledger) (loadedRecords (args .t2)) (usable (passed (c .before))))
-
--- and the records are those held
-held : (c : tie.Else1) → let args = start (numbered (tested c)) .args in args .t2 .records ≡ loadedRecords (args .t2)
-held c =
-    let args = start (numbered (tested c)) .args in
-    held-records (args .ledger) (args .t2) (usable-sized (args .ledger) (args .t2) (usable-ledger (args .ledger) (loadedRecords (args .t2)) (usable c)))
+-- and its record was read
+read : (c : tie.Else2) → let result = tested (c .before) .test .result in result .found ≡ recordAt (loadedRecords (start (numbered (tested (c .before))) .args .loaded)) (result .at)
+read c =
+    let before = tested (c .before) in
+    let args = start (numbered before) .args in
+    record-found (args .ledger) (loadedRecords (args .loaded)) _ (before .test .ensures) (usable (c .before)) (below c)
 
 checked-requires : tie.Need-checked-requires
 checked-requires c κs = search needs
@@ -93,22 +82,7 @@ returns c =
     let before = c .before .before .before in
     let args = start (numbered before) .args in
     c .refused2 .ensures
-    ∙ release-unusable (args .ledger) (loadedRecords (args .t2)) (args .number) (checked (numbered before) .0) (sym (refuses before) ∙ c .before .if1 .taken)
-
-sub-find : tie.Need-sub-find
-sub-find c = search needs
-
-part-find-start : tie.Need-part-find-start
-part-find-start c = search needs
-
-part-find-end : tie.Need-part-find-end
-part-find-end c =
-    let before = tested (c .before .before) in
-    let args = start (numbered before) .args in
-    numbers-whole (args .ledger) (loadedRecords (args .t2)) (before .test .ensures) (usable (c .before .before))
-
-find-requires : tie.Need-find-requires
-find-requires c κs = search needs
+    ∙ release-unusable (args .ledger) (loadedRecords (args .loaded)) (args .number) (checked (numbered before) .0) (sym (refuses before) ∙ c .before .if1 .taken)
 
 refused-requires-3 : tie.Need-refused-requires-3
 refused-requires-3 c κs = search needs
@@ -116,24 +90,18 @@ refused-requires-3 c κs = search needs
 returns-2 : tie.Need-returns-2
 returns-2 c =
     let found = c .before .before in
-    let args = start (numbered (tested (passed found))) .args in
+    let args = start (numbered (tested found)) .args in
     c .refused3 .ensures
-    ∙ release-unknown (args .ledger) (loadedRecords (args .t2)) (args .number) (checked (numbered (tested (passed found))) .0) (usable (passed found)) (place found) (c .before .if2 .taken)
-
-mul-gone : tie.Need-mul-gone
-mul-gone c = omega (arith, within c)
-
-element-copy-out-gone : tie.Need-element-copy-out-gone
-element-copy-out-gone c = within c
+    ∙ release-unknown (args .ledger) (loadedRecords (args .loaded)) (args .number) (checked (numbered (tested found)) .0) (usable found) (place found) (c .before .if2 .taken)
 
 discharge-requires : tie.Need-discharge-requires
 discharge-requires c κs link less =
     let other = c .before .before in
-    let args = start (numbered (tested (passed (other .before)))) .args in
-    rw (held (passed (other .before))) (share-le (args .ledger) (loadedRecords (args .t2)) (usable (passed (other .before))) _ link (below other) less)
+    let args = start (numbered (tested (other .before))) .args in
+    rw (read other) (share-le (args .ledger) (loadedRecords (args .loaded)) (usable (other .before)) _ link (below other) less)
 
-sub-t24 : tie.Need-sub-t24
-sub-t24 c = omega (arith, below (c .before .before .before .before))
+sub-t21 : tie.Need-sub-t21
+sub-t21 c = omega (arith, below (c .before .before .before .before))
 
 no-record-requires : tie.Need-no-record-requires
 no-record-requires c κs = search needs
@@ -142,15 +110,15 @@ returns-3 : tie.Need-returns-3
 returns-3 c =
     let args = c .before .before .before .before .args in
     c .refused .ensures
-    ∙ release-outside (args .ledger) (loadedRecords (args .t2)) (args .number) (number-outside (args .number) (c .before .before .before .checked .ensures) (c .before .enum-told .given .1))
+    ∙ release-outside (args .ledger) (loadedRecords (args .loaded)) (args .number) (number-outside (args .number) (c .before .before .before .checked .ensures) (c .before .enum-told .given .1))
 
 returns-4 : tie.Need-returns-4
 returns-4 c =
     let other = c .before .before .before .before .before in
     let found = other .before in
-    let args = start (numbered (tested (passed found))) .args in
+    let args = start (numbered (tested found)) .args in
     rw (c .no-record .ensures)
-    (release-stands (args .ledger) (loadedRecords (args .t2)) (args .number) (checked (numbered (tested (passed found))) .0) (usable (passed found)) (place found) (other .if2 .left) (ap (λ (records : List Record). recordAt records (found .find .result)) (held (passed found))) (c .before .before .discharge .ensures))
+    (release-stands (args .ledger) (loadedRecords (args .loaded)) (args .number) (checked (numbered (tested found)) .0) (usable found) (place found) (other .if2 .left) (read other) (c .before .before .discharge .ensures))
 
 pub decide-spec : {M : Type 1} → statement M
 decide-spec =
@@ -163,16 +131,10 @@ decide-spec =
     test-requires
     refused-requires-2
     returns
-    sub-find
-    part-find-start
-    part-find-end
-    find-requires
     refused-requires-3
     returns-2
-    mul-gone
-    element-copy-out-gone
     discharge-requires
-    sub-t24
+    sub-t21
     no-record-requires
     returns-3
     returns-4)

@@ -1,14 +1,14 @@
 -- Whether the number is among those passed, as 1 or 0.
 use Prim.Native.Nat.{ℕ, _≤_, _-_}
 use mathlib.Core.Path.{_≡_, ap, sym, _∙_}
-use mathlib.Core.Bool.{not}
 use mathlib.Core.Logic.{⊎-elim}
 use native.Mathlib.Omega.{arith}
 use lib.Dec.{eqb}
 use lib.ListN.{length, getD}
 use borrow.Author.Tests.{eq-eqb, ne-eqb}
 use Rattle.ledger.specs.Records.{among}
-use Rattle.ledger.proofs.Differing.{oneIf, one-met, met-first, met-next}
+use Rattle.ledger.specs.Steps.{oneIf}
+use Rattle.ledger.proofs.Differing.{met-first, met-next}
 use Rattle.ledger.proofs.test.is_among.Statement.{statement}
 use Rattle.ledger.proofs.test.is_among.Tie as tie
 
@@ -48,7 +48,7 @@ returns c =
     let numbers = at .before .args .numbers .now in
     let number = at .before .args .number in
     let all : at .loop .j ≡ length numbers = omega arith in
-    ap (λ (met : ℕ). not (eqb met 0)) (at .loop .inv .1) ∙ one-met _ ∙ ap (λ (n : ℕ). among (λ k. getD numbers k 0) n number) all
+    at .loop .inv .1 ∙ ap (λ (n : ℕ). oneIf (among (λ k. getD numbers k 0) n number)) all
 
 pub is-among-spec : {M : Type 1} → statement M
 is-among-spec =
