@@ -16,7 +16,7 @@ use Rattle.quantity.specs.Sums.{every}
 use Rattle.quantity.specs.declared.Rate.{Rate}
 use Rattle.quantity.specs.declared.LinkCapacity.{LinkCapacity}
 use Rattle.quantity.proofs.Laws.{pick-true, pick-false, either-second}
-use Rattle.quantity.proofs.Sums.{total-zero, total-next, every-next, listOf-ext, every-same, every-fails}
+use Rattle.quantity.proofs.Sums.{total-zero, total-next, every-next, listOf-ext, every-same}
 use Rattle.sheet.specs.Paths.{noLinkedOperator}
 use Rattle.sheet.specs.Forms.{inFull}
 use Rattle.sheet.specs.declared.LinkedOperator.{LinkedOperator}
@@ -107,31 +107,10 @@ noted-all value whole {named} noted =
 -- Short links.
 
 module _ (capacities : List LinkCapacity) (reserved : List Rate) (named : ℕ → Bool) (rate : Rate) where
-  -- the link's capacity is below its reserved total with the rate
-  abbrev below : ℕ → Bool
-  below link = ltb (getD capacities link (record { 0 = 0 }) .0) (ratesSum (rateAt reserved link) rate .0)
+  -- the link is not named, or its capacity is not below its reserved total with the rate
+  abbrev pub roomAt : ℕ → Bool
+  roomAt link = not (both (named link) (ltb (getD capacities link (record { 0 = 0 }) .0) (ratesSum (rateAt reserved link) rate .0)))
 
-  -- no link before this one is named and short
-  abbrev pub Enough : ℕ → Type 0
-  Enough link = every (λ j. not (both (named j) (below j))) link ≡ true
-
-  pub enough-first : Enough 0
-  unfolding every
-  enough-first = refl
-
-  enough-next : (link : ℕ) → Enough link → both (named link) (below link) ≡ false → Enough (link + 1)
-  enough-next link enough here = rw (every-next, enough, here)
-
-  pub enough-wide : (link : ℕ) → Enough link → named link ≡ true → below link ≡ false → Enough (link + 1)
-  enough-wide link enough names wide = enough-next link enough (rw (names, wide))
-
-  pub enough-other : (link : ℕ) → Enough link → named link ≡ false → Enough (link + 1)
-  enough-other link enough other = enough-next link enough (rw other)
-
-  pub enough-all : Enough linkCount → false ≡ shortOf capacities reserved named rate
+  pub room-all : not (every roomAt linkCount) ≡ shortOf capacities reserved named rate
   unfolding shortOf
-  enough-all enough = sym (ap not enough)
-
-  pub short-at : (link : ℕ) → link < linkCount → named link ≡ true → below link ≡ true → true ≡ shortOf capacities reserved named rate
-  unfolding shortOf
-  short-at link less names short = sym (ap not (every-fails _ linkCount link less (rw (names, short))))
+  room-all = refl

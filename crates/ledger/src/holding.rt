@@ -7,6 +7,7 @@ use crate::records::Loaded;
 use crate::records::append;
 use crate::records::load;
 use crate::test::Tested;
+use crate::test::and;
 use crate::test::charge;
 use crate::test::test;
 use figures::figures;
@@ -182,7 +183,7 @@ fn bits_of(named: [bool; 16]) -> u32
     bits
 }
 
-// Whether a named link's capacity is below its total with the rate.
+// Whether a named link's capacity is below its total with the rate. All links are tested, so that the loop has no branch.
 fn link_short(
     capacities: [LinkCapacity; 16],
     totals: [Rate; 16],
@@ -191,17 +192,17 @@ fn link_short(
 ) -> bool
     ensures { λ r. ⌜ r ≡ shortOf capacities totals (λ link. getD named link false) rate ⌝ }
 {
+    let mut room = true;
     let mut link = 0;
     while link < crate::LINKS {
         let capacity = capacities[link];
         let sum = totals[link];
         let with = sum.plus(rate);
-        if named[link] && capacity.0 < with.0 {
-            return true;
-        }
+        let short = and(named[link], capacity.0 < with.0);
+        room = and(room, !short);
         link += 1;
     }
-    false
+    !room
 }
 
 fn refused(ledger: Ledger, why: Refusal) -> Appending

@@ -1,73 +1,77 @@
--- The invariant: no link passed is named and short.
-use mathlib.Core.Path.{_≡_}
-use mathlib.Core.Bool.{false}
-use mathlib.Core.Logic.{⊎-elim}
-use Prim.Native.Nat.{_-_, _≤_}
+-- The invariant: whether every link passed has room.
+use mathlib.Core.Path.{_≡_, refl, ap, ap₂, sym, _∙_}
+use mathlib.Core.Bool.{Bool, false, not}
+use Prim.Native.Nat.{ℕ, _-_, _≤_}
 use native.Mathlib.Omega.{arith}
+use lib.Dec.{ltb}
 use lib.ListN.{getD}
 use borrow.Author.Needs.{needs}
+use Rattle.quantity.specs.Choice.{both}
+use Rattle.quantity.specs.Sums.{every}
+use Rattle.quantity.specs.declared.Rate.{Rate}
+use Rattle.quantity.proofs.Sums.{every-next}
 use Rattle.ledger.specs.Ledgers.{linkCount}
-use Rattle.ledger.proofs.Naming.{Enough, enough-first, enough-wide, enough-other, enough-all, short-at}
+use Rattle.ledger.proofs.Naming.{roomAt, room-all}
 use Rattle.ledger.proofs.holding.link_short.Statement.{statement}
 use Rattle.ledger.proofs.holding.link_short.Tie as tie
 
 abbrev Inv-loop : tie.InvT-loop
-Inv-loop rate capacities reserved named link₀ link = (link ≤ linkCount) × Enough capacities reserved (λ j. getD named j false) rate link
+Inv-loop rate capacities totals named room₀ link₀ room link = (link ≤ linkCount) × (room ≡ every (roomAt capacities totals (λ j. getD named j false) rate) link)
 
 abbrev μ-loop : tie.MeasureT-loop
-μ-loop rate capacities reserved named link₀ link = linkCount - link
+μ-loop rate capacities totals named room₀ link₀ room link = linkCount - link
 
 loop-holds : tie.Need-loop-holds Inv-loop μ-loop
-loop-holds c = let a = c .args in (omega arith, enough-first (a .t1) (a .t2) (λ j. getD (a .t3) j false) (a .rate))
+unfolding every
+loop-holds c = (omega arith, refl)
 
 mul-capacity : tie.Need-mul-capacity Inv-loop μ-loop
-mul-capacity c = omega arith
+mul-capacity c = search needs
 
 array-copy-out-capacity : tie.Need-array-copy-out-capacity Inv-loop μ-loop
-array-copy-out-capacity c = omega arith
+array-copy-out-capacity c = search needs
 
 mul-sum : tie.Need-mul-sum Inv-loop μ-loop
-mul-sum c = omega arith
+mul-sum c = search needs
 
 array-copy-out-sum : tie.Need-array-copy-out-sum Inv-loop μ-loop
-array-copy-out-sum c = omega arith
+array-copy-out-sum c = search needs
 
 plus-requires : tie.Need-plus-requires Inv-loop μ-loop
 plus-requires c κs = search needs
 
-array-read-if1 : tie.Need-array-read-if1 Inv-loop μ-loop
-array-read-if1 c = omega arith
+array-read-and : tie.Need-array-read-and Inv-loop μ-loop
+array-read-and c = search needs
 
-returns : tie.Need-returns Inv-loop μ-loop
-returns c =
-    let turn = c .before .before .before .before in
-    let at = turn .before .before .before .before in
-    let a = at .before .args in
-    short-at (a .t1) (a .t2) (λ j. getD (a .t3) j false) (a .rate) (at .loop .link) (turn .before .before .before .loop-test .taken) (c .before .before .before .if1 .taken) (rw (← turn .plus .ensures) (c .if2 .taken))
+and-requires : tie.Need-and-requires Inv-loop μ-loop
+and-requires c κs = search needs
+
+and-requires-2 : tie.Need-and-requires-2 Inv-loop μ-loop
+and-requires-2 c κs = search needs
 
 add-link : tie.Need-add-link Inv-loop μ-loop
-add-link c = omega arith
+add-link c = search needs
 
 loop-less : tie.Need-loop-less Inv-loop μ-loop
 loop-less c = omega arith
 
 loop-again : tie.Need-loop-again Inv-loop μ-loop
 loop-again c =
-    let at = c .before .before .before .before .before in
-    let a = at .before .args in (
-      omega arith,
-      ⊎-elim
-          (λ wide. enough-wide (a .t1) (a .t2) (λ j. getD (a .t3) j false) (a .rate) (at .loop .link) (at .loop .inv .1) (wide .0 .taken) (rw (← c .before .plus .ensures) (wide .3 .left)))
-          (λ other. enough-other (a .t1) (a .t2) (λ j. getD (a .t3) j false) (a .rate) (at .loop .link) (at .loop .inv .1) (other .left))
-          (c .if1 .came),
-    )
+    let summed = c .before .before in
+    let at = summed .before .before .before .before .before .before in
+    let a = at .before .args in
+    let link = at .loop .link in
+    let named : ℕ → Bool = λ j. getD (a .t3) j false in
+    let short = c .before .and .ensures ∙ ap (λ (with : Rate). both (named link) (ltb (getD (a .t1) link (record { 0 = 0 }) .0) (with .0))) (summed .before .before .plus .ensures) in
+    (omega arith, c .and2 .ensures ∙ ap₂ both (at .loop .inv .1) (ap not short) ∙ sym (every-next (roomAt (a .t1) (a .t2) named (a .rate)) link))
 
-returns-2 : tie.Need-returns-2 Inv-loop μ-loop
-returns-2 c =
+returns : tie.Need-returns Inv-loop μ-loop
+returns c =
     let at = c .before in
     let a = at .before .args in
-    let ends : at .loop .link ≡ linkCount = omega arith in
-    enough-all (a .t1) (a .t2) (λ j. getD (a .t3) j false) (a .rate) (rw ends at (at .loop .inv .1))
+    let named : ℕ → Bool = λ j. getD (a .t3) j false in
+    let all : at .loop .link ≡ linkCount = omega arith in
+    ap not (at .loop .inv .1 ∙ ap (every (roomAt (a .t1) (a .t2) named (a .rate))) all) ∙ room-all (a .t1) (a .t2) named (a .rate)
 
 pub link-short-spec : {M : Type 1} → statement M
 link-short-spec =
@@ -81,9 +85,10 @@ link-short-spec =
     mul-sum
     array-copy-out-sum
     plus-requires
-    array-read-if1
-    returns
+    array-read-and
+    and-requires
+    and-requires-2
     add-link
     loop-less
     loop-again
-    returns-2)
+    returns)
