@@ -91,25 +91,30 @@ advances =
 
 pub expectedAdvances : List Advanced
 expectedAdvances =
-    Advanced.Sends (record { 0 = 8 }) true (counting (delayer 3) 7 4 4_294_967_268)
-    ∷ Advanced.Sends (record { 0 = 40 }) true (counting (delayer 3) 7 4 4)
+    Advanced.Sends (record { 0 = 8 }) true (counting (delayer 3) 7 4 4_294_967_268) 1
+    ∷ Advanced.Sends (record { 0 = 40 }) true (counting (delayer 3) 7 4 4) 1
     ∷ Advanced.ChoiceAbove
-    ∷ Advanced.Sends (record { 0 = 5 }) false (counting (delayer 3) 7 1_073_741_817 4_294_967_265)
+    ∷ Advanced.Sends (record { 0 = 5 }) false (counting (delayer 3) 7 1_073_741_817 4_294_967_265) 1
     ∷ Advanced.Unusable
     ∷ Advanced.Unusable
     ∷ []
 
 pub reference-advances : advances ≡ expectedAdvances
-unfolding advances expectedAdvances before beforeWords every inRange storedFits numberInRange greatestOutput delayerGreatest heldAfter delayerAfter usesHeld usesBeside wordsUsed Ring.totalMore Ring.totalLess Ring.totalNext Ring.ringHeld Ring.ringRecent Ring.pathHolds Ring.pathLeast Ring.pathGreatest Ring.wordUnused Ring.totalsFit Ring.pathUnusable Ring.pathSent Ring.pathChoiceAbove Ring.pathHoldsNext Ring.pathStateKept Ring.pathAdvanced Ring.storable Ring.pathUnready Ring.pathHoldsSent Ring.advancedOf
+unfolding advances expectedAdvances before beforeWords every inRange storedFits numberInRange greatestOutput delayerGreatest heldAfter delayerAfter usesHeld usesBeside wordsUsed Ring.totalMore Ring.totalLess Ring.totalNext Ring.ringHeld Ring.ringRecent Ring.pathHolds Ring.pathLeast Ring.pathGreatest Ring.wordUnused Ring.totalsFit Ring.pathUnusable Ring.pathSent Ring.pathChoiceAbove Ring.pathHoldsNext Ring.pathStateKept Ring.pathAdvanced Ring.storable Ring.pathUnready Ring.pathHoldsSent Ring.ringPlace Ring.advancedOf
 reference-advances = refl
 
 pub reference-kept : Ring.pathStateKept before 10 8 32 0 ≡ after
 unfolding before after usesHeld Ring.totalMore Ring.totalNext Ring.pathStateKept
 reference-kept = refl
 
-pub reference-words : Ring.ringNoted (Ring.pathAdvanced before 10 8 32 0) beforeWords ≡ afterWords
-unfolding before beforeWords afterWords inRange numberInRange usesHeld wordsUsed Ring.totalMore Ring.totalNext Ring.pathStateKept Ring.pathAdvanced Ring.ringNoted
+-- word 7 mod 3 has the total then; a limiter has no word
+pub reference-words : Ring.totalNoted beforeWords (Ring.ringPlace before) 4 ≡ afterWords
+unfolding before beforeWords afterWords usesHeld wordsUsed Ring.ringPlace Ring.totalNoted
 reference-words = refl
+
+pub reference-no-word : Ring.totalNoted beforeWords (Ring.ringPlace (counting (limiter 3) 7 4 0)) 4 ≡ beforeWords
+unfolding beforeWords usesHeld Ring.ringPlace Ring.totalNoted
+reference-no-word = refl
 
 -- Words that no slot wrote: of the 10 that are held a word says that 5 entered after slot t − d, another that 4,294,967,291 did, which leaves nothing to send.
 pub leasts : List ℕ

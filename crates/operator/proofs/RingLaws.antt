@@ -25,7 +25,7 @@ use Rattle.operator.specs.Held.{Held}
 use Rattle.operator.specs.Operators.{leastOutput, greatestOutput, heldAfter, numberInRange}
 use Rattle.operator.specs.Single.{wordCount, wordsUsed, usesHeld, usesBeside}
 use Rattle.operator.specs.Parts.{mostOnTheWay}
-use Rattle.operator.specs.Ring.{wrap, totalMore, totalLess, ringHeld, ringRecent, ringPast, pathHolds, pathLeast, pathGreatest, wordUnused, totalsFit, pathUnusable, pathSent, pathChoiceAbove, pathHoldsNext, totalNext, pathStateKept, ringWordNext, pathAdvanced, storable, pathUnready, pathHoldsSent, advancedOf, ringNoted}
+use Rattle.operator.specs.Ring.{wrap, totalMore, totalLess, ringHeld, ringRecent, ringPast, pathHolds, pathLeast, pathGreatest, wordUnused, totalsFit, pathUnusable, pathSent, pathChoiceAbove, pathHoldsNext, totalNext, pathStateKept, ringWordNext, pathAdvanced, storable, pathUnready, pathHoldsSent, ringPlace, advancedOf, totalNoted}
 use Rattle.operator.specs.Steps.{SendsWithin}
 use Rattle.operator.specs.declared.Operator.{Operator}
 use Rattle.operator.specs.declared.Operator.the-variants.{Limiter, Compactor, Expander, Filter, Delayer}
@@ -404,7 +404,7 @@ module _ (x : PathOperator) (words : List ℕ) (input choice : ℕ) where
     advanced-above above = sym (pick-false _ _ _ ready ∙ pick-true _ _ _ (choice-tested ∙ lt-ltb (g - l) choice above))
 
     pub advanced-sends : choice ≤ g - l → (kept h : ℕ) → kept ≡ pathHolds x words .b + input - (l + choice) → ((s : ℕ) → h ≡ heldAfter (x .operator) (pathHolds x words) input s .h)
-        → Advanced.Sends (record { 0 = l + choice }) (storable kept h) (pathAdvanced x input (l + choice) kept h) ≡ advancedOf x words input choice
+        → Advanced.Sends (record { 0 = l + choice }) (storable kept h) (pathAdvanced x input (l + choice) kept h) (ringPlace x) ≡ advancedOf x words input choice
     unfolding advancedOf pathSent pathHoldsSent pathHoldsNext
     advanced-sends below kept h kept-same h-same =
         let s = pathSent x words input choice in
@@ -413,6 +413,15 @@ module _ (x : PathOperator) (words : List ℕ) (input choice : ℕ) where
         kept-same ∙ ap (λ (n : ℕ). pathHolds x words .b + input - n) output ∙ sym (after-b (x .operator) (pathHolds x words) input s)
         in
         rw (output, stays, h-same s) (sym (pick-false _ _ _ ready ∙ pick-false _ _ _ (choice-tested ∙ le-ltb (g - l) choice below)))
+
+-- the place of what is noted, of an operator that is no delayer, and of one
+pub place-apart : (x : PathOperator) → usesHeld (x .operator) ≡ true → wordCount ≡ ringPlace x
+unfolding ringPlace
+place-apart x apart = sym (pick-true _ _ _ apart)
+
+pub place-ring : (x : PathOperator) → usesHeld (x .operator) ≡ false → (d : ℕ) → d ≡ wordsUsed (x .operator) → x .slot .0 % d ≡ ringPlace x
+unfolding ringPlace
+place-ring x ring d used = ap (λ (n : ℕ). x .slot .0 % n) used ∙ sym (pick-false _ _ _ ring)
 
 -- the state then, of an operator that is no delayer, and of one
 module _ (x : PathOperator) (input output kept beside : ℕ) where
@@ -428,27 +437,31 @@ module _ (x : PathOperator) (input output kept beside : ℕ) where
 
 -- What noting writes.
 
+-- an operator's total in its word
+abbrev pub ringNoted : PathOperator → List ℕ → List ℕ
+ringNoted x words = totalNoted words (ringPlace x) (x .entered)
+
 module _ (x : PathOperator) (words : List ℕ) where
   abbrev place : ℕ
   place = x .slot .0 % wordsUsed (x .operator)
 
-  pub noted-apart : usesHeld (x .operator) ≡ true → words ≡ ringNoted x words
-  unfolding ringNoted
-  noted-apart apart = sym (pick-true _ _ _ apart)
+  pub length-noted : (at total : ℕ) → length (totalNoted words at total) ≡ length words
+  unfolding totalNoted
+  length-noted at total = by-test (ltb at (length words))
+    where
+      by-test : (t : Bool) → length (pick t (set words at total) words) ≡ length words
+      by-test true = length-set words at total
+      by-test false = refl
 
-  module _ (ring : usesHeld (x .operator) ≡ false) where
-    pub noted-unsized : (length words ≡ wordCount → ⊥) → words ≡ ringNoted x words
-    unfolding ringNoted
-    noted-unsized other = sym (pick-false _ _ _ ring ∙ pick-false _ _ _ (ap (λ (t : Bool). both t (numberInRange (x .operator))) (ne-eqb (length words) wordCount other)))
+  noted-apart : length words ≡ wordCount → usesHeld (x .operator) ≡ true → (total : ℕ) → totalNoted words (ringPlace x) total ≡ words
+  unfolding totalNoted ringPlace
+  noted-apart sized apart total = ap (λ (at : ℕ). pick (ltb at (length words)) (set words at total) words) (pick-true _ _ _ apart) ∙ pick-false _ _ _ (le-ltb wordCount (length words) (omega arith))
 
-    module _ (sized : length words ≡ wordCount) where
-      pub noted-outside : numberInRange (x .operator) ≡ false → words ≡ ringNoted x words
-      unfolding ringNoted
-      noted-outside outside = sym (pick-false _ _ _ ring ∙ pick-false _ _ _ (ap₂ both (eq-eqb (length words) wordCount sized) outside))
-
-      pub noted-written : numberInRange (x .operator) ≡ true → set words place (x .entered) ≡ ringNoted x words
-      unfolding ringNoted
-      noted-written inside = sym (pick-false _ _ _ ring ∙ pick-true _ _ _ (ap₂ both (eq-eqb (length words) wordCount sized) inside))
+  noted-ring : length words ≡ wordCount → numberInRange (x .operator) ≡ true → usesHeld (x .operator) ≡ false → (total : ℕ) → totalNoted words (ringPlace x) total ≡ set words place total
+  unfolding totalNoted ringPlace
+  noted-ring sized inside ring total =
+      let within : place < length words = omega (arith, mod-lt (x .slot .0) (delayer-used (x .operator) inside ring), used-within (x .operator) inside) in
+      ap (λ (at : ℕ). pick (ltb at (length words)) (set words at total) words) (pick-false _ _ _ ring) ∙ pick-true _ _ _ (lt-ltb place (length words) within)
 
 -- so an operator that has advanced notes the total with the input
 module _ (x : PathOperator) (words : List ℕ) (sized : length words ≡ wordCount) (inside : numberInRange (x .operator) ≡ true) (input output kept beside : ℕ) where
@@ -459,22 +472,19 @@ module _ (x : PathOperator) (words : List ℕ) (sized : length words ≡ wordCou
   unfolding pathAdvanced pathStateKept totalNext
   advanced-total ring = pick-false _ _ _ ring
 
-  noted-ring : usesHeld (x .operator) ≡ false → ringNoted advanced words ≡ set words (place x words) (totalMore (x .entered) input)
+  total-set : usesHeld (x .operator) ≡ false → ringNoted advanced words ≡ set words (place x words) (totalMore (x .entered) input)
   unfolding pathAdvanced
-  noted-ring ring = sym (noted-written advanced words ring sized inside) ∙ ap (set words (place x words)) (advanced-total ring)
-
-  noted-none : usesHeld (x .operator) ≡ true → ringNoted advanced words ≡ words
-  unfolding pathAdvanced
-  noted-none apart = sym (noted-apart advanced words apart)
+  total-set ring = noted-ring advanced words sized inside ring (advanced .entered) ∙ ap (set words (place x words)) (advanced-total ring)
 
   -- of an operator that is no delayer, and of a delayer
   word-noted : (uses : Bool) → usesHeld (x .operator) ≡ uses → (j : ℕ)
       → wordAt (ringNoted advanced words) j ≡ pick (both (not uses) (eqb j (place x words))) (totalMore (x .entered) input) (wordAt words j)
-  word-noted true apart j = ap (λ (list : List ℕ). wordAt list j) (noted-none apart)
+  unfolding pathAdvanced
+  word-noted true apart j = ap (λ (list : List ℕ). wordAt list j) (noted-apart advanced words sized apart (advanced .entered))
   word-noted false ring j =
       let at = place x words in
       let total = totalMore (x .entered) input in
-      ap (λ (list : List ℕ). wordAt list j) (noted-ring ring)
+      ap (λ (list : List ℕ). wordAt list j) (total-set ring)
       ∙ elim (ℕ-discrete j at) [
         | yes here ↦
             let within : at < length words = omega (arith, mod-lt (x .slot .0) (delayer-used (x .operator) inside ring), used-within (x .operator) inside) in
@@ -482,12 +492,8 @@ module _ (x : PathOperator) (words : List ℕ) (sized : length words ≡ wordCou
         | no other ↦ getD-set-other words at j total 0 other ∙ sym (pick-false _ _ _ (ne-eqb j at other))
       ]
 
-  length-noted : (uses : Bool) → usesHeld (x .operator) ≡ uses → length (ringNoted advanced words) ≡ length words
-  length-noted true apart = ap length (noted-none apart)
-  length-noted false ring = ap length (noted-ring ring) ∙ length-set words (place x words) (totalMore (x .entered) input)
-
   pub noted-next : ringNoted advanced words ≡ listOf (ringWordNext x words input) wordCount
   unfolding ringWordNext
   noted-next =
-      listOf-ext 0 _ wordCount (ringNoted advanced words) (length-noted (usesHeld (x .operator)) refl ∙ sized)
+      listOf-ext 0 _ wordCount (ringNoted advanced words) (length-noted advanced words (ringPlace advanced) (advanced .entered) ∙ sized)
       (λ j less. word-noted (usesHeld (x .operator)) refl j)

@@ -141,7 +141,11 @@ pathUnready x words input = anyOf (pathUnusable x words ∷ not (numberInRange (
 unfoldable pub pathHoldsSent : PathOperator → List ℕ → ℕ → ℕ → Held
 pathHoldsSent x words input choice = pathHoldsNext x words input (pathSent x words input choice)
 
--- Advance: what is sent, whether what stays is within the limit, and the state then
+-- the word that a delayer's total is noted in; another operator has none
+unfoldable pub ringPlace : PathOperator → ℕ
+ringPlace x = pick (usesHeld (x .operator)) wordCount (x .slot .0 % wordsUsed (x .operator))
+
+-- Advance: what is sent, whether what stays is within the limit, the state then, and the word that its total is noted in
 unfoldable pub advancedOf : PathOperator → List ℕ → ℕ → ℕ → Advanced
 advancedOf x words input choice =
     pick (pathUnready x words input) Advanced.Unusable
@@ -149,13 +153,12 @@ advancedOf x words input choice =
     (Advanced.Sends
     (record { 0 = pathSent x words input choice })
     (storable (pathHoldsSent x words input choice .b) (pathHoldsSent x words input choice .h))
-    (pathAdvanced x input (pathSent x words input choice) (pathHoldsSent x words input choice .b) (pathHoldsSent x words input choice .h))))
+    (pathAdvanced x input (pathSent x words input choice) (pathHoldsSent x words input choice .b) (pathHoldsSent x words input choice .h))
+    (ringPlace x)))
 
--- Note: a delayer's word t mod d becomes its total; where it has not 64 words or its number is out of its range, and of another operator, nothing is written
-unfoldable pub ringNoted : PathOperator → List ℕ → List ℕ
-ringNoted x words =
-    pick (usesHeld (x .operator)) words
-    (pick (both (eqb (length words) wordCount) (numberInRange (x .operator))) (set words (x .slot .0 % wordsUsed (x .operator)) (x .entered)) words)
+-- Note: a word becomes a total; where there is no such word, nothing is written
+unfoldable pub totalNoted : List ℕ → ℕ → ℕ → List ℕ
+totalNoted words at total = pick (ltb at (length words)) (set words at total) words
 
 -- The state and the words slot after slot.
 

@@ -23,9 +23,10 @@ ghost use Prim.Native.Nat.{ℕ, _≤_, _<_};
 ghost use lib.ListN.{length};
 ghost use Rattle.quantity.specs.Choice.{pick};
 ghost use Rattle.quantity.specs.Limits.{largestAmount, lastSlot};
+ghost use Rattle.words.specs.Stored.{wordAt};
 ghost use Rattle.operator.specs.Single.{wordCount, wordsUsed, usesHeld, usesBeside};
 ghost use Rattle.operator.specs.Parts.{mostOnTheWay};
-ghost use Rattle.operator.specs.Ring.{totalMore, totalLess, ringHeld, ringRecent, pathUnusable, storable, advancedOf, ringNoted};
+ghost use Rattle.operator.specs.Ring.{totalMore, totalLess, ringHeld, pathUnusable, storable, advancedOf, totalNoted};
 ghost use Rattle.operator.specs.Steps.{SendsWithin};
 
 // The words of an operator.
@@ -45,12 +46,13 @@ pub struct PathOperator {
     pub left: u32,
 }
 
-// What advancing answers: the output, whether what stays is within the limit, and the operator once it has sent, its slot not counted yet.
+// What advancing answers: the output, whether what stays is within the limit, the operator once it has sent, its slot not counted yet, and the word that its total is noted in.
 pub enum Advanced {
     Sends {
         output: Units,
         fits: bool,
         next: PathOperator,
+        at: usize,
     },
     Unusable,
     ChoiceAbove,
@@ -204,7 +206,8 @@ fn advance_delayer(
     }
     let held = total_less(state.entered, state.left) as u64;
     let there = held + input;
-    let low = less(held, recent(state, words, used));
+    let at = state.slot.0 as usize % used;
+    let low = less(held, recent(state, words, at));
     if there - low < choice {
         return Advanced::ChoiceAbove;
     }
@@ -222,6 +225,7 @@ fn advance_delayer(
             entered: total_more(state.entered, input),
             left: total_more(state.left, output),
         },
+        at,
     }
 }
 
@@ -248,6 +252,7 @@ fn sends(state: PathOperator, low: u64, high: u64, there: u64, beside: u64, choi
             entered: 0,
             left: 0,
         },
+        at: WORDS,
     }
 }
 
@@ -258,22 +263,13 @@ fn within(kept: u64, beside: u64) -> bool
     kept <= Units::LARGEST && beside <= Units::LARGEST
 }
 
-// Note: a delayer's word t mod d becomes the total of what entered. No word of another operator changes, nor one where a test fails.
-pub fn note(state: PathOperator, words: &mut [u32])
-    ensures { λ _. ⌜ now (words .exit) ≡ ringNoted state (now (words .entry)) ⌝ }
+// Note: the word that advancing answered becomes the total of what entered. An operator that is no delayer has none, and no word is written.
+pub fn note(words: &mut [u32], at: usize, total: u32)
+    ensures { λ _. ⌜ now (words .exit) ≡ totalNoted (now (words .entry)) at total ⌝ }
 {
-    let operator = state.operator;
-    if uses_held(operator) {
-        return;
+    if at < words.len() {
+        words[at] = total;
     }
-    if words.len() != WORDS {
-        return;
-    }
-    if !operator.number_in_range() {
-        return;
-    }
-    let at = state.slot.0 as usize % words_used(operator);
-    words[at] = state.entered;
 }
 
 // What an operator of a path holds, for people who watch it.
@@ -341,11 +337,10 @@ fn delayer_fits(state: PathOperator, used: usize, words: &[u32]) -> bool
 }
 
 // What entered after slot t − d, as the one word of the ring that slot t − d left tells.
-fn recent(state: PathOperator, words: &[u32], delay: usize) -> u64
-    requires { ⌜ (0 < delay) × (delay ≤ length (now words)) ⌝ }
-    ensures { λ r. ⌜ r ≡ ringRecent delay state (now (words .entry)) ⌝ }
+fn recent(state: PathOperator, words: &[u32], at: usize) -> u64
+    requires { ⌜ at < length (now words) ⌝ }
+    ensures { λ r. ⌜ r ≡ totalLess (state .entered) (wordAt (now (words .entry)) at) ⌝ }
 {
-    let at = state.slot.0 as usize % delay;
     total_less(state.entered, words[at]) as u64
 }
 

@@ -25,7 +25,7 @@ use Rattle.operator.specs.Held.{Held}
 use Rattle.operator.specs.Operators.{numberInRange}
 use Rattle.operator.specs.Single.{wordCount}
 use Rattle.operator.specs.Parts.{mostOnTheWay}
-use Rattle.operator.specs.Ring.{pathHolds, pathUnusable, pathChoiceAbove, pathSent, pathHoldsNext, storable, pathAdvanced, pathUnready, pathHoldsSent, advancedOf}
+use Rattle.operator.specs.Ring.{pathHolds, pathUnusable, pathChoiceAbove, pathSent, pathHoldsNext, storable, pathAdvanced, pathUnready, pathHoldsSent, ringPlace, advancedOf}
 use Rattle.operator.specs.declared.ring.PathOperator.{PathOperator}
 use Rattle.operator.specs.declared.ring.Advanced.{Advanced}
 use Rattle.operator.proofs.RingLaws.{PathUsable, path-stored-usable, is-ready}
@@ -119,12 +119,13 @@ storable-same run words call k =
 -- Before operator k.
 
 -- no choice was above so far: what arrives, what is stored and the stages are those of the definitions
-pub record Passing (run : Run) (words : List ℕ) (call : Call) (k : ℕ) (p : Progress) (stages : List Stage) : Type 0 where
+pub record Passing (run : Run) (words : List ℕ) (call : Call) (k : ℕ) (p : Progress) (stages : List Stage) (places : List ℕ) : Type 0 where
   pub none-above : p .above ≡ mostOperators
   pub arrives : p .arriving .0 ≡ inputInto run words call k
   pub passed : NoneStands (choiceCases run words call k)
   pub stored : p .fits ≡ every (λ j. not (leavesTooMuchAt run words call j)) k
   pub advanced : (i : ℕ) → i < k → getD stages i noStage ≡ stageNext run words call i
+  pub placed : (i : ℕ) → i < k → getD places i 0 ≡ ringPlace (operatorIn run i)
 
 -- or one was, and the first is told
 pub record Standing (run : Run) (words : List ℕ) (call : Call) (k : ℕ) (p : Progress) : Type 0 where
@@ -133,20 +134,22 @@ pub record Standing (run : Run) (words : List ℕ) (call : Call) (k : ℕ) (p : 
   pub stands : choiceAboveAt run words call (p .above) ≡ true
 
 -- of so many operators; where one cannot be used, nothing else is told
-pub record Moving (run : Run) (words : List ℕ) (call : Call) (count k : ℕ) (p : Progress) (stages : List Stage) : Type 0 where
+pub record Moving (run : Run) (words : List ℕ) (call : Call) (count k : ℕ) (p : Progress) (stages : List Stage) (places : List ℕ) : Type 0 where
   pub long : length stages ≡ mostOperators
+  pub wide : length places ≡ mostOperators
   pub later : (i : ℕ) → k ≤ i → getD stages i noStage ≡ stageAt run i
   pub tells : p .usable ≡ both (ltb 0 count) (every (stageFits run words) k)
   pub small : p .usable ≡ true → p .arriving .0 ≤ largestAmount * (k + 1)
-  pub goes : p .usable ≡ true → Passing run words call k p stages ⊎ Standing run words call k p
+  pub goes : p .usable ≡ true → Passing run words call k p stages places ⊎ Standing run words call k p
 
 -- before operator 0
 pub moving-start : (run : Run) (words choices : List ℕ) (input : Units) {begun : Begun} → begun ≡ begunOf run words (callOf input choices) → length (run .stages) ≡ mostOperators
-    → {p : Progress} → p ≡ firstProgress (begun .count) input → Moving run words (callOf input choices) (begun .count) 0 p (run .stages)
+    → {p : Progress} → p ≡ firstProgress (begun .count) input → (places : List ℕ) → length places ≡ mostOperators → Moving run words (callOf input choices) (begun .count) 0 p (run .stages) places
 unfolding firstProgress stageAt inputInto choiceCases every
-moving-start run words choices input {begun} same full {p} first =
+moving-start run words choices input {begun} same full {p} first places sixteen =
     record {
       long = full;
+      wide = sixteen;
       later = λ i behind. refl;
       tells = ap (λ (q : Progress). q .usable) first ∙ sym (both-last (ltb 0 (begun .count)));
       small = λ usable. let some = begins run words input choices same (ltb-true 0 (begun .count) (sym (ap (λ (q : Progress). q .usable) first) ∙ usable)) in omega (arith, input-le (some .ready), ap (λ (q : Progress). q .arriving .0) first);
@@ -156,6 +159,7 @@ moving-start run words choices input {begun} same full {p} first =
         passed = tt;
         stored = ap (λ (q : Progress). q .fits) first;
         advanced = λ i less. absurd (not-suc-le-zero less);
+        placed = λ i less. absurd (not-suc-le-zero less);
       });
     }
   where
@@ -171,7 +175,7 @@ stage-advanced run words call k = refl
 
 -- one operator on
 module _ {run : Run} {words choices : List ℕ} {input : Units} (ready : Ready run words input choices)
-    {count k : ℕ} {p : Progress} {stages : List Stage} (moving : Moving run words (callOf input choices) count k p stages) (here : k < run .count) where
+    {count k : ℕ} {p : Progress} {stages : List Stage} {places : List ℕ} (moving : Moving run words (callOf input choices) count k p stages places) (here : k < run .count) where
   abbrev asked : Call
   asked = callOf input choices
 
@@ -231,9 +235,9 @@ module _ {run : Run} {words choices : List ℕ} {input : Units} (ready : Ready r
       }
 
   -- It sends.
-  module _ {output : Units} {fits : Bool} {next : PathOperator} (told : Advanced.Sends output fits next ≡ advancedOf (operatorOf (getD stages k noStage) (run .slot)) ws (p .arriving .0) (getD choices k 0))
+  module _ {output : Units} {fits : Bool} {next : PathOperator} {at : ℕ} (told : Advanced.Sends output fits next at ≡ advancedOf (operatorOf (getD stages k noStage) (run .slot)) ws (p .arriving .0) (getD choices k 0))
       {stage : Stage} (kept : stage ≡ stageKept next) {q : Progress} (made : q ≡ onceSent p output fits) where
-    sending : Sending x ws (p .arriving .0) (getD choices k 0) output fits next
+    sending : Sending x ws (p .arriving .0) (getD choices k 0) output fits next at
     sending = sends-told x ws (p .arriving .0) (getD choices k 0) (answer-same told)
 
     arriving-next : q .arriving .0 ≡ pathSent x ws (p .arriving .0) (getD choices k 0)
@@ -249,7 +253,7 @@ module _ {run : Run} {words choices : List ℕ} {input : Units} (ready : Ready r
     later-next : (i : ℕ) → k + 1 ≤ i → getD (set stages k stage) i noStage ≡ stageAt run i
     later-next i behind = getD-set-other stages k i stage noStage (omega arith) ∙ moving .later i (omega arith)
 
-    module _ (passing : Passing run words asked k p stages) where
+    module _ (passing : Passing run words asked k p stages places) where
       above-same : pathChoiceAbove x ws (p .arriving .0) (getD choices k 0) ≡ choiceAboveAt run words asked k
       unfolding choiceAboveAt
       above-same = ap (λ (r : ℕ). pathChoiceAbove x ws r (getD choices k 0)) (passing .arrives)
@@ -284,7 +288,14 @@ module _ {run : Run} {words choices : List ℕ} {input : Units} (ready : Ready r
           (λ under. getD-set-other stages k i stage noStage (omega arith) ∙ passing .advanced i under)
           (eq-or-lt-of-le (omega arith))
 
-      passing-next : Passing run words asked (k + 1) q (set stages k stage)
+      placed-next : (i : ℕ) → i < k + 1 → getD (set places k at) i 0 ≡ ringPlace (operatorIn run i)
+      placed-next i less =
+          ⊎-elim
+          (λ same. rw same (getD-set-same places k at 0 (rw (moving .wide) below) ∙ sending .placed))
+          (λ under. getD-set-other places k i at 0 (omega arith) ∙ passing .placed i under)
+          (eq-or-lt-of-le (omega arith))
+
+      passing-next : Passing run words asked (k + 1) q (set stages k stage) (set places k at)
       unfolding onceSent choiceCases
       passing-next =
           record {
@@ -293,6 +304,7 @@ module _ {run : Run} {words choices : List ℕ} {input : Units} (ready : Ready r
             passed = rw add-one (none-of-both (choiceCases run words asked k) _ (passing .passed) (sym above-same ∙ sending .below, tt));
             stored = stored-next;
             advanced = advanced-next;
+            placed = placed-next;
           }
 
     usable-same : q .usable ≡ p .usable
@@ -303,10 +315,11 @@ module _ {run : Run} {words choices : List ℕ} {input : Units} (ready : Ready r
     unfolding onceSent
     above-kept = ap (λ (q : Progress). q .above) made
 
-    pub moving-sent : Moving run words (callOf input choices) count (k + 1) q (set stages k stage)
+    pub moving-sent : Moving run words (callOf input choices) count (k + 1) q (set stages k stage) (set places k at)
     moving-sent =
         record {
           long = length-set stages k stage ∙ moving .long;
+          wide = length-set places k at ∙ moving .wide;
           later = later-next;
           tells = usable-same ∙ tells-next fitting;
           small = λ usable.
@@ -340,10 +353,11 @@ module _ {run : Run} {words choices : List ℕ} {input : Units} (ready : Ready r
         both-less true false c e = refl
         both-less false b c e = refl
 
-    pub moving-unusable : Moving run words (callOf input choices) count (k + 1) q stages
+    pub moving-unusable : Moving run words (callOf input choices) count (k + 1) q stages places
     moving-unusable =
         record {
           long = moving .long;
+          wide = moving .wide;
           later = λ i behind. moving .later i (omega arith);
           tells = unusable ∙ none-left (p .usable) refl;
           small = λ usable. absurd (never (sym usable ∙ unusable));
@@ -367,7 +381,7 @@ module _ {run : Run} {words choices : List ℕ} {input : Units} (ready : Ready r
     unfolding onceAbove
     arriving-kept = ap (λ (q : Progress). q .arriving .0) made
 
-    stands-here : Passing run words asked k p stages → Standing run words asked (k + 1) q
+    stands-here : Passing run words asked k p stages places → Standing run words asked (k + 1) q
     unfolding choiceAboveAt
     stands-here passing =
         let first : q .above ≡ k = omega (arith, above-now, passing .none-above, below) in
@@ -377,10 +391,11 @@ module _ {run : Run} {words choices : List ℕ} {input : Units} (ready : Ready r
           stands = rw first (sym (ap (λ (r : ℕ). pathChoiceAbove x ws r (getD choices k 0)) (passing .arrives)) ∙ tested .1);
         }
 
-    pub moving-above : Moving run words (callOf input choices) count (k + 1) q stages
+    pub moving-above : Moving run words (callOf input choices) count (k + 1) q stages places
     moving-above =
         record {
           long = moving .long;
+          wide = moving .wide;
           later = λ i behind. moving .later i (omega arith);
           tells = usable-kept ∙ tells-next (ready-fits (p .arriving .0) (tested .0));
           small = λ usable. let was = moving .small (sym usable-kept ∙ usable) in omega (arith, arriving-kept);
@@ -414,7 +429,7 @@ module _ (run : Run) (words : List ℕ) (call : Call) where
   standing-decided {p} standing = first-of-more (ChoiceAboveGreatest (p .above)) (choiceCases run words call (run .count)) last (first-above (p .above) (standing .passed) (standing .stands) (run .count) (standing .before))
 
   -- or 1 again, or nothing
-  module _ {p : Progress} {stages : List Stage} (passing : Passing run words call (run .count) p stages) where
+  module _ {p : Progress} {stages : List Stage} {places : List ℕ} (passing : Passing run words call (run .count) p stages places) where
     pub unusable-decided : p .fits ≡ false → FirstIs (decisionCases run words call) Unusable
     unfolding slotLeavesTooMuch
     unusable-decided misfits = first-behind Unusable (choiceCases run words call (run .count)) last (passing .passed) (inl (ap not (sym (passing .stored) ∙ misfits), refl))

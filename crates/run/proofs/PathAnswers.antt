@@ -14,7 +14,7 @@ use Rattle.operator.specs.Held.{Held}
 use Rattle.operator.specs.Operators.{leastOutput, greatestOutput}
 use Rattle.operator.specs.Whole.{Whole}
 use Rattle.operator.specs.Single.{wordsUsed, usesHeld}
-use Rattle.operator.specs.Ring.{ringHeld, ringRecent, pathHolds, pathLeast, pathGreatest, totalsFit, pathSent, pathChoiceAbove, storable, pathAdvanced, pathUnready, pathHoldsSent, advancedOf}
+use Rattle.operator.specs.Ring.{ringHeld, ringRecent, pathHolds, pathLeast, pathGreatest, totalsFit, pathSent, pathChoiceAbove, storable, pathAdvanced, pathUnready, pathHoldsSent, ringPlace, advancedOf}
 use Rattle.operator.specs.declared.Operator.{Operator}
 use Rattle.operator.specs.declared.Operator.the-variants.{Limiter, Compactor, Expander, Filter, Delayer}
 use Rattle.operator.specs.declared.ring.PathOperator.{PathOperator}
@@ -88,47 +88,49 @@ module _ (x : PathOperator) (words : List ℕ) (stored : PathUsable x words) whe
 
 module _ (x : PathOperator) (words : List ℕ) (input choice : ℕ) where
   -- an operator that sends
-  pub record Sending (output : Units) (fits : Bool) (next : PathOperator) : Type 0 where
+  pub record Sending (output : Units) (fits : Bool) (next : PathOperator) (at : ℕ) : Type 0 where
     pub ready : pathUnready x words input ≡ false
     pub below : pathChoiceAbove x words input choice ≡ false
     pub sent : output ≡ record { 0 = pathSent x words input choice }
     pub stored : fits ≡ storable (pathHoldsSent x words input choice .b) (pathHoldsSent x words input choice .h)
     pub advanced : next ≡ pathAdvanced x input (pathSent x words input choice) (pathHoldsSent x words input choice .b) (pathHoldsSent x words input choice .h)
+    pub placed : at ≡ ringPlace x
 
-  pub sends-told : {output : Units} {fits : Bool} {next : PathOperator} → Advanced.Sends output fits next ≡ advancedOf x words input choice → Sending output fits next
+  pub sends-told : {output : Units} {fits : Bool} {next : PathOperator} {at : ℕ} → Advanced.Sends output fits next at ≡ advancedOf x words input choice → Sending output fits next at
   unfolding advancedOf
-  sends-told {output} {fits} {next} told = by-tests (pathUnready x words input) (pathChoiceAbove x words input choice) refl refl told
+  sends-told {output} {fits} {next} {at} told = by-tests (pathUnready x words input) (pathChoiceAbove x words input choice) refl refl told
     where
       by-tests : (t u : Bool) → pathUnready x words input ≡ t → pathChoiceAbove x words input choice ≡ u
-          → Advanced.Sends output fits next
+          → Advanced.Sends output fits next at
           ≡ pick t Advanced.Unusable
           (pick u Advanced.ChoiceAbove
           (Advanced.Sends
           (record { 0 = pathSent x words input choice })
           (storable (pathHoldsSent x words input choice .b) (pathHoldsSent x words input choice .h))
-          (pathAdvanced x input (pathSent x words input choice) (pathHoldsSent x words input choice .b) (pathHoldsSent x words input choice .h))))
-          → Sending output fits next
+          (pathAdvanced x input (pathSent x words input choice) (pathHoldsSent x words input choice .b) (pathHoldsSent x words input choice .h))
+          (ringPlace x)))
+          → Sending output fits next at
       by-tests true u e f same = absurd (let z : _≡_ {A = ℕ} 0 1 = cc in omega arith)
       by-tests false true e f same = absurd (let z : _≡_ {A = ℕ} 0 1 = cc in omega arith)
-      by-tests false false e f same = record { ready = e; below = f; sent = cc; stored = cc; advanced = cc }
+      by-tests false false e f same = record { ready = e; below = f; sent = cc; stored = cc; advanced = cc; placed = cc }
 
   pub above-told : Advanced.ChoiceAbove ≡ advancedOf x words input choice → (pathUnready x words input ≡ false) × (pathChoiceAbove x words input choice ≡ true)
   unfolding advancedOf
-  above-told told = by-tests (pathUnready x words input) (pathChoiceAbove x words input choice) refl refl _ _ _ told
+  above-told told = by-tests (pathUnready x words input) (pathChoiceAbove x words input choice) refl refl _ _ _ _ told
     where
       by-tests : (t u : Bool) → pathUnready x words input ≡ t → pathChoiceAbove x words input choice ≡ u
-          → (output : Units) (fits : Bool) (next : PathOperator) → Advanced.ChoiceAbove ≡ pick t Advanced.Unusable (pick u Advanced.ChoiceAbove (Advanced.Sends output fits next))
+          → (output : Units) (fits : Bool) (next : PathOperator) (at : ℕ) → Advanced.ChoiceAbove ≡ pick t Advanced.Unusable (pick u Advanced.ChoiceAbove (Advanced.Sends output fits next at))
           → (pathUnready x words input ≡ false) × (pathChoiceAbove x words input choice ≡ true)
-      by-tests true u e f output fits next same = absurd (let z : _≡_ {A = ℕ} 0 1 = cc in omega arith)
-      by-tests false true e f output fits next same = (e, f)
-      by-tests false false e f output fits next same = absurd (let z : _≡_ {A = ℕ} 0 1 = cc in omega arith)
+      by-tests true u e f output fits next at same = absurd (let z : _≡_ {A = ℕ} 0 1 = cc in omega arith)
+      by-tests false true e f output fits next at same = (e, f)
+      by-tests false false e f output fits next at same = absurd (let z : _≡_ {A = ℕ} 0 1 = cc in omega arith)
 
   pub unusable-told : Advanced.Unusable ≡ advancedOf x words input choice → pathUnready x words input ≡ true
   unfolding advancedOf
-  unusable-told told = by-tests (pathUnready x words input) (pathChoiceAbove x words input choice) refl _ _ _ told
+  unusable-told told = by-tests (pathUnready x words input) (pathChoiceAbove x words input choice) refl _ _ _ _ told
     where
       by-tests : (t u : Bool) → pathUnready x words input ≡ t
-          → (output : Units) (fits : Bool) (next : PathOperator) → Advanced.Unusable ≡ pick t Advanced.Unusable (pick u Advanced.ChoiceAbove (Advanced.Sends output fits next)) → pathUnready x words input ≡ true
-      by-tests true u e output fits next same = e
-      by-tests false true e output fits next same = absurd (let z : _≡_ {A = ℕ} 0 1 = cc in omega arith)
-      by-tests false false e output fits next same = absurd (let z : _≡_ {A = ℕ} 0 1 = cc in omega arith)
+          → (output : Units) (fits : Bool) (next : PathOperator) (at : ℕ) → Advanced.Unusable ≡ pick t Advanced.Unusable (pick u Advanced.ChoiceAbove (Advanced.Sends output fits next at)) → pathUnready x words input ≡ true
+      by-tests true u e output fits next at same = e
+      by-tests false true e output fits next at same = absurd (let z : _≡_ {A = ℕ} 0 1 = cc in omega arith)
+      by-tests false false e output fits next at same = absurd (let z : _≡_ {A = ℕ} 0 1 = cc in omega arith)

@@ -18,6 +18,7 @@ use Rattle.quantity.specs.declared.refusal.Refusal.the-variants.{Unusable, Inpu
 use Rattle.quantity.proofs.Laws.{pick-true, pick-false, either-first}
 use Rattle.quantity.proofs.Sums.{both-true, every-same, listOf-ext}
 use Rattle.quantity.proofs.Refusals.{NoneStands, FirstIs}
+use Rattle.operator.specs.Ring.{ringPlace, totalNoted}
 use Rattle.meter.proofs.PartsLaws.{within-breaks}
 use Rattle.sheet.specs.declared.read.Verdict.{Verdict}
 use Rattle.run.specs.declared.Stage.{Stage}
@@ -27,9 +28,9 @@ use Rattle.run.specs.declared.slot.Slotted.{Slotted}
 use Rattle.run.specs.declared.stages.Progress.{Progress}
 use Rattle.run.specs.declared.test.Begun.{Begun}
 use Rattle.run.specs.Calls.{Call, choiceFor, choicesMiscounted, amountTooLarge, callOf}
-use Rattle.run.specs.Runs.{runWordCount, meterWords, noStage, stageAt, meterIn, stageFits, runUnusable}
+use Rattle.run.specs.Runs.{runWordCount, meterWords, noStage, stageAt, meterIn, operatorOf, operatorIn, stageFits, runUnusable}
 use Rattle.run.specs.Slots.{slotBreaks, slotCases, slotOutput, stageNext, refusedSlot, takenSlot, slottedOf, wordsSlotted}
-use Rattle.run.specs.Steps.{stageEmpty, emptyBehind, belowIn, notBegun, meterBegunOf, begunOf, behindClear, judgedOf, outcomeOf, runAdvanced, runWritten, wordWritten, decisionCases}
+use Rattle.run.specs.Steps.{stageEmpty, emptyBehind, belowIn, notBegun, meterBegunOf, begunOf, behindClear, judgedOf, outcomeOf, runAdvanced, ringNoted, runWritten, wordWritten, decisionCases}
 use Rattle.run.proofs.UsableRun.{MeterFits}
 use Rattle.run.proofs.TestLaws.{stages-told, usable-told}
 use Rattle.run.proofs.MovingLaws.{Ready, Begins, begun-or-not, Passing, Moving, standing-decided, unusable-decided, none-decided}
@@ -100,16 +101,17 @@ pub record Refusing (run : Run) (words : List ℕ) (call : Call) (verdict : Verd
   pub first : FirstIs (slotCases run words call) why
 
 -- or none stands, and all operators have sent
-pub record Taking (run : Run) (words : List ℕ) (call : Call) (verdict : Verdict) (count : ℕ) (p : Progress) (stages : List Stage) : Type 0 where
+pub record Taking (run : Run) (words : List ℕ) (call : Call) (verdict : Verdict) (count : ℕ) (p : Progress) (stages : List Stage) (places : List ℕ) : Type 0 where
   pub operators : count ≡ run .count
   pub fits : MeterFits run words
   pub accepted : verdict ≡ Verdict.Accepted
   pub none : NoneStands (slotCases run words call)
   pub sent : p .arriving .0 ≡ slotOutput run words call
   pub stages-next : stages ≡ runAdvanced run words call .stages
+  pub noted : (k : ℕ) → k < run .count → (ws : List ℕ) → totalNoted ws (getD places k 0) (getD stages k noStage .entered) ≡ ringNoted (operatorOf (getD stages k noStage) (run .slot)) ws
 
 module _ (run : Run) (words : List ℕ) (input : Units) (choices : List ℕ) {begun : Begun} (same : begun ≡ begunOf run words (callOf input choices))
-    {p : Progress} {stages : List Stage} (moved : Moving run words (callOf input choices) (begun .count) (begun .count) p stages) where
+    {p : Progress} {stages : List Stage} {places : List ℕ} (moved : Moving run words (callOf input choices) (begun .count) (begun .count) p stages places) where
   abbrev call : Call
   call = callOf input choices
 
@@ -118,7 +120,7 @@ module _ (run : Run) (words : List ℕ) (input : Units) (choices : List ℕ) {be
   Told usable = usable ≡ both (both (p .usable) (every (emptyBehind (begun .count) stages) mostOperators)) (behindClear (begun .count) words)
 
   abbrev Judged : Verdict → Type 0
-  Judged verdict = Refusing run words call verdict ⊎ Taking run words call verdict (begun .count) p stages
+  Judged verdict = Refusing run words call verdict ⊎ Taking run words call verdict (begun .count) p stages places
 
   -- nothing is begun
   none-begun : (begun .count ≡ 0) × FirstIs (slotCases run words call) Unusable → {usable : Bool} → Told usable → (below : ℕ) {verdict : Verdict} → verdict ≡ judgedOf usable below (input .0) p → Judged verdict
@@ -135,7 +137,7 @@ module _ (run : Run) (words : List ℕ) (input : Units) (choices : List ℕ) {be
     fits : MeterFits run words
     fits = ready .fits
 
-    moving : Moving run words call (run .count) (run .count) p stages
+    moving : Moving run words call (run .count) (run .count) p stages places
     moving = rw (begins .count) at moved
 
     -- the stages behind are the run's
@@ -164,6 +166,11 @@ module _ (run : Run) (words : List ℕ) (input : Units) (choices : List ℕ) {be
     unfolding belowIn slotBreaks meterIn
     breaks-told = rw (begins .below) (within-breaks (meterIn run) (meterWords words) (input .0) (fits .declared))
 
+    -- an operator that has advanced has its place
+    place-next : (k : ℕ) → ringPlace (operatorIn run k) ≡ ringPlace (operatorOf (stageNext run words call k) (run .slot))
+    unfolding ringPlace operatorIn stageNext
+    place-next k = refl
+
     stood : (why : Refusal) → (ready : Ready run words input choices) → runUnusable run words ≡ false → slotBreaks run words call ≡ false → FirstIs (decisionCases run words call) why → FirstIs (slotCases run words call) why
     stood why ready usable keeps first = inr (ready .miscounted, inr (ready .large, inr (usable, inr (keeps, first))))
 
@@ -184,7 +191,7 @@ module _ (run : Run) (words : List ℕ) (input : Units) (choices : List ℕ) {be
         }))
         (moving .goes all)
       where
-        by-fits : Passing run words call (run .count) p stages → (t : Bool) → p .fits ≡ t → verdict ≡ pick (not (p .fits)) (Verdict.Refused Unusable) Verdict.Accepted → Judged verdict
+        by-fits : Passing run words call (run .count) p stages places → (t : Bool) → p .fits ≡ t → verdict ≡ pick (not (p .fits)) (Verdict.Refused Unusable) Verdict.Accepted → Judged verdict
         by-fits passing false misfits made =
             inl (record { why = Unusable; refused = made ∙ pick-true _ _ _ (ap not misfits); first = stood _ ready usable keeps (unusable-decided run words call passing misfits) })
         by-fits passing true fit made =
@@ -195,9 +202,15 @@ module _ (run : Run) (words : List ℕ) (input : Units) (choices : List ℕ) {be
               none = (ready .miscounted, (ready .large, (usable, (keeps, none-decided run words call passing fit))));
               sent = passing .arrives;
               stages-next = listOf-ext noStage _ mostOperators stages (moving .long) (λ i less. stage-next passing i (ltb i (run .count)) refl);
+              noted = λ k less ws. noted-here passing k less ws;
             })
           where
-            stage-next : Passing run words call (run .count) p stages → (i : ℕ) (t : Bool) → ltb i (run .count) ≡ t → getD stages i noStage ≡ pick t (stageNext run words call i) (stageAt run i)
+            noted-here : Passing run words call (run .count) p stages places → (k : ℕ) → k < run .count → (ws : List ℕ)
+                → totalNoted ws (getD places k 0) (getD stages k noStage .entered) ≡ ringNoted (operatorOf (getD stages k noStage) (run .slot)) ws
+            noted-here passing k less ws =
+                ap (λ (at : ℕ). totalNoted ws at (getD stages k noStage .entered)) (passing .placed k less ∙ place-next k ∙ ap (λ (stage : Stage). ringPlace (operatorOf stage (run .slot))) (sym (passing .advanced k less)))
+
+            stage-next : Passing run words call (run .count) p stages places → (i : ℕ) (t : Bool) → ltb i (run .count) ≡ t → getD stages i noStage ≡ pick t (stageNext run words call i) (stageAt run i)
             stage-next passing i true e = passing .advanced i (ltb-true i (run .count) e)
             stage-next passing i false e = moving .later i (ltb-false i (run .count) e)
 
@@ -227,7 +240,7 @@ module _ (run : Run) (words : List ℕ) (input : Units) (choices : List ℕ) {be
 
   -- what is judged of the call
   pub judged-told : {usable : Bool} → usable ≡ both (both (p .usable) (every (emptyBehind (begun .count) stages) mostOperators)) (behindClear (begun .count) words)
-      → {verdict : Verdict} → verdict ≡ judgedOf usable (begun .below .0) (input .0) p → Refusing run words (callOf input choices) verdict ⊎ Taking run words (callOf input choices) verdict (begun .count) p stages
+      → {verdict : Verdict} → verdict ≡ judgedOf usable (begun .below .0) (input .0) p → Refusing run words (callOf input choices) verdict ⊎ Taking run words (callOf input choices) verdict (begun .count) p stages places
   judged-told told judged = ⊎-elim (λ none. none-begun none told (begun .below .0) judged) (λ some. some-begun some told judged) (begun-or-not run words input choices same)
 
 -- The ways out.
@@ -245,7 +258,7 @@ module _ (run : Run) (words : List ℕ) (call : Call) where
     kept ∙ sym (words-refused run words call (refusing .why) (refusing .first)),
   )
 
-  pub answer-taken : {verdict : Verdict} {count : ℕ} {p : Progress} {stages : List Stage} → Taking run words call verdict count p stages → {outcome : Outcome} → outcome ≡ outcomeOf verdict (p .arriving)
+  pub answer-taken : {verdict : Verdict} {count : ℕ} {p : Progress} {stages : List Stage} {places : List ℕ} → Taking run words call verdict count p stages places → {outcome : Outcome} → outcome ≡ outcomeOf verdict (p .arriving)
       → {next : Run} → next ≡ runWritten (runAdvanced run words call) words (call .input) → {after : List ℕ} → after ≡ listOf (wordWritten (runAdvanced run words call) words (call .input)) runWordCount
       → (record { outcome = outcome; run = next } ≡ slottedOf run words call) × (after ≡ wordsSlotted run words call)
   unfolding outcomeOf takenSlot

@@ -18,7 +18,8 @@ use Rattle.quantity.proofs.Sums.{length-listOf, listOf-ext}
 use Rattle.words.specs.Stored.{wordAt}
 use Rattle.operator.specs.Operators.{numberInRange}
 use Rattle.operator.specs.Single.{wordCount, usesHeld}
-use Rattle.operator.specs.Ring.{ringNoted}
+use Rattle.operator.specs.Ring.{totalNoted}
+use Rattle.operator.proofs.RingLaws.{length-noted}
 use Rattle.meter.specs.Meter.{meterWordCount, meterWordNext}
 use Rattle.meter.specs.Parts.{noteUnfit, notedOf, wordsNoted}
 use Rattle.meter.specs.declared.SourceMeter.{SourceMeter}
@@ -28,7 +29,7 @@ use Rattle.sheet.specs.Bodies.{part}
 use Rattle.run.specs.declared.Stage.{Stage}
 use Rattle.run.specs.declared.Run.{Run}
 use Rattle.run.specs.Runs.{runWordCount, meterWords, operatorAtWord, operatorWords, noStage, stageAt, meterIn, operatorOf, operatorIn}
-use Rattle.run.specs.Steps.{withPart, blockWritten, stageWord, wordWritten}
+use Rattle.run.specs.Steps.{ringNoted, withPart, blockWritten, stageWord, wordWritten}
 use Rattle.run.proofs.UpTo.{UpTo, up-to-none, up-to-here, up-to-next}
 use Rattle.run.proofs.Parts.{length-part, part-at, length-operatorWords, operator-word}
 use Rattle.run.proofs.WithPart.{put-back, meter-sized, meter-replaced, meter-beside, operator-sized, operator-replaced, meter-before, operator-before, operator-behind}
@@ -39,16 +40,13 @@ length-either : (n : ℕ) (t : Bool) (words next : List ℕ) → length words �
 length-either n true words next was will = was
 length-either n false words next was will = will
 
-length-noted : (x : SourceMeter) (words : List ℕ) (input : ℕ) → length words ≡ meterWordCount → length (wordsNoted x words input) ≡ meterWordCount
+length-metered : (x : SourceMeter) (words : List ℕ) (input : ℕ) → length words ≡ meterWordCount → length (wordsNoted x words input) ≡ meterWordCount
 unfolding wordsNoted
-length-noted x words input size =
+length-metered x words input size =
     length-either meterWordCount (noteUnfit x words input) words _ size (length-listOf (meterWordNext x words input) meterWordCount)
 
 length-ring : (x : PathOperator) (words : List ℕ) → length words ≡ wordCount → length (ringNoted x words) ≡ wordCount
-unfolding ringNoted
-length-ring x words size =
-    length-either wordCount (usesHeld (x .operator)) words _ size
-    (length-either wordCount (both (eqb (length words) wordCount) (numberInRange (x .operator))) _ words (length-set words _ _ ∙ size) size)
+length-ring x words size = length-noted x words _ _ ∙ size
 
 length-meterWords : (words : List ℕ) → length words ≡ runWordCount → length (meterWords words) ≡ meterWordCount
 unfolding meterWords
@@ -77,29 +75,28 @@ module _ (run : Run) (words : List ℕ) (input : ℕ) where
       → {new : List ℕ} → new ≡ wordsNoted meter (meterWords words) input
       → (blockThen (run .block) answer ≡ blockWritten run words input) × (take 0 words ++ (new ++ drop meterWordCount (drop 0 words)) ≡ withPart 0 noted words)
   meter-written sized same {answer} answered left =
-      let sizes = length-noted (meterIn run) (meterWords words) input (length-meterWords words sized) in
+      let sizes = length-metered (meterIn run) (meterWords words) input (length-meterWords words sized) in
       (block-taken answer (rw same at answered), rw (left, same) (put-back 0 meterWordCount noted words sizes))
 
   pub metered-size : length words ≡ runWordCount → {after : List ℕ} → after ≡ withPart 0 noted words → length after ≡ runWordCount
-  metered-size sized same = rw same (meter-sized words noted sized (length-noted (meterIn run) (meterWords words) input (length-meterWords words sized)))
+  metered-size sized same = rw same (meter-sized words noted sized (length-metered (meterIn run) (meterWords words) input (length-meterWords words sized)))
 
 -- A stage.
 
-module _ (stage : Stage) (slot : Slots) (words : List ℕ) (k : ℕ) where
+module _ (at total : ℕ) (words : List ℕ) (k : ℕ) where
   abbrev lent : ℕ
   lent = operatorAtWord k + wordCount - operatorAtWord k
 
   abbrev withTotal : List ℕ
-  withTotal = ringNoted (operatorOf stage slot) (operatorWords words k)
+  withTotal = totalNoted (operatorWords words k) at total
 
-  pub stage-written : length words ≡ runWordCount → k < mostOperators → {x : PathOperator} → x ≡ operatorOf stage slot
-      → {new : List ℕ} → new ≡ ringNoted x (take lent (drop (operatorAtWord k) words))
+  pub total-written : length words ≡ runWordCount → k < mostOperators → {new : List ℕ} → new ≡ totalNoted (take lent (drop (operatorAtWord k) words)) at total
       → take (operatorAtWord k) words ++ (new ++ drop lent (drop (operatorAtWord k) words)) ≡ withPart (operatorAtWord k) withTotal words
   unfolding operatorWords part
-  stage-written sized less same left =
+  total-written sized less left =
       let wide : lent ≡ wordCount = omega arith in
-      let sizes = length-ring (operatorOf stage slot) (operatorWords words k) (length-operatorWords words sized k less) in
-      rw (left, wide, same) (put-back (operatorAtWord k) wordCount withTotal words sizes)
+      let sizes = length-noted (operatorOf noStage (record { 0 = 0 })) (operatorWords words k) at total ∙ length-operatorWords words sized k less in
+      rw (left, wide) (put-back (operatorAtWord k) wordCount withTotal words sizes)
 
 -- what a stage's words are once written, over the words behind the meter's
 abbrev wordsDone : Run → List ℕ → ℕ → List ℕ
@@ -158,7 +155,7 @@ module _ (run : Run) (first : List ℕ) (input : ℕ) (sized : length first ≡ 
   written = rw ends at before-k
 
   noted-size : length (noted run first input) ≡ meterWordCount
-  noted-size = length-noted (meterIn run) (meterWords first) input (length-meterWords first sized)
+  noted-size = length-metered (meterIn run) (meterWords first) input (length-meterWords first sized)
 
   same-operator : (i : ℕ) → i < mostOperators → operatorWords metered i ≡ operatorWords first i
   same-operator i less = rw after-meter (meter-beside first (noted run first input) sized noted-size i less)

@@ -13,7 +13,7 @@ use Rattle.quantity.specs.declared.Units.{Units}
 use Rattle.quantity.specs.declared.refusal.Refusal.the-variants.{Unusable, InputBreaksDeclaration, ChoiceAboveGreatest}
 use Rattle.flow.specs.Declarations.{declarationInRange, rowsInOrder}
 use Rattle.operator.specs.Single.{wordCount}
-use Rattle.operator.specs.Ring.{ringNoted}
+use Rattle.operator.specs.Ring.{ringPlace, totalNoted}
 use Rattle.meter.specs.Meter.{meterWordCount, meterUnusable}
 use Rattle.meter.specs.Parts.{inputsBelow, notedOf, wordsNoted}
 use Rattle.words.specs.Stored.{wordAt, clearAt}
@@ -141,6 +141,10 @@ runWritten run words input =
       count = run .count;
       stages = run .stages;
     }
+
+-- an operator's words with its total noted
+abbrev pub ringNoted : PathOperator → List ℕ → List ℕ
+ringNoted x words = totalNoted words (ringPlace x) (x .entered)
 
 unfoldable pub stageWord : Run → List ℕ → ℕ → ℕ → ℕ
 stageWord run words k a = pick (ltb k (run .count)) (wordAt (ringNoted (operatorIn run k) (operatorWords words k)) a) (wordAt (operatorWords words k) a)

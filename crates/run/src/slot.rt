@@ -10,7 +10,7 @@ use crate::stages::once_sent;
 use crate::stages::once_unusable;
 use crate::stages::stage_of;
 use crate::stages::write_meter;
-use crate::stages::write_stage;
+use crate::stages::write_total;
 use crate::test::Begun;
 use crate::test::begin_meter;
 use crate::test::behind_clear;
@@ -53,6 +53,7 @@ pub fn slot(run: Run, words: &mut [u32], input: Units, choices: &[u64]) -> Slott
     let begun = begin(run, &words[..], input, choices);
     let count = begun.count;
     let mut stages = run.stages;
+    let mut places = [crate::OPERATOR_WORDS; 16];
     let mut progress = first_progress(count, input);
     let mut k = 0;
     while k < count {
@@ -66,8 +67,14 @@ pub fn slot(run: Run, words: &mut [u32], input: Units, choices: &[u64]) -> Slott
             Units(choices[k]),
         );
         match advanced {
-            Advanced::Sends { output, fits, next } => {
+            Advanced::Sends {
+                output,
+                fits,
+                next,
+                at,
+            } => {
                 stages[k] = stage_of(next);
+                places[k] = at;
                 progress = once_sent(progress, output, fits);
             }
             Advanced::Unusable => {
@@ -96,7 +103,7 @@ pub fn slot(run: Run, words: &mut [u32], input: Units, choices: &[u64]) -> Slott
     let mut k = 0;
     while k < end {
         let stage = stages[k];
-        write_stage(stage, run.slot, words, k);
+        write_total(places[k], stage.entered, words, k);
         k += 1;
     }
     let declaration = run.declaration;

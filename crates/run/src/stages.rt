@@ -16,7 +16,7 @@ ghost use mathlib.Core.Bool.{true, false};
 ghost use Prim.Native.Nat.{_<_, min};
 ghost use lib.ListN.{length};
 ghost use Rattle.quantity.specs.Limits.{mostOperators};
-ghost use Rattle.operator.specs.Ring.{advancedOf, ringNoted};
+ghost use Rattle.operator.specs.Ring.{advancedOf, totalNoted};
 ghost use Rattle.meter.specs.Parts.{wordsNoted};
 ghost use Rattle.run.specs.Runs.{runWordCount, operatorAtWord, meterWords, operatorWords, meterIn, operatorOf};
 ghost use Rattle.run.specs.Steps.{firstProgress, onceSent, onceUnusable, onceAbove, stageKept, withPart, blockWritten};
@@ -147,12 +147,12 @@ fn note_input(run: Run, words: &mut [u32], input: Units) -> Units
     block
 }
 
-// Stage k's words.
-pub(crate) fn write_stage(stage: Stage, slot: Slots, words: &mut [u32], k: usize)
+// The total of operator k in the word that advancing answered.
+pub(crate) fn write_total(at: usize, total: u32, words: &mut [u32], k: usize)
     requires { ⌜ (length (now words) ≡ runWordCount) × (k < mostOperators) ⌝ }
-    ensures { λ _. ⌜ now (words .exit) ≡ withPart (operatorAtWord k) (ringNoted (operatorOf stage slot) (operatorWords (now (words .entry)) k)) (now (words .entry)) ⌝ }
+    ensures { λ _. ⌜ now (words .exit) ≡ withPart (operatorAtWord k) (totalNoted (operatorWords (now (words .entry)) k) at total) (now (words .entry)) ⌝ }
 {
     let start = crate::METER_WORDS + crate::OPERATOR_WORDS * k;
     let end = start + crate::OPERATOR_WORDS;
-    operator::ring::note(operator_of(stage, slot), &mut words[start..end]);
+    operator::ring::note(&mut words[start..end], at, total);
 }

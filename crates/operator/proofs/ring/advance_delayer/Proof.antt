@@ -2,7 +2,8 @@
 use mathlib.Core.Path.{_≡_, refl, ap, ap₂, sym, _∙_}
 use mathlib.Core.Bool.{Bool, true, false}
 use mathlib.Core.List.{List}
-use Prim.Native.Nat.{ℕ, _+_, _-_, _≤_}
+use Prim.Native.Nat.{ℕ, _+_, _-_, _%_, _≤_}
+use native.Mathlib.Nat.{mod-lt}
 use native.Mathlib.Omega.{arith}
 use borrow.Author.Tests.{not-true, not-false}
 use Rattle.quantity.specs.Limits.{largestAmount}
@@ -12,11 +13,11 @@ use Rattle.quantity.proofs.Laws.{least-le, le-largest}
 use Rattle.operator.specs.Delayer.{delayerGreatest, delayerAfter}
 use Rattle.operator.specs.Operators.{greatestOutput, heldAfter, numberInRange}
 use Rattle.operator.specs.Single.{wordsUsed, usesHeld}
-use Rattle.operator.specs.Ring.{ringHeld, ringRecent, pathHolds, pathLeast, pathGreatest, pathUnusable, pathAdvanced, pathUnready}
+use Rattle.operator.specs.Ring.{ringHeld, ringRecent, pathHolds, pathLeast, pathGreatest, pathUnusable, storable, pathAdvanced, pathUnready}
 use Rattle.operator.specs.declared.Operator.{Operator}
 use Rattle.operator.specs.declared.ring.PathOperator.{PathOperator}
 use Rattle.operator.specs.declared.ring.Advanced.{Advanced}
-use Rattle.operator.proofs.RingLaws.{ring-held-le, unready-unusable, unready-outside, is-ready, advanced-unready, least-ring, there-ring, advanced-above, advanced-sends, advanced-ring}
+use Rattle.operator.proofs.RingLaws.{place-ring, ring-held-le, unready-unusable, unready-outside, is-ready, advanced-unready, least-ring, there-ring, advanced-above, advanced-sends, advanced-ring}
 use borrow.Author.Needs.{needs}
 use Rattle.operator.proofs.ring.advance_delayer.Statement.{statement}
 use Rattle.operator.proofs.ring.advance_delayer.Tie as tie
@@ -59,12 +60,13 @@ held-same c = c .total-less .ensures
 held-le : (c : tie.After-total-less) → c .total-less .result ≤ largestAmount
 held-le c = let s = c .before .before .before .before .before .before .before in omega (arith, held-same c, ring-held-le _ _ (ring (s .pre .3)) (usable (c .before)))
 
-low-same : (c : tie.After-less) → let a = c .before .before .before .before .before .before .before .before .before .args in c .less .result ≡ pathLeast (a .state) (a .words .now) (a .input)
+low-same : (c : tie.After-less) → let a = c .before .before .before .before .before .before .before .before .before .before .args in c .less .result ≡ pathLeast (a .state) (a .words .now) (a .input)
+unfolding ringRecent
 low-same c =
-    let s = c .before .before .before .before .before .before .before .before .before in
+    let s = c .before .before .before .before .before .before .before .before .before .before in
     let named = s .pre .3 in
     c .less .ensures
-    ∙ ap₂ (λ (b n : ℕ). b - n) (held-same (c .before .before)) (c .before .recent .ensures)
+    ∙ ap₂ (λ (b n : ℕ). b - n) (held-same (c .before .before .before)) (c .before .recent .ensures)
     ∙ least-ring _ _ _ (ring named) _ (used named)
 
 there-same : (c : tie.After-total-less) → let a = c .before .before .before .before .before .before .before .args in c .total-less .result + a .input ≡ ringHeld (a .state) + a .input
@@ -99,11 +101,17 @@ cast-held c = search needs
 add-there : tie.Need-add-there
 add-there c = search needs
 
+cast-at : tie.Need-cast-at
+cast-at c = search needs
+
+rem-at : tie.Need-rem-at
+rem-at c = omega (arith, least-le delayRange _ (inside (c .before .before .before .before .before)))
+
 recent-requires : tie.Need-recent-requires
 recent-requires c κs =
-    let s = c .before .before .before .before .before .before .before in
-    let within = inside (c .before .before .before .before) in
-    (omega (arith, least-le delayRange _ within), omega (arith, le-largest delayRange _ within, s .pre .0))
+    let s = c .before .before .before .before .before .before .before .before in
+    let within = inside (c .before .before .before .before .before) in
+    omega (arith, mod-lt (s .args .state .slot .0) (least-le delayRange _ within), le-largest delayRange _ within, s .pre .0)
 
 less-requires : tie.Need-less-requires
 less-requires c κs = search needs
@@ -114,11 +122,11 @@ sub-if3 c = omega (arith, c .less .ensures)
 returns-3 : tie.Need-returns-3
 returns-3 c =
     let l = c .before in
-    let s = l .before .before .before .before .before .before .before .before .before in
-    advanced-above _ _ _ _ (ready (l .before .before .before)) _ _ (low-same l) (there-same (l .before .before) ∙ high-same _ _ _ (s .pre .3)) (c .if3 .taken)
+    let s = l .before .before .before .before .before .before .before .before .before .before in
+    advanced-above _ _ _ _ (ready (l .before .before .before .before)) _ _ (low-same l) (there-same (l .before .before .before) ∙ high-same _ _ _ (s .pre .3)) (c .if3 .taken)
 
 add-output : tie.Need-add-output
-add-output c = omega (arith, c .if3 .left, c .before .less .ensures, held-le (c .before .before .before))
+add-output c = omega (arith, c .if3 .left, c .before .less .ensures, held-le (c .before .before .before .before))
 
 sub-within : tie.Need-sub-within
 sub-within c = omega (arith, c .before .if3 .left, c .before .before .less .ensures)
@@ -135,17 +143,19 @@ total-more-requires-2 c κs = search needs
 returns-4 : tie.Need-returns-4
 returns-4 c =
     let l = c .before .before .before .before .before in
-    let s = l .before .before .before .before .before .before .before .before .before in
+    let s = l .before .before .before .before .before .before .before .before .before .before in
     let a = s .args in
-    let there = l .before .before .total-less .result + a .input in
+    let there = l .before .before .before .total-less .result + a .input in
     let output = l .less .result + a .choice in
     let named = s .pre .3 in
+    let at = a .state .slot .0 % a .delay .0 in
     let next : _≡_ {A = PathOperator} (record { operator = a .state .operator; slot = a .state .slot; held = record { 0 = 0 }; beside = record { 0 = 0 }; entered = c .before .total-more .result; left = c .total-more2 .result }) (pathAdvanced (a .state) (a .input) output (there - output) 0) =
     rw (c .before .total-more .ensures, c .total-more2 .ensures) (advanced-ring (a .state) (a .input) output (there - output) 0 (ring named))
     in
-    ap₂ (λ (fits : Bool) (next : PathOperator). Advanced.Sends (record { 0 = output }) fits next) (c .before .before .within .ensures) next
-    ∙ advanced-sends _ _ _ _ (ready (l .before .before .before)) _ _ (low-same l) (there-same (l .before .before) ∙ high-same _ _ _ named) (c .before .before .before .before .if3 .left) _ _
-    (ap (λ (n : ℕ). n - output) (there-same (l .before .before) ∙ there-ring _ _ _ (ring named))) (none-beside _ _ _ named)
+    ap₂ (λ (fits : Bool) (next : PathOperator). Advanced.Sends (record { 0 = output }) fits next at) (c .before .before .within .ensures) next
+    ∙ ap (λ (at : ℕ). Advanced.Sends (record { 0 = output }) (storable (there - output) 0) (pathAdvanced (a .state) (a .input) output (there - output) 0) at) (place-ring (a .state) (ring named) (a .delay .0) (used named))
+    ∙ advanced-sends _ _ _ _ (ready (l .before .before .before .before)) _ _ (low-same l) (there-same (l .before .before .before) ∙ high-same _ _ _ named) (c .before .before .before .before .if3 .left) _ _
+    (ap (λ (n : ℕ). n - output) (there-same (l .before .before .before) ∙ there-ring _ _ _ (ring named))) (none-beside _ _ _ named)
 
 pub advance-delayer-spec : {M : Type 1} → statement M
 advance-delayer-spec =
@@ -159,6 +169,8 @@ advance-delayer-spec =
     total-less-requires
     cast-held
     add-there
+    cast-at
+    rem-at
     recent-requires
     less-requires
     sub-if3

@@ -3,9 +3,11 @@ use mathlib.Core.Path.{_≡_, ap, ap₂, sym, _∙_}
 use mathlib.Core.Bool.{Bool}
 use Prim.Native.Nat.{ℕ, _+_, _-_}
 use native.Mathlib.Omega.{arith}
+use Rattle.operator.specs.Single.{wordCount}
+use Rattle.operator.specs.Ring.{storable, pathAdvanced}
 use Rattle.operator.specs.declared.ring.Advanced.{Advanced}
 use Rattle.operator.specs.declared.ring.PathOperator.{PathOperator}
-use Rattle.operator.proofs.RingLaws.{advanced-above, advanced-sends, advanced-apart}
+use Rattle.operator.proofs.RingLaws.{place-apart, advanced-above, advanced-sends, advanced-apart}
 use borrow.Author.Needs.{needs}
 use Rattle.operator.proofs.ring.sends.Statement.{statement}
 use Rattle.operator.proofs.ring.sends.Tie as tie
@@ -29,7 +31,8 @@ returns-2 : tie.Need-returns-2
 returns-2 c words input known =
     let a = c .before .before .before .args in
     let output = a .low + a .choice in
-    ap₂ (λ (fits : Bool) (next : PathOperator). Advanced.Sends (record { 0 = output }) fits next) (c .within .ensures) (advanced-apart (a .state) input output (a .there - output) (a .beside) (known .apart))
+    ap₂ (λ (fits : Bool) (next : PathOperator). Advanced.Sends (record { 0 = output }) fits next wordCount) (c .within .ensures) (advanced-apart (a .state) input output (a .there - output) (a .beside) (known .apart))
+    ∙ ap (λ (at : ℕ). Advanced.Sends (record { 0 = output }) (storable (a .there - output) (a .beside)) (pathAdvanced (a .state) input output (a .there - output) (a .beside)) at) (place-apart (a .state) (known .apart))
     ∙ advanced-sends _ words input _ (known .ready) _ _ (known .least) (known .greatest) (c .before .before .if1 .left) _ _ (ap (λ (n : ℕ). n - output) (known .all)) (known .holds)
 
 pub sends-spec : {M : Type 1} → statement M

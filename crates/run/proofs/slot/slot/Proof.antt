@@ -5,7 +5,7 @@ use mathlib.Core.List.{List}
 use mathlib.Core.Logic.{_⊎_, inl, inr, ⊎-elim}
 use Prim.Native.Nat.{ℕ, _+_, _-_, _≤_, _<_}
 use native.Mathlib.Omega.{arith}
-use lib.ListN.{length, length-map}
+use lib.ListN.{length, getD, length-map, length-replicate}
 use borrow.Author.Needs.{needs}
 use borrow.Author.Tests.{not-true, not-false}
 use Rattle.quantity.specs.Choice.{pick, both}
@@ -17,9 +17,11 @@ use Rattle.quantity.proofs.Laws.{pick-true, pick-false}
 use Rattle.run.specs.declared.Run.{Run}
 use Rattle.run.specs.declared.Stage.{Stage}
 use Rattle.run.specs.Calls.{Call, callOf}
-use Rattle.run.specs.Runs.{meterIn}
+use Rattle.operator.specs.Single.{wordCount}
+use Rattle.operator.specs.Ring.{totalNoted}
+use Rattle.run.specs.Runs.{operatorAtWord, noStage, operatorOf, meterIn}
 use Rattle.run.specs.Slots.{slottedOf, wordsSlotted}
-use Rattle.run.specs.Steps.{emptyBehind, behindClear, acceptedBy, runAdvanced, blockWritten, runWritten}
+use Rattle.run.specs.Steps.{emptyBehind, acceptedBy, runAdvanced, withPart, blockWritten, ringNoted, runWritten}
 use Rattle.run.proofs.UsableRun.{slot-left}
 use Rattle.run.proofs.TestLaws.{empty-start, empty-next}
 use Rattle.run.proofs.MovingLaws.{Begins, begins, few, counted, Moving, moving-start, moving-sent, moving-unusable, moving-above}
@@ -33,23 +35,23 @@ abbrev withStages : Run → List Stage → Run
 withStages run stages = record { declaration = run .declaration; slot = run .slot; block = run .block; count = run .count; stages = stages }
 
 abbrev Inv-loop : tie.InvT-loop
-Inv-loop run words input choices begun count stages₀ progress₀ k₀ stages progress k = (k ≤ count) × Moving run words (callOf input choices) count k progress stages
+Inv-loop run words input choices begun count stages₀ places₀ progress₀ k₀ stages places progress k = (k ≤ count) × Moving run words (callOf input choices) count k progress stages places
 
 abbrev μ-loop : tie.MeasureT-loop
-μ-loop run words input choices begun count stages₀ progress₀ k₀ stages progress k = count - k
+μ-loop run words input choices begun count stages₀ places₀ progress₀ k₀ stages places progress k = count - k
 
 abbrev Inv-loop2 : tie.InvT-loop2
-Inv-loop2 run words input choices begun count stages progress k₀ usable₀ k usable = (count ≤ k) × (k ≤ mostOperators) × (usable ≡ both (progress .usable) (every (emptyBehind count stages) k))
+Inv-loop2 run words input choices begun count stages places progress k₀ usable₀ k usable = (count ≤ k) × (k ≤ mostOperators) × (usable ≡ both (progress .usable) (every (emptyBehind count stages) k))
 
 abbrev μ-loop2 : tie.MeasureT-loop2
-μ-loop2 run words input choices begun count stages progress k₀ usable₀ k usable = mostOperators - k
+μ-loop2 run words input choices begun count stages places progress k₀ usable₀ k usable = mostOperators - k
 
 abbrev Inv-loop3 : tie.InvT-loop3
-Inv-loop3 run words₀ choices count stages progress k usable clear verdict taken block end k₀ words k' =
+Inv-loop3 run words₀ choices count stages places progress k usable clear verdict taken block end k₀ words k' =
     (k' ≤ end) × (taken ≡ true → Written (withStages run stages) words₀ k' words) × (taken ≡ false → words ≡ words₀)
 
 abbrev μ-loop3 : tie.MeasureT-loop3
-μ-loop3 run words₀ choices count stages progress k usable clear verdict taken block end k₀ words k' = end - k'
+μ-loop3 run words₀ choices count stages places progress k usable clear verdict taken block end k₀ words k' = end - k'
 
 contradiction : {t : Bool} → t ≡ true → t ≡ false → ⊥
 contradiction e f = let z : _≡_ {A = ℕ} 0 1 = cc in omega arith
@@ -70,20 +72,20 @@ most c = few _ _ _ _ (c .begin .ensures)
 judged : (c : tie.After-judge Inv-loop μ-loop Inv-loop2 μ-loop2 Inv-loop3 μ-loop3) →
     let a = c .before .before .before .before .before .before .before .before .before .before .before .before .before .before .args in
     let l = c .before .before .before .before .before .before .before .loop in
-    Refusing (a .run) (a .words .now) (callOf (a .input) (a .choices .now)) (c .judge .result) ⊎ Taking (a .run) (a .words .now) (callOf (a .input) (a .choices .now)) (c .judge .result) (c .before .before .before .before .before .before .before .before .before .before .begin .result .count) (l .progress) (l .stages)
+    Refusing (a .run) (a .words .now) (callOf (a .input) (a .choices .now)) (c .judge .result) ⊎ Taking (a .run) (a .words .now) (callOf (a .input) (a .choices .now)) (c .judge .result) (c .before .before .before .before .before .before .before .before .before .before .begin .result .count) (l .progress) (l .stages) (l .places)
 judged c =
     let l = c .before .before .before .before .before .before .before in
     let b = c .before .before .before .before .before .before .before .before .before .before in
     let ends : l .loop .k ≡ b .begin .result .count = omega (arith, c .before .before .before .before .before .before .loop-test .left, l .loop .inv .0) in
     let all : c .before .before .before .before .before .loop2 .k ≡ mostOperators = omega (arith, c .before .before .before .before .loop2-test .left, c .before .before .before .before .before .loop2 .inv .1) in
     let tested : c .before .before .before .before .before .loop2 .usable ≡ both (l .loop .progress .usable) (every (emptyBehind (b .begin .result .count) (l .loop .stages)) mostOperators) = rw all at (c .before .before .before .before .before .loop2 .inv .2) in
-    let moved : Moving (c .before .before .before .before .before .before .before .before .before .before .before .before .before .before .args .run) (c .before .before .before .before .before .before .before .before .before .before .before .before .before .before .args .words .now) (callOf (c .before .before .before .before .before .before .before .before .before .before .before .before .before .before .args .input) (c .before .before .before .before .before .before .before .before .before .before .before .before .before .before .args .choices .now)) (b .begin .result .count) (b .begin .result .count) (l .loop .progress) (l .loop .stages) = rw ends at (l .loop .inv .1) in
+    let moved : Moving (c .before .before .before .before .before .before .before .before .before .before .before .before .before .before .args .run) (c .before .before .before .before .before .before .before .before .before .before .before .before .before .before .args .words .now) (callOf (c .before .before .before .before .before .before .before .before .before .before .before .before .before .before .args .input) (c .before .before .before .before .before .before .before .before .before .before .before .before .before .before .args .choices .now)) (b .begin .result .count) (b .begin .result .count) (l .loop .progress) (l .loop .stages) (l .loop .places) = rw ends at (l .loop .inv .1) in
     judged-told _ _ _ _ (b .begin .ensures) moved (c .before .and2 .ensures ∙ ap₂ both tested (c .before .before .behind-clear .ensures)) (c .judge .ensures)
 
 took : (c : tie.After-accepted Inv-loop μ-loop Inv-loop2 μ-loop2 Inv-loop3 μ-loop3) → c .accepted .result ≡ true →
     let a = c .before .before .before .before .before .before .before .before .before .before .before .before .before .before .before .args in
     let l = c .before .before .before .before .before .before .before .before .loop in
-    Taking (a .run) (a .words .now) (callOf (a .input) (a .choices .now)) (c .before .judge .result) (c .before .before .before .before .before .before .before .before .before .before .before .begin .result .count) (l .progress) (l .stages)
+    Taking (a .run) (a .words .now) (callOf (a .input) (a .choices .now)) (c .before .judge .result) (c .before .before .before .before .before .before .before .before .before .before .before .begin .result .count) (l .progress) (l .stages) (l .places)
 unfolding acceptedBy
 took c taken-so = ⊎-elim (λ refusing. absurd (contradiction taken-so (c .accepted .ensures ∙ ap acceptedBy (refusing .refused)))) (λ taking. taking) (judged (c .before))
 
@@ -101,6 +103,11 @@ stages-left c left-so = ⊎-elim (λ w. w .2) (λ w. absurd (contradiction (not-
 stages-long : (c : tie.Joined1 Inv-loop μ-loop Inv-loop2 μ-loop2 Inv-loop3 μ-loop3) → length (c .if1 .stages) ≡ mostOperators
 stages-long c = ⊎-elim (λ w. ap length (w .2) ∙ full (c .before .before .before .before .before .before .before .before .before .before .before .before .before .before .before .before)) (λ w. ap length (w .1) ∙ c .before .before .before .before .before .before .before .before .before .loop .inv .1 .long) (c .if1 .came)
 
+-- what is noted of operator k
+noted-then : (c : tie.Joined1 Inv-loop μ-loop Inv-loop2 μ-loop2 Inv-loop3 μ-loop3) → c .before .accepted .result ≡ true → let a = c .before .before .before .before .before .before .before .before .before .before .before .before .before .before .before .before .args in
+    (k : ℕ) → k < a .run .count → (ws : List ℕ) → totalNoted ws (getD (c .before .before .before .before .before .before .before .before .before .loop .places) k 0) (getD (c .if1 .stages) k noStage .entered) ≡ ringNoted (operatorOf (getD (c .if1 .stages) k noStage) (a .run .slot)) ws
+noted-then c taken-so k less ws = rw (stages-taken c taken-so) (took (c .before) taken-so .noted k less ws)
+
 -- what is written is of a slot that is taken, and of the path's operators
 writes : (c : tie.Joined2 Inv-loop μ-loop Inv-loop2 μ-loop2 Inv-loop3 μ-loop3) → {k : ℕ} → k < c .if2 .end → (c .before .before .before .before .before .before .accepted .result ≡ true) × (c .if2 .end ≡ c .before .before .before .before .before .before .before .before .before .before .before .before .before .before .before .before .before .begin .result .count)
 writes c less = ⊎-elim (λ w. (w .0 .taken, w .1)) (λ w. absurd (let none = w .1 in omega arith)) (c .if2 .came)
@@ -115,7 +122,7 @@ first-progress-requires : tie.Need-first-progress-requires Inv-loop μ-loop Inv-
 first-progress-requires c κs = search needs
 
 loop-holds : tie.Need-loop-holds Inv-loop μ-loop Inv-loop2 μ-loop2 Inv-loop3 μ-loop3
-loop-holds c = (omega arith, moving-start _ _ _ _ (c .before .before .begin .ensures) (full (c .before .before .before .before .before .before)) (c .first-progress .ensures))
+loop-holds c = (omega arith, moving-start _ _ _ _ (c .before .before .begin .ensures) (full (c .before .before .before .before .before .before)) (c .first-progress .ensures) _ (length-replicate mostOperators wordCount))
 
 mul-stage : tie.Need-mul-stage Inv-loop μ-loop Inv-loop2 μ-loop2 Inv-loop3 μ-loop3
 mul-stage c = omega (arith, c .loop-test .taken, most (c .before .before .before .before))
@@ -123,11 +130,11 @@ mul-stage c = omega (arith, c .loop-test .taken, most (c .before .before .before
 array-copy-out-stage : tie.Need-array-copy-out-stage Inv-loop μ-loop Inv-loop2 μ-loop2 Inv-loop3 μ-loop3
 array-copy-out-stage c = omega (arith, c .loop-test .taken, most (c .before .before .before .before), c .before .loop .inv .1 .long)
 
-mul-t30 : tie.Need-mul-t30 Inv-loop μ-loop Inv-loop2 μ-loop2 Inv-loop3 μ-loop3
-mul-t30 c = omega (arith, c .before .before .loop-test .taken, most (c .before .before .before .before .before .before))
+mul-t32 : tie.Need-mul-t32 Inv-loop μ-loop Inv-loop2 μ-loop2 Inv-loop3 μ-loop3
+mul-t32 c = omega (arith, c .before .before .loop-test .taken, most (c .before .before .before .before .before .before))
 
-shared-slice-read-t37 : tie.Need-shared-slice-read-t37 Inv-loop μ-loop Inv-loop2 μ-loop2 Inv-loop3 μ-loop3
-shared-slice-read-t37 c = let known = begun (c .before .before .before) in omega (arith, c .before .before .before .loop-test .taken, known .count, counted (known .ready))
+shared-slice-read-t39 : tie.Need-shared-slice-read-t39 Inv-loop μ-loop Inv-loop2 μ-loop2 Inv-loop3 μ-loop3
+shared-slice-read-t39 c = let known = begun (c .before .before .before) in omega (arith, c .before .before .before .loop-test .taken, known .count, counted (known .ready))
 
 advance-stage-requires : tie.Need-advance-stage-requires Inv-loop μ-loop Inv-loop2 μ-loop2 Inv-loop3 μ-loop3
 advance-stage-requires c κs = (begun (c .before .before .before) .ready .fits .sized, omega (arith, c .before .before .before .loop-test .taken, most (c .before .before .before .before .before .before .before)))
@@ -143,6 +150,12 @@ mul-stages c = omega (arith, c .before .before .before .before .before .before .
 
 array-set-from-stages : tie.Need-array-set-from-stages Inv-loop μ-loop Inv-loop2 μ-loop2 Inv-loop3 μ-loop3
 array-set-from-stages c = omega (arith, c .before .before .before .before .before .before .before .before .loop-test .taken, most (c .before .before .before .before .before .before .before .before .before .before .before .before), c .before .before .before .before .before .before .before .before .before .loop .inv .1 .long)
+
+mul-places : tie.Need-mul-places Inv-loop μ-loop Inv-loop2 μ-loop2 Inv-loop3 μ-loop3
+mul-places c = omega (arith, c .before .before .before .before .before .before .before .before .loop-test .taken, most (c .before .before .before .before .before .before .before .before .before .before .before .before))
+
+array-write-places : tie.Need-array-write-places Inv-loop μ-loop Inv-loop2 μ-loop2 Inv-loop3 μ-loop3
+array-write-places c = omega (arith, c .before .before .before .before .before .before .before .before .loop-test .taken, most (c .before .before .before .before .before .before .before .before .before .before .before .before), c .before .before .before .before .before .before .before .before .before .loop .inv .1 .wide)
 
 once-sent-requires : tie.Need-once-sent-requires Inv-loop μ-loop Inv-loop2 μ-loop2 Inv-loop3 μ-loop3
 once-sent-requires c κs = search needs
@@ -172,10 +185,10 @@ loop-again c =
     let here : c .before .before .before .before .before .before .loop .k < c .before .before .before .before .before .before .before .before .before .before .before .before .before .args .run .count = omega (arith, c .before .before .before .before .before .loop-test .taken, known .count) in (
       omega (arith, c .before .before .before .before .before .loop-test .taken),
       ⊎-elim
-          (λ w. rw (w .5, w .6) (moving-sent (known .ready) moving here (sym (w .1 .given .1) ∙ c .before .advance-stage .ensures) (w .3 .ensures) (w .4 .ensures)))
+          (λ w. rw (w .5, w .6, w .7) (moving-sent (known .ready) moving here (sym (w .1 .given .1) ∙ c .before .advance-stage .ensures) (w .3 .ensures) (w .4 .ensures)))
           (⊎-elim
-          (λ w. rw (w .3, w .4) (moving-unusable (known .ready) moving here (sym (w .1 .given .1) ∙ c .before .advance-stage .ensures) (w .2 .ensures)))
-          (λ w. rw (w .3, w .4) (moving-above (known .ready) moving here (sym (w .1 .given .1) ∙ c .before .advance-stage .ensures) (w .2 .ensures))))
+          (λ w. rw (w .3, w .4, w .5) (moving-unusable (known .ready) moving here (sym (w .1 .given .1) ∙ c .before .advance-stage .ensures) (w .2 .ensures)))
+          (λ w. rw (w .3, w .4, w .5) (moving-above (known .ready) moving here (sym (w .1 .given .1) ∙ c .before .advance-stage .ensures) (w .2 .ensures))))
           (c .match .came),
     )
 
@@ -241,8 +254,14 @@ mul-stage-3 c = omega (arith, c .loop3-test .taken, end-most (c .before .before)
 array-copy-out-stage-3 : tie.Need-array-copy-out-stage-3 Inv-loop μ-loop Inv-loop2 μ-loop2 Inv-loop3 μ-loop3
 array-copy-out-stage-3 c = omega (arith, c .loop3-test .taken, end-most (c .before .before), stages-long (c .before .before .before .before .before .before .before))
 
-write-stage-requires : tie.Need-write-stage-requires Inv-loop μ-loop Inv-loop2 μ-loop2 Inv-loop3 μ-loop3
-write-stage-requires c κs =
+mul-write-total : tie.Need-mul-write-total Inv-loop μ-loop Inv-loop2 μ-loop2 Inv-loop3 μ-loop3
+mul-write-total c = omega (arith, c .before .loop3-test .taken, end-most (c .before .before .before))
+
+array-read-write-total : tie.Need-array-read-write-total Inv-loop μ-loop Inv-loop2 μ-loop2 Inv-loop3 μ-loop3
+array-read-write-total c = omega (arith, c .before .loop3-test .taken, end-most (c .before .before .before), c .before .before .before .before .before .before .before .before .before .before .before .before .before .before .before .before .before .loop .inv .1 .wide)
+
+write-total-requires : tie.Need-write-total-requires Inv-loop μ-loop Inv-loop2 μ-loop2 Inv-loop3 μ-loop3
+write-total-requires c κs =
     let (taken-so, ends) = writes (c .before .before .before .before) (c .before .before .loop3-test .taken) in
     (c .before .before .before .loop3 .inv .1 taken-so .sized, omega (arith, c .before .before .loop3-test .taken, end-most (c .before .before .before .before)))
 
@@ -255,9 +274,13 @@ loop3-less c = omega (arith, c .before .before .before .before .before .loop3-te
 loop3-again : tie.Need-loop3-again Inv-loop μ-loop Inv-loop2 μ-loop2 Inv-loop3 μ-loop3
 loop3-again c =
     let here = c .before .before .before .before .before .loop3-test .taken in
-    let (taken-so, ends) = writes (c .before .before .before .before .before .before .before) here in (
+    let (taken-so, ends) = writes (c .before .before .before .before .before .before .before) here in
+    let joined = c .before .before .before .before .before .before .before .before .before .before .before .before in
+    let taking = took (joined .before) taken-so in
+    let named : c .before .before .before .before .before .before .loop3 .k < c .before .before .before .before .before .before .before .before .before .before .before .before .before .before .before .before .before .before .before .before .before .before .before .before .before .before .before .before .args .run .count = omega (arith, here, ends, taking .operators) in (
       omega (arith, here),
-      λ _. written-next (c .before .before .before .before .before .before .loop3 .inv .1 taken-so) (omega (arith, here, end-most (c .before .before .before .before .before .before .before))) (c .before .before .write-stage .ensures),
+      λ _. written-next (c .before .before .before .before .before .before .loop3 .inv .1 taken-so) (omega (arith, here, end-most (c .before .before .before .before .before .before .before)))
+          (c .before .before .write-total .ensures ∙ ap (λ (ws : List ℕ). withPart (operatorAtWord (c .before .before .before .before .before .before .loop3 .k)) ws (c .before .before .before .before .before .before .loop3 .words)) (noted-then joined taken-so _ named _)),
       λ left-so. absurd (contradiction taken-so left-so),
     )
 
@@ -342,13 +365,15 @@ slot-spec =
     loop-holds
     mul-stage
     array-copy-out-stage
-    mul-t30
-    shared-slice-read-t37
+    mul-t32
+    shared-slice-read-t39
     advance-stage-requires
     enum-known-advanced
     stage-of-requires
     mul-stages
     array-set-from-stages
+    mul-places
+    array-write-places
     once-sent-requires
     enum-told
     once-unusable-requires
@@ -373,7 +398,9 @@ slot-spec =
     loop3-holds
     mul-stage-3
     array-copy-out-stage-3
-    write-stage-requires
+    mul-write-total
+    array-read-write-total
+    write-total-requires
     add-k-3
     loop3-less
     loop3-again

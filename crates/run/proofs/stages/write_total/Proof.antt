@@ -1,8 +1,8 @@
--- Stage k's words are lent, and are back as many.
-use Rattle.run.proofs.WriteLaws.{stage-written}
+-- The operator's words are lent, and are back as many.
+use Rattle.run.proofs.WriteLaws.{total-written}
 use borrow.Author.Needs.{needs}
-use Rattle.run.proofs.stages.write_stage.Statement.{statement}
-use Rattle.run.proofs.stages.write_stage.Tie as tie
+use Rattle.run.proofs.stages.write_total.Statement.{statement}
+use Rattle.run.proofs.stages.write_total.Tie as tie
 
 mul-start : tie.Need-mul-start
 mul-start c = search needs
@@ -12,9 +12,6 @@ add-start c = search needs
 
 add-end : tie.Need-add-end
 add-end c = search needs
-
-operator-of-requires : tie.Need-operator-of-requires
-operator-of-requires c κs = search needs
 
 mul-note : tie.Need-mul-note
 mul-note c = search needs
@@ -35,16 +32,15 @@ same-length : tie.Need-same-length
 same-length c = search needs
 
 returns : tie.Need-returns
-returns c = let start = c .before .before .before .before .before .before in stage-written _ _ _ _ (start .pre .0) (start .pre .1) (c .before .before .before .before .operator-of .ensures) (c .before .before .note .ensures)
+returns c = let start = c .before .before .before .before .before in total-written _ _ _ _ (start .pre .0) (start .pre .1) (c .before .before .note .ensures)
 
-pub write-stage-spec : {M : Type 1} → statement M
-write-stage-spec =
+pub write-total-spec : {M : Type 1} → statement M
+write-total-spec =
     tie.close
     (tie.spec
     mul-start
     add-start
     add-end
-    operator-of-requires
     mul-note
     sub-note
     part-note-start
