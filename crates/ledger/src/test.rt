@@ -275,7 +275,7 @@ pub(crate) fn charge(rates: [Rate; 16], entry: Record) -> [Rate; 16]
     sums
 }
 
-// What the first so many records reserve on a link, wrapping as the sum of one more does.
+// What all records reserve on a link, wrapping as the sum of one more does.
 fn reserved_on(rates: &[u32], links: &[u32], link: usize) -> u32
     requires { ⌜ (length (now rates) ≡ recordCount) × (length (now links) ≡ recordCount) × (link < linkCount) ⌝ }
     ensures { λ r. ⌜ r ≡ sumOn (now (rates .entry)) (now (links .entry)) recordCount link % 2 ^ 32 ⌝ }
