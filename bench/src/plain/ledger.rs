@@ -79,23 +79,27 @@ fn links_of(path: &Path) -> u32 {
 /// Of any two places in a ring of all records, one is among so many behind the other.
 const HALF: usize = RECORDS / 2;
 
-/// No path's number.
-const NO_NUMBER: u32 = LARGEST_NUMBER + 1;
-
-/// Whether two records have one number: each is compared with those of half a ring behind it, so many at a time whatever its place is.
+/// Whether two records, whose numbers have 16 bits, have one number: each is compared with those of half a ring behind it, so many at a time whatever its place is.
+/// The other places of the ring are 0, so 0 is left out there and counted.
 fn repeats(standing: &[Record]) -> bool {
-    let mut ring = [NO_NUMBER; RECORDS + HALF];
+    let mut ring = [0_u16; RECORDS + HALF];
     for (number, record) in ring.iter_mut().zip(standing) {
-        *number = record.number;
+        *number = record.number as u16;
     }
     ring.copy_within(..HALF, RECORDS);
-    ring.array_windows::<{ HALF + 1 }>()
-        .take(standing.len())
-        .fold(false, |repeats, [number, behind @ ..]| {
-            behind
+    let twice = ring
+        .array_windows::<{ HALF + 1 }>()
+        .fold(0_u16, |twice, [number, behind @ ..]| {
+            let met = behind
                 .iter()
-                .fold(repeats, |same, other| same | (other == number))
-        })
+                .fold(0, |met, other| met | u16::from(other == number));
+            twice | if *number == 0 { 0 } else { met }
+        });
+    let zeros: usize = ring[..RECORDS]
+        .iter()
+        .map(|&number| usize::from(number == 0))
+        .sum();
+    twice != 0 || zeros + standing.len() > RECORDS + 1
 }
 
 /// The sums of the rates on each link: a rate is masked by its link's bit.

@@ -3,7 +3,7 @@
 use super::figures::figures;
 use super::meter::{METER_WORDS, Meter};
 use super::sheet::{MOST_OPERATORS, Operator};
-use super::words::bits;
+use super::words::{all_zero, bits};
 use super::{LARGEST, Refusal};
 
 /// The words that a run is lent: 1,024 of the meter, then 64 of each operator.
@@ -31,43 +31,96 @@ impl Stage {
         left: 0,
     };
 
-    /// Tests the stage and its words, and answers section 3's b.
-    fn test(&self, words: &[u32]) -> Result<u64, Refusal> {
-        let beside_fits = match self.operator {
-            Operator::Filter(_) => self.beside <= LARGEST,
-            _ => self.beside == 0,
-        };
-        if !self.operator.in_range() || !beside_fits {
+    /// Tests the stage and its words, and takes the slot by its operator: all in one pass, which asks once of which kind it is.
+    /// Answers the output and whether what stays may be stored, or that the choice is above.
+    #[inline(always)]
+    fn advance(
+        &mut self,
+        words: &[u32],
+        slot: u32,
+        input: u64,
+        choice: u64,
+    ) -> Result<Advanced, Refusal> {
+        if !self.operator.in_range() {
             return Err(Refusal::Unusable);
         }
-        let held = match self.operator {
-            Operator::Delayer(delay) => {
-                if self.held != 0 || bits(&words[delay as usize..]) != 0 {
-                    return Err(Refusal::Unusable);
-                }
-                u64::from(self.entered.wrapping_sub(self.left))
-            }
-            _ => {
-                if self.entered != 0 || self.left != 0 || bits(words) != 0 {
-                    return Err(Refusal::Unusable);
-                }
-                self.held
-            }
+        if let Operator::Delayer(delay) = self.operator {
+            return self.advance_delayer(words, delay, slot, input, choice);
+        }
+        let most_beside = match self.operator {
+            Operator::Filter(_) => LARGEST,
+            _ => 0,
         };
-        if held > LARGEST {
+        if self.held > LARGEST
+            || self.beside > most_beside
+            || (self.entered | self.left) != 0
+            || bits(words) != 0
+        {
             return Err(Refusal::Unusable);
         }
-        Ok(held)
+        let there = self.held + input;
+        let mut beside = 0;
+        let (least, greatest) = match self.operator {
+            Operator::Limiter(rate) => {
+                let sent = there.min(u64::from(rate));
+                (sent, sent)
+            }
+            Operator::Compactor(interval) => {
+                let sent = if slot % interval == 0 { self.held } else { 0 };
+                (sent, sent)
+            }
+            Operator::Expander(interval) => {
+                let last = (slot + 1) % interval == 0;
+                (if last { there } else { 0 }, there)
+            }
+            Operator::Filter(rate) => {
+                beside = (self.beside + input).saturating_sub(u64::from(rate));
+                (there.saturating_sub(beside), there)
+            }
+            Operator::Delayer(_) => (0, there),
+        };
+        if choice > greatest - least {
+            return Ok(Advanced::ChoiceAbove);
+        }
+        let sent = least + choice;
+        self.held = there - sent;
+        self.beside = beside;
+        Ok(Advanced::Sends(
+            sent,
+            self.held <= LARGEST && beside <= LARGEST,
+        ))
+    }
+
+    #[inline(always)]
+    fn advance_delayer(
+        &mut self,
+        words: &[u32],
+        delay: u32,
+        slot: u32,
+        input: u64,
+        choice: u64,
+    ) -> Result<Advanced, Refusal> {
+        let held = u64::from(self.entered.wrapping_sub(self.left));
+        if (self.held | self.beside) != 0 || held > LARGEST || bits(&words[delay as usize..]) != 0 {
+            return Err(Refusal::Unusable);
+        }
+        let recent = self.entered.wrapping_sub(words[(slot % delay) as usize]);
+        let least = held.saturating_sub(u64::from(recent));
+        let there = held + input;
+        if choice > there - least {
+            return Ok(Advanced::ChoiceAbove);
+        }
+        let sent = least + choice;
+        self.entered = self.entered.wrapping_add(input as u32);
+        self.left = self.left.wrapping_add(sent as u32);
+        Ok(Advanced::Sends(sent, there - sent <= LARGEST))
     }
 }
 
-/// What an operator does in a slot.
-#[derive(Clone, Copy, Default)]
-struct Move {
-    input: u64,
-    sent: u64,
-    kept: u64,
-    beside: u64,
+/// What an operator that can be used does in a slot.
+enum Advanced {
+    Sends(u64, bool),
+    ChoiceAbove,
 }
 
 #[derive(Clone, Copy, Debug, PartialEq, Eq)]
@@ -75,11 +128,6 @@ pub struct Run {
     pub meter: Meter,
     pub count: usize,
     pub stages: [Stage; MOST_OPERATORS],
-}
-
-/// The word of a delayer's ring that a slot reads and then writes.
-fn ring_word(k: usize, delay: u32, slot: u32) -> usize {
-    METER_WORDS + OPERATOR_WORDS * k + (slot % delay) as usize
 }
 
 impl Run {
@@ -100,122 +148,76 @@ impl Run {
         })
     }
 
-    /// Takes one slot, with a choice for each operator, and answers the last operator's output.
+    /// Takes one slot, with a choice for each operator, and answers the last operator's output. The operators advance in place; a slot that is refused has its stages back.
     pub fn slot(&mut self, words: &mut [u32], input: u64, choices: &[u64]) -> Result<u64, Refusal> {
         if choices.len() != self.count
             || input > LARGEST
             || choices.iter().fold(0, |bits, &choice| bits | choice) > LARGEST
+            || words.len() != WORDS
+            || self.count == 0
+            || self.count > MOST_OPERATORS
         {
             return Err(Refusal::Unusable);
         }
-        let (room, held) = self.test(words)?;
-        if room.is_none_or(|room| input > room) {
-            return Err(Refusal::InputBreaksDeclaration);
+        let before = self.stages;
+        let output = self.advance(words, input, choices);
+        match output {
+            Ok(_) => self.write(words, input),
+            Err(_) => self.stages = before,
         }
-        let (moves, output) = self.decide(words, &held, input, choices)?;
-        self.write(words, input, choices, &moves);
-        Ok(output)
+        output
     }
 
-    /// Tests all that is stored and lent. Answers the most that the next input may be, if any keeps the declaration, and section 3's b of each operator.
-    fn test(&self, words: &[u32]) -> Result<(Option<u64>, [u64; MOST_OPERATORS]), Refusal> {
-        if words.len() != WORDS || self.count == 0 || self.count > MOST_OPERATORS {
-            return Err(Refusal::Unusable);
-        }
+    /// Tests all that is stored and lent, and decides on all operators from the left, in one pass. What cannot be used is refused first, then the input, then the first choice.
+    fn advance(&mut self, words: &[u32], input: u64, choices: &[u64]) -> Result<u64, Refusal> {
         let (meter_words, operator_words) = words.split_at(METER_WORDS);
         let room = self
             .meter
             .test(meter_words)
             .map_err(|_| Refusal::Unusable)?;
-        let mut held = [0; MOST_OPERATORS];
-        for (k, words) in operator_words.chunks_exact(OPERATOR_WORDS).enumerate() {
-            let stage = &self.stages[k];
-            if k < self.count {
-                held[k] = stage.test(words)?;
-            } else if *stage != Stage::NONE || bits(words) != 0 {
-                return Err(Refusal::Unusable);
-            }
-        }
-        Ok((room, held))
-    }
-
-    /// Decides on all operators, from the left, before anything is written.
-    fn decide(
-        &self,
-        words: &[u32],
-        held: &[u64; MOST_OPERATORS],
-        input: u64,
-        choices: &[u64],
-    ) -> Result<([Move; MOST_OPERATORS], u64), Refusal> {
-        let slot = self.meter.slot;
-        let mut moves = [Move::default(); MOST_OPERATORS];
+        let (used, behind) = operator_words.split_at(OPERATOR_WORDS * self.count);
+        let (stages, empty) = self.stages.split_at_mut(self.count);
         let mut arriving = input;
         let mut storable = true;
-        for (k, &choice) in choices.iter().enumerate() {
-            let stage = &self.stages[k];
-            let there = held[k] + arriving;
-            let mut beside = 0;
-            let (least, greatest) = match stage.operator {
-                Operator::Limiter(rate) => {
-                    let sent = there.min(u64::from(rate));
-                    (sent, sent)
+        let mut above = None;
+        for (k, ((stage, words), &choice)) in stages
+            .iter_mut()
+            .zip(used.chunks_exact(OPERATOR_WORDS))
+            .zip(choices)
+            .enumerate()
+        {
+            match stage.advance(words, self.meter.slot, arriving, choice)? {
+                Advanced::Sends(sent, fits) => {
+                    storable &= fits;
+                    arriving = sent;
                 }
-                Operator::Compactor(interval) => {
-                    let sent = if slot % interval == 0 { held[k] } else { 0 };
-                    (sent, sent)
-                }
-                Operator::Expander(interval) => {
-                    let last = (slot + 1) % interval == 0;
-                    (if last { there } else { 0 }, there)
-                }
-                Operator::Filter(rate) => {
-                    beside = (stage.beside + arriving).saturating_sub(u64::from(rate));
-                    (there.saturating_sub(beside), there)
-                }
-                Operator::Delayer(delay) => {
-                    let before = words[ring_word(k, delay, slot)];
-                    let recent = stage.entered.wrapping_sub(before);
-                    (held[k].saturating_sub(u64::from(recent)), there)
-                }
-            };
-            if choice > greatest - least {
-                return Err(Refusal::ChoiceAboveGreatest(k));
+                Advanced::ChoiceAbove => above = above.or(Some(k)),
             }
-            let sent = least + choice;
-            let kept = there - sent;
-            storable &= kept <= LARGEST && beside <= LARGEST;
-            moves[k] = Move {
-                input: arriving,
-                sent,
-                kept,
-                beside,
-            };
-            arriving = sent;
+        }
+        if empty.iter().any(|stage| *stage != Stage::NONE) || !all_zero(behind) {
+            return Err(Refusal::Unusable);
+        }
+        if room.is_none_or(|room| input > room) {
+            return Err(Refusal::InputBreaksDeclaration);
+        }
+        if let Some(k) = above {
+            return Err(Refusal::ChoiceAboveGreatest(k));
         }
         if !storable {
             return Err(Refusal::Unusable);
         }
-        Ok((moves, arriving))
+        Ok(arriving)
     }
 
-    fn write(
-        &mut self,
-        words: &mut [u32],
-        input: u64,
-        choices: &[u64],
-        moves: &[Move; MOST_OPERATORS],
-    ) {
+    fn write(&mut self, words: &mut [u32], input: u64) {
         let slot = self.meter.slot;
         self.meter.note(words, input);
-        for (k, moved) in moves[..choices.len()].iter().enumerate() {
-            let stage = &mut self.stages[k];
+        for (stage, words) in self.stages[..self.count]
+            .iter()
+            .zip(words[METER_WORDS..].chunks_exact_mut(OPERATOR_WORDS))
+        {
             if let Operator::Delayer(delay) = stage.operator {
-                stage.entered = stage.entered.wrapping_add(moved.input as u32);
-                stage.left = stage.left.wrapping_add(moved.sent as u32);
-                words[ring_word(k, delay, slot)] = stage.entered;
-            } else {
-                stage.held = moved.kept;
-                stage.beside = moved.beside;
+                words[(slot % delay) as usize] = stage.entered;
             }
         }
     }

@@ -8,7 +8,7 @@ pub fn bits(words: &[u32]) -> u32 {
 }
 
 /// The words of a row, which the compiler joins without a loop.
-const ROW: usize = 64;
+const ROW: usize = 128;
 
 /// Whether all of many words are 0: row by row, and then those that are left.
 pub fn all_zero(words: &[u32]) -> bool {
@@ -18,10 +18,19 @@ pub fn all_zero(words: &[u32]) -> bool {
         == 0
 }
 
+/// The low 32 bits of the words' sum, and all their bits.
+fn gathered(words: &[u32]) -> (u32, u32) {
+    words.iter().fold((0, 0), |(sum, bits), &word| {
+        (sum.wrapping_add(word), bits | word)
+    })
+}
+
 /// The sum of at most 1,024 words, and all their bits. Words below 2^22 are added in 32 bits.
 pub fn sum_and_bits(words: &[u32]) -> (u64, u32) {
-    let (sum, bits) = words.iter().fold((0_u32, 0), |(sum, bits), &word| {
-        (sum.wrapping_add(word), bits | word)
+    let (rows, rest) = words.as_chunks::<ROW>();
+    let (sum, bits) = rows.iter().fold(gathered(rest), |(sum, bits), row| {
+        let (of_row, in_row) = gathered(row);
+        (sum.wrapping_add(of_row), bits | in_row)
     });
     if bits < 1 << 22 {
         (u64::from(sum), bits)

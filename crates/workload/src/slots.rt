@@ -7,6 +7,7 @@ use quantity::Units;
 use run::Run;
 use run::opening::open;
 use run::slot::Outcome;
+use run::slot::Slotted;
 use run::slot::slot;
 use sheet::read::Verdict;
 use words::all_clear;
@@ -42,37 +43,58 @@ pub extern "C" fn workload_slots(
 ) -> u64 {
     let opened = open(sheet, words);
     let verdict = opened.verdict;
-    if let Verdict::Refused(why) = verdict {
-        return mix_refusal(0, why);
+    match verdict {
+        Verdict::Refused(why) => mix_refusal(0, why),
+        Verdict::Accepted => {
+            let run = opened.run;
+            slots_of(run, words, inputs, choices, width, turns)
+        }
     }
+}
+
+// Two slots in a turn of the loop, each given the run that the one before it answered, where it stands.
+fn slots_of(
+    run: Run,
+    words: &mut [u32],
+    inputs: &[u64],
+    choices: &[u64],
+    width: usize,
+    turns: u64,
+) -> u64 {
     if inputs.len() == 0 {
         return 0;
     }
     if choices.len() < width {
         return 0;
     }
-    if turns == 0 {
-        return mix_run(0, opened.run);
-    }
-    // the first slot stands apart, so that the call is compiled as a function of its own
-    let first = slot(opened.run, words, Units(inputs[0]), &choices[0..width]);
-    let outcome = first.outcome;
-    let mut sum = mix_outcome(0, outcome);
-    let mut run = first.run;
-    let mut t = after(0, 1, inputs.len());
-    let mut at = after(0, width, choices.len());
-    let mut left = turns - 1;
+    let mut even = Slotted {
+        outcome: Outcome::Sent(Units(0)),
+        run,
+    };
+    let mut sum: u64 = 0;
+    let mut t = 0;
+    let mut at = 0;
+    let mut left = turns;
     while 0 < left {
         let end = at + width;
-        let answer = slot(run, words, Units(inputs[t]), &choices[at..end]);
-        let outcome = answer.outcome;
-        run = answer.run;
+        let odd = slot(even.run, words, Units(inputs[t]), &choices[at..end]);
+        let outcome = odd.outcome;
+        sum = mix_outcome(sum, outcome);
+        t = after(t, 1, inputs.len());
+        at = after(at, width, choices.len());
+        left -= 1;
+        if left == 0 {
+            return mix_run(sum, odd.run);
+        }
+        let end = at + width;
+        even = slot(odd.run, words, Units(inputs[t]), &choices[at..end]);
+        let outcome = even.outcome;
         sum = mix_outcome(sum, outcome);
         t = after(t, 1, inputs.len());
         at = after(at, width, choices.len());
         left -= 1;
     }
-    mix_run(sum, run)
+    mix_run(sum, even.run)
 }
 
 fn mix_outcome(sum: u64, outcome: Outcome) -> u64 {
