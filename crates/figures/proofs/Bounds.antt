@@ -4,18 +4,18 @@ use mathlib.Core.Path.{_≡_, sym, ap, subst, _∙_}
 use mathlib.Core.List.{List}
 use lib.ListN.{length}
 use mathlib.Core.Bool.{Bool, true, false}
-use native.Mathlib.Nat.{le-trans, le-mul-of-pos-right, mul-le-mul-left, mul-le-mul-right, mul-comm, div-mul-le-self, le-min, min-le-left}
+use native.Mathlib.Nat.{le-trans, le-mul-of-pos-right, mul-le-mul, mul-le-mul-left, mul-le-mul-right, mul-comm, div-mul-le-self, le-min, min-le-left}
 use native.Mathlib.Omega.{arith}
 use borrow.Author.Tests.{leb-true}
 use Rattle.quantity.specs.Ranges.{Range, inRange, intervalRange, rateRange, delayRange}
 use Rattle.quantity.specs.Rounding.{roundUp}
 use Rattle.quantity.specs.Choice.{pick}
-use Rattle.quantity.specs.Quantities.{unitsOver}
+use Rattle.quantity.specs.Quantities.{unitsSum, unitsOver}
 use Rattle.quantity.specs.declared.Slots.{Slots}
 use Rattle.quantity.specs.declared.Units.{Units}
 use Rattle.quantity.specs.declared.Rate.{Rate}
 use Rattle.quantity.specs.declared.Delay.{Delay}
-use Rattle.quantity.proofs.Quantities.{units-over}
+use Rattle.quantity.proofs.Quantities.{units-sum, units-over}
 use Rattle.quantity.proofs.Rounding.{round-up-enough, round-up-least}
 use Rattle.quantity.proofs.Sums.{both-true}
 use Rattle.flow.specs.Rows.{Row, rowsBurst}
@@ -62,9 +62,11 @@ rate-within e within = subst (λ (slowest : LeastRate). RateWithin (slowestIn sl
 pub burst-kept : {slowest : LeastRate} {rate : Rate} {burst : Units} {slots : Slots} (c : Class) → slowest ≡ Least rate burst slots → BurstKept c slowest → (burst .0 ≡ burstAt c (rate .0)) × (slots .0 ≡ roundUp (burst .0) (rate .0))
 burst-kept c e kept = subst (BurstKept c) e kept
 
--- e·P, as units
-pub part-units : {over : Units} (rate : Rate) (e : Slots) → over ≡ unitsOver rate e → over .0 ≡ e .0 * rate .0
-part-units rate e made = ap (λ (units : Units). units .0) made ∙ units-over rate e ∙ mul-comm (rate .0) (e .0)
+-- burst + e·P, as units added to units
+pub part-units : (burst over : Units) (rate : Rate) (e : Slots) → over ≡ unitsOver rate e → burst .0 ≤ 134_217_726 → e .0 ≤ mostWith → rate .0 ≤ 65_535 → unitsSum burst over .0 ≡ burst .0 + e .0 * rate .0
+part-units burst over rate e made small short slow =
+    let product : over .0 ≡ e .0 * rate .0 = ap (λ (units : Units). units .0) made ∙ units-over rate e ∙ mul-comm (rate .0) (e .0) in
+    units-sum burst over (omega (arith, mul-le-mul short slow)) ∙ ap (λ (n : ℕ). burst .0 + n) product
 
 slower-within : (P : Slowest) (R : ℕ) → RateWithin P → inRange rateRange R ≡ true → RateWithin (slower P R)
 unfolding slower

@@ -13,12 +13,14 @@ use lib.Seq.{getD-take, length-take-le, getD-set-same, getD-set-other}
 use Rattle.quantity.specs.Limits.{largest32, largestAmount}
 use Rattle.quantity.specs.Choice.{pick, both, either}
 use Rattle.quantity.specs.Ranges.{inRange, delayRange, wantedDelayRange}
+use Rattle.quantity.specs.Quantities.{slotsSum}
 use Rattle.quantity.specs.Sums.{total, listOf}
 use Rattle.quantity.specs.Refusals.{Case, firstOf}
 use Rattle.quantity.specs.declared.Slots.{Slots}
 use Rattle.quantity.specs.declared.refusal.Refusal.{Refusal}
 use Rattle.quantity.specs.declared.refusal.Refusal.the-variants.{DelayAboveWanted}
 use Rattle.quantity.proofs.Refusals.{NoneStands, none-of-both, none-of-each, firstOf-none, firstOf-append, firstOf-map, none-where-result}
+use Rattle.quantity.proofs.Quantities.{slots-sum}
 use Rattle.quantity.proofs.Laws.{pick-true, pick-false}
 use Rattle.quantity.proofs.Sums.{both-true, total-zero, total-suc, total-next, total-le, total-same, listOf-ext}
 use Rattle.operator.specs.Operators.{numberInRange}
@@ -350,17 +352,19 @@ module _ {value : PathValue} (within : PathWithin value) where
             (ap (λ (n : ℕ). getD (value .operators) n noLinkedOperator .operator) (found (omega arith)) ∙ sym (path-operator value (k + 1) follows))
         by-test false e = refl
 
-    -- the sum of the delays fits
-    pub delay-fits : {figure : Figure} → hasFigure figure ≡ plannedAt (inFull value) k → delay .0 + figure .delay .0 ≤ largest32
+    -- the sum of the delays does not stop at its largest number
+    pub delay-counted : {figure : Figure} {later : Slots} → hasFigure figure ≡ plannedAt (inFull value) k → later ≡ slotsSum delay (figure .delay) → later .0 ≡ delay .0 + figure .delay .0
     unfolding figureAt
-    delay-fits {figure} planned =
+    delay-counted {figure} planned sum =
         let own = ap (λ (f : Figure). f .delay .0) (fits-figure (inFull value) k planned) in
+        let fits : delay .0 + figure .delay .0 ≤ largest32 =
         omega (
           arith,
           walked .summed,
           delays-bound (inFull value) path-few (within .inside) k (le-of-lt before-end) (walked .passed),
           delay-bound (inFull value) path-few (within .inside) k before-end (walked .passed),
-        )
+        ) in
+        ap (λ (s : Slots). s .0) sum ∙ slots-sum delay (figure .delay) fits
 
     pub refused-path : {why : Refusal} → hasRefusal why ≡ plannedAt (inFull value) k → refusedFigures why ≡ figuresOfValue value
     unfolding figuresOfValue

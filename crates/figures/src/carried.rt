@@ -139,7 +139,7 @@ pub(crate) fn behind_delayer(carried: Carried, delay: Delay) -> Carried
 {
     let class = carried.class;
     let slowest = carried.slowest;
-    let e = Slots(carried.e.0 + delay.0);
+    let e = carried.e.plus(Slots(delay.0));
     in_part(class, e, slowest)
 }
 
@@ -152,10 +152,7 @@ pub(crate) fn part_held(carried: Carried, declared: Declaration, bound: &[u32]) 
     let slowest = carried.slowest;
     match slowest {
         LeastRate::NoFilter => most_delayed(class, declared, bound, carried.e),
-        LeastRate::Least(rate, burst, _) => {
-            let sent = rate.over(carried.e);
-            Units(burst.0 + sent.0)
-        }
+        LeastRate::Least(rate, burst, _) => burst.plus(rate.over(carried.e)),
     }
 }
 
@@ -176,7 +173,6 @@ pub(crate) fn most_arriving(carried: Carried, declared: Declaration, bound: &[u3
 {
     let class = carried.class;
     let slowest = carried.slowest;
-    let sent = sending(slowest);
-    let late = Slots(sent.0 + carried.e.0);
+    let late = sending(slowest).plus(carried.e);
     most_late(class, declared, bound, late)
 }

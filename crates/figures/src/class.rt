@@ -157,14 +157,6 @@ pub(crate) fn most_delayed(
     }
 }
 
-// How many blocks of an interval begin in so many slots: their quotient is worked out in the slots' own width.
-fn blocks_begun(slots: u32, interval: u32) -> u64
-    requires { ⌜ (1 ≤ interval) × (slots + interval ≤ 4_294_967_295) ⌝ }
-    ensures { λ r. ⌜ r ≡ roundUp slots interval ⌝ }
-{
-    wide((slots + (interval - 1)) / interval)
-}
-
 // The most that arrives in one slot of a flow of the class that is so many slots late: the most of the class in one slot and so many more.
 pub(crate) fn most_late(
     class: FlowClass,
@@ -178,11 +170,11 @@ pub(crate) fn most_late(
     let kind = class.kind;
     match kind {
         Kind::Smooth => {
-            let blocks = blocks_begun(late.0, class.interval.0);
+            let blocks = round_up(wide(late.0), wide(class.interval.0));
             Units((blocks + 1) * class.quota.0)
         }
         Kind::Uniform => {
-            let blocks = blocks_begun(late.0 + 1, class.interval.0);
+            let blocks = round_up(wide(late.0) + 1, wide(class.interval.0));
             Units(blocks * class.quota.0)
         }
         Kind::Rows => Units(wide(bound[late.0 as usize])),

@@ -217,22 +217,27 @@ fn is_expander(operator: Operator) -> bool
     }
 }
 
-// An operator's capacity is for the fullest moment, before it sends, when it has what it held and what arrives. What an expander holds at the most has both already.
+// An operator's figure: its capacity is for the fullest moment, before it sends, when it has what it held and what arrives. What an expander holds at the most has both already.
 pub(crate) fn fullest(
     carried: Carried,
     declared: Declaration,
     bound: &[u32],
     operator: Operator,
-    held: Units,
-) -> Units
-    requires { ⌜ Ready mostBefore declared (now bound) carried × (held .0 ≡ heldFigure (progressIn declared carried) operator) × (held .0 ≤ largestAmount) × ReachesPast (carried .class .kind) declared (now bound) (carried .e .0) ⌝ }
-    ensures { λ r. ⌜ r .0 ≡ capacity (progressIn declared carried) operator ⌝ }
+    held: Figure,
+) -> Figure
+    requires { ⌜ Ready mostBefore declared (now bound) carried × (held .capacity .0 ≡ heldFigure (progressIn declared carried) operator) × (held .capacity .0 ≤ largestAmount) × ReachesPast (carried .class .kind) declared (now bound) (carried .e .0) ⌝ }
+    ensures { λ r. ⌜ (r .capacity .0 ≡ capacity (progressIn declared carried) operator) × (r .delay ≡ held .delay) ⌝ }
 {
     if is_expander(operator) {
         return held;
     }
     let arriving = most_arriving(carried, declared, bound);
-    Units(held.0 + arriving.0)
+    let most = held.capacity;
+    let delay = held.delay;
+    Figure {
+        capacity: most.plus(arriving),
+        delay,
+    }
 }
 
 // The held figure and own delay of operator k, and what is carried behind it; `paired` is whether the next operator is a compactor of its interval.

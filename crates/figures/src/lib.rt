@@ -187,14 +187,8 @@ fn figures_read(answer: ReadSheet, bound: &[u32]) -> PathFigures
                 return planned;
             }
             Planned::Fits(held, behind) => {
-                let most = held.capacity;
-                let own = held.delay;
-                let capacity = fullest(carried, declaration, bound, operator, most);
-                planned.figures[k] = Figure {
-                    capacity,
-                    delay: own,
-                };
-                delay = Slots(delay.0 + own.0);
+                planned.figures[k] = fullest(carried, declaration, bound, operator, held);
+                delay = delay.plus(held.delay);
                 carried = behind;
             }
         }

@@ -12,9 +12,9 @@ use Rattle.sheet.specs.Forms.{inFull}
 use Rattle.sheet.specs.declared.read.Verdict.{Verdict}
 use Rattle.figures.specs.Progress.{start}
 use Rattle.figures.specs.Answers.{refusedFigures}
-use Rattle.figures.specs.Carried.{Lent, hasFigure, outcome, CarriedOn, Readable, PathWithin, figuresOfValue, figuresOfRead}
+use Rattle.figures.specs.Carried.{Lent, outcome, CarriedOn, Readable, PathWithin, figuresOfValue, figuresOfRead}
 use Rattle.figures.proofs.ClassLaws.{reaches-here}
-use Rattle.figures.proofs.EachOperator.{Walked, plannedAt, walked-start, walked-planned, walked-held, walked-next, path-operator, slots-here, operator-ready, paired-here, delay-fits, refused-path, late-path, accepted-path}
+use Rattle.figures.proofs.EachOperator.{Walked, plannedAt, walked-start, walked-planned, walked-held, walked-next, path-operator, slots-here, operator-ready, paired-here, delay-counted, refused-path, late-path, accepted-path}
 use Rattle.figures.proofs.figures_read.Statement.{statement}
 use Rattle.figures.proofs.figures_read.Tie as tie
 
@@ -130,52 +130,45 @@ enum-known-held c = search needs
 
 fullest-requires : tie.Need-fullest-requires Inv-loop μ-loop
 fullest-requires c κs =
-    let at = c .before .before .before .before .before .before .before .before .before .before .before in
-    let (inside, within, verdict, read, walked) = at .loop .inv in
-    let here = c .before .before .before .before .before .before .before .before .before .before .loop-test .taken in
-    let planned = sym (ap outcome (c .before .before .before .held .given .1)) ∙ planned-at (c .before .before .before .before .before) in
+    let (inside, within, verdict, read, walked) = c .before .before .before .before .before .before .before .before .before .loop .inv in
+    let here = c .before .before .before .before .before .before .before .before .loop-test .taken in
+    let planned = sym (ap outcome (c .before .held .given .1)) ∙ planned-at (c .before .before .before) in
     let (same, few) = walked-held walked (sym (path-operator _ _ here)) planned in
+    let at = c .before .before .before .before .before .before .before .before .before in
     let args = at .before .before .before .before .before .before .before .before .args in
     let far = reaches-here (at .loop .carried .class .kind) (args .answer .path .declaration) (args .bound .now) (walked .lent) (readable (at .before) .2) (slots-here within walked here) in
     (operator-ready within walked here .0, same, few, far)
 
-mul-t38 : tie.Need-mul-t38 Inv-loop μ-loop
-mul-t38 c = omega (arith, c .before .before .before .before .before .before .before .before .before .before .before .loop-test .taken, c .before .before .before .before .before .before .before .before .before .before .before .before .loop .inv .1 .few)
+mul-t35 : tie.Need-mul-t35 Inv-loop μ-loop
+mul-t35 c = omega (arith, c .before .before .before .before .before .before .before .before .before .loop-test .taken, c .before .before .before .before .before .before .before .before .before .before .loop .inv .1 .few)
 
 element-set-from-planned : tie.Need-element-set-from-planned Inv-loop μ-loop
-element-set-from-planned c = omega (arith, c .before .before .before .before .before .before .before .before .before .before .before .loop-test .taken, c .before .before .before .before .before .before .before .before .before .before .before .before .loop .inv .1 .few)
+element-set-from-planned c = omega (arith, c .before .before .before .before .before .before .before .before .before .loop-test .taken, c .before .before .before .before .before .before .before .before .before .before .loop .inv .1 .few)
 
--- the operator's held figure and own delay
-held-planned : (c : tie.After-fullest Inv-loop μ-loop) → let turn = c .before .before .before .before .before .before .before .before .before .before .before .before in hasFigure (c .before .before .before .before .held .given .0 .0) ≡ plannedAt (inFull (turn .before .before .before .before .before .before .before .before .args .answer .path)) (turn .loop .k)
-held-planned c = sym (ap outcome (c .before .before .before .before .held .given .1)) ∙ planned-at (c .before .before .before .before .before .before)
-
-add-t41 : tie.Need-add-t41 Inv-loop μ-loop
-add-t41 c =
-    let made = c .before .before in
-    let (inside, within, verdict, read, walked) = made .before .before .before .before .before .before .before .before .before .before .before .before .loop .inv in
-    let fits = delay-fits within walked (made .before .before .before .before .before .before .before .before .before .before .before .loop-test .taken) (held-planned made) in
-    omega (arith, fits)
+plus-requires : tie.Need-plus-requires Inv-loop μ-loop
+plus-requires c κs = search needs
 
 add-k : tie.Need-add-k Inv-loop μ-loop
-add-k c = omega (arith, c .before .before .before .before .before .before .before .before .before .before .before .before .before .loop-test .taken, c .before .before .before .before .before .before .before .before .before .before .before .before .before .before .loop .inv .1 .few)
+add-k c = omega (arith, c .before .before .before .before .before .before .before .before .before .before .loop-test .taken, c .before .before .before .before .before .before .before .before .before .before .before .loop .inv .1 .few)
 
 loop-less : tie.Need-loop-less Inv-loop μ-loop
 loop-less c = omega arith
 
 loop-again : tie.Need-loop-again Inv-loop μ-loop
 loop-again c =
-    let made = c .before .before in
-    let turn = made .before .before .before .before .before .before .before .before .before .before .before .before in
-    let s = turn .before .before .before .before .before .before .before .before in
-    let (inside, within, verdict, read, walked) = turn .loop .inv in
-    let here = made .before .before .before .before .before .before .before .before .before .before .before .loop-test .taken in
+    let s = c .before .before .before .before .before .before .before .before .before .before .before .before .before .before .before .before .before .before .before in
+    let (inside, within, verdict, read, walked) = c .before .before .before .before .before .before .before .before .before .before .before .loop .inv in
+    let here = c .before .before .before .before .before .before .before .before .before .before .loop-test .taken in
     let few = within .few in
-    let (carries, lent, burst) = subst (CarriedOn (s .args .answer .path .declaration) (s .args .bound .now) _) (made .before .before .before .before .held .given .1) (made .before .before .before .before .before .before .plan .ensures .carried) in (
+    let answer = c .before .before .before .held .given .1 in
+    let planned = sym (ap outcome answer) ∙ planned-at (c .before .before .before .before .before) in
+    let (full, same) = c .before .fullest .ensures in
+    let (carries, lent, burst) = subst (CarriedOn (s .args .answer .path .declaration) (s .args .bound .now) _) answer (c .before .before .before .before .before .plan .ensures .carried) in (
       omega (arith, here),
       within,
       verdict,
       read,
-      walked-next walked (omega (arith, here, few)) (sym (path-operator _ _ here)) (held-planned made) (made .fullest .ensures) refl carries lent burst refl,
+      walked-next walked (omega (arith, here, few)) (sym (path-operator _ _ here)) planned full same carries lent burst (delay-counted within walked here planned (c .plus .ensures)),
     )
 
 refused-requires-2 : tie.Need-refused-requires-2 Inv-loop μ-loop
@@ -212,9 +205,9 @@ figures-read-spec =
     returns-2
     enum-known-held
     fullest-requires
-    mul-t38
+    mul-t35
     element-set-from-planned
-    add-t41
+    plus-requires
     add-k
     loop-less
     loop-again
