@@ -3,7 +3,6 @@ pub mod Metering
 mod RingLaws
 mod Least
 mod UsableMeter
-mod PlaceLaws
 pub mod PartsLaws
 mod EarlierRows
 mod AgeLaws

@@ -15,23 +15,23 @@ use Rattle.quantity.specs.declared.refusal.Refusal.the-variants.{Unusable, OutO
 use Rattle.quantity.proofs.Laws.{pick-true, pick-false, picked-false, pick-map, either-first}
 use Rattle.flow.specs.Declarations.{declarationInRange, rowsInOrder}
 use Rattle.meter.specs.Meter.{meterUnusable, declarationCases, roomOf, meterNext, meterOf, meterWordsAfter}
-use Rattle.meter.specs.Parts.{inputsBelow, countedOf, notedOf, wordsNoted}
+use Rattle.meter.specs.Parts.{inputsBelow, awaitedOf, countedOf, inputNoted, blockBehind}
 use Rattle.meter.specs.declared.SourceMeter.{SourceMeter}
+use Rattle.meter.specs.declared.parts.Awaited.{Awaited}
 use Rattle.meter.specs.declared.parts.Counted.{Counted}
 use Rattle.meter.specs.declared.parts.Counted.the-variants.{Below}
-use Rattle.meter.specs.declared.parts.Noted.{Noted}
 use Rattle.meter.specs.declared.Intake.{Intake}
 use Rattle.meter.specs.declared.Metered.{Metered}
 use Rattle.meter.specs.declared.Room.{Room}
 use Rattle.meter.proofs.UsableMeter.{usable-meter}
-use Rattle.meter.proofs.PartsLaws.{within-breaks, room-below, noted-next}
+use Rattle.meter.proofs.PartsLaws.{within-breaks, room-below, noted-next, block-behind-next}
 
 abbrev countCases : SourceMeter → List ℕ → List Case
 countCases x words = (meterUnusable x words ⇒ Unusable) ∷ declarationCases (x .declaration)
 
 -- what a count that a test stands against leads to, and any other
 abbrev countedThen : {A : Type 0} → (Refusal → A) → A → Counted → A
-countedThen refused rest (Below end) = rest
+countedThen refused rest (Below awaited) = rest
 countedThen refused rest Counted.Unusable = refused Unusable
 countedThen refused rest Counted.OutOfRange = refused (OutOfRange 0)
 countedThen refused rest Counted.OutOfOrder = refused (RowsOutOfOrder 0)
@@ -44,17 +44,17 @@ refusedWith x why = record { intake = Intake.Refused why; state = x }
 abbrev stateAfter : SourceMeter → Units → SourceMeter
 stateAfter x block = record { declaration = x .declaration; slot = record { 0 = x .slot .0 + 1 }; block = block }
 
--- what is answered of an input that is noted, or not
-abbrev pub meteredNoted : SourceMeter → Noted → Metered
-meteredNoted x (Noted.Block block) = record { intake = Intake.Taken; state = stateAfter x block }
-meteredNoted x Noted.Unfit = refusedWith x Unusable
+-- what is answered of an input that is taken
+abbrev pub takenWith : SourceMeter → Units → Metered
+takenWith x block = record { intake = Intake.Taken; state = stateAfter x block }
 
 -- what is known of a meter that answered its count
-pub record Counting (x : SourceMeter) (words : List ℕ) (end : ℕ) : Type 0 where
+pub record Counting (x : SourceMeter) (words : List ℕ) (awaited : Awaited) : Type 0 where
   pub tested : meterUnusable x words ≡ false
   pub in-range : declarationInRange (x .declaration) ≡ true
   pub in-order : rowsInOrder (x .declaration) ≡ true
-  pub same : end ≡ inputsBelow x words
+  pub same : awaited ≡ awaitedOf x words
+  pub least : awaited .below .0 ≡ inputsBelow x words
 
 module _ (x : SourceMeter) (words : List ℕ) where
   after-count : {A : Type 0} (refused : Refusal → A) (rest : A) {answer : Counted} → answer ≡ countedOf x words → countedThen refused rest answer ≡ firstOf (countCases x words) refused rest
@@ -64,26 +64,27 @@ module _ (x : SourceMeter) (words : List ℕ) where
       ap then answered
       ∙ pick-map then (meterUnusable x words) Counted.Unusable _
       (pick-map then (not (declarationInRange (x .declaration))) Counted.OutOfRange _
-      (pick-map then (not (rowsInOrder (x .declaration))) Counted.OutOfOrder (Below (record { 0 = inputsBelow x words })) refl))
+      (pick-map then (not (rowsInOrder (x .declaration))) Counted.OutOfOrder (Below (awaitedOf x words)) refl))
 
-  counting : {end : Units} → Below end ≡ countedOf x words → Counting x words (end .0)
-  unfolding countedOf
-  counting {end} answered =
+  counting : {awaited : Awaited} → Below awaited ≡ countedOf x words → Counting x words awaited
+  unfolding countedOf awaitedOf
+  counting {awaited} answered =
       let tested = picked-false (meterUnusable x words) _ _ answered (λ e. let never : _≡_ {A = ℕ} 0 1 = cc in omega arith) in
       let rest = answered ∙ pick-false _ _ _ tested in
       let inside = picked-false (not (declarationInRange (x .declaration))) _ _ rest (λ e. let never : _≡_ {A = ℕ} 0 1 = cc in omega arith) in
       let rest = rest ∙ pick-false _ _ _ inside in
       let rising = picked-false (not (rowsInOrder (x .declaration))) _ _ rest (λ e. let never : _≡_ {A = ℕ} 0 1 = cc in omega arith) in
-      let same : end ≡ record { 0 = inputsBelow x words } = cc (rest ∙ pick-false _ _ _ rising) in
+      let same : awaited ≡ awaitedOf x words = cc (rest ∙ pick-false _ _ _ rising) in
       record {
         tested = tested;
         in-range = not-false (declarationInRange (x .declaration)) inside;
         in-order = not-false (rowsInOrder (x .declaration)) rising;
-        same = ap (λ (u : Units). u .0) same;
+        same = same;
+        least = ap (λ (a : Awaited). a .below .0) same;
       }
 
   -- past the first three tests, the fourth decides
-  passed-count : {A : Type 0} (refused : Refusal → A) (rest : A) {end : ℕ} → Counting x words end → firstOf (countCases x words) refused rest ≡ rest
+  passed-count : {A : Type 0} (refused : Refusal → A) (rest : A) {awaited : Awaited} → Counting x words awaited → firstOf (countCases x words) refused rest ≡ rest
   passed-count refused rest known = pick-false _ _ _ (known .tested) ∙ pick-false _ _ _ (ap not (known .in-range)) ∙ pick-false _ _ _ (ap not (known .in-order))
 
   -- the room
@@ -99,20 +100,20 @@ module _ (x : SourceMeter) (words : List ℕ) where
   unfolding roomOf
   room-unordered answered = after-count Room.Refused _ answered
 
-  module _ {end : Units} (answered : Below end ≡ countedOf x words) where
-    pub room-none : end .0 ≡ 0 → Room.Refused InputBreaksDeclaration ≡ roomOf x words
+  module _ {awaited : Awaited} (answered : Below awaited ≡ countedOf x words) where
+    pub room-none : awaited .below .0 ≡ 0 → Room.Refused InputBreaksDeclaration ≡ roomOf x words
     unfolding roomOf
     room-none none =
         let known = counting answered in
-        let breaks = sym (within-breaks x words 0 (known .in-range)) ∙ ap not (le-ltb 0 (inputsBelow x words) (omega (arith, known .same))) in
+        let breaks = sym (within-breaks x words 0 (known .in-range)) ∙ ap not (le-ltb 0 (inputsBelow x words) (omega (arith, known .least))) in
         sym (passed-count Room.Refused _ known ∙ pick-true _ _ _ breaks)
 
-    pub room-some : (end .0 ≡ 0 → ⊥) → Room.AtMost record { 0 = end .0 - 1 } ≡ roomOf x words
+    pub room-some : (awaited .below .0 ≡ 0 → ⊥) → Room.AtMost record { 0 = awaited .below .0 - 1 } ≡ roomOf x words
     unfolding roomOf
     room-some some =
         let known = counting answered in
-        let keeps = sym (within-breaks x words 0 (known .in-range)) ∙ ap not (lt-ltb 0 (inputsBelow x words) (omega (arith, known .same))) in
-        ap (λ (n : ℕ). Room.AtMost record { 0 = n }) (ap (λ (n : ℕ). n - 1) (known .same) ∙ sym (room-below x words))
+        let keeps = sym (within-breaks x words 0 (known .in-range)) ∙ ap not (lt-ltb 0 (inputsBelow x words) (omega (arith, known .least))) in
+        ap (λ (n : ℕ). Room.AtMost record { 0 = n }) (ap (λ (n : ℕ). n - 1) (known .least) ∙ sym (room-below x words))
         ∙ sym (passed-count Room.Refused _ known ∙ pick-false _ _ _ keeps)
 
 module _ (x : SourceMeter) (words : List ℕ) (input : ℕ) where
@@ -147,26 +148,28 @@ module _ (x : SourceMeter) (words : List ℕ) (input : ℕ) where
     pub take-unordered : Counted.OutOfOrder ≡ countedOf x words → Answers (refusedWith x (RowsOutOfOrder 0)) words
     take-unordered answered = take-refused (RowsOutOfOrder 0) answered (λ A refused rest. refl)
 
-    module _ {end : Units} (answered : Below end ≡ countedOf x words) where
+    module _ {awaited : Awaited} (answered : Below awaited ≡ countedOf x words) where
       -- the slot's number is within the last
       pub slot-left : x .slot .0 ≤ lastSlot
       slot-left = usable-meter x words (counting x words answered .tested) .slot-left
 
-      pub take-breaks : end .0 ≤ input → Answers (refusedWith x InputBreaksDeclaration) words
+      pub take-breaks : awaited .below .0 ≤ input → Answers (refusedWith x InputBreaksDeclaration) words
       unfolding meterOf meterWordsAfter
       take-breaks above =
           let known = counting x words answered in
-          let breaks = sym (within-breaks x words input (known .in-range)) ∙ ap not (le-ltb input (inputsBelow x words) (omega (arith, known .same))) in
+          let breaks = sym (within-breaks x words input (known .in-range)) ∙ ap not (le-ltb input (inputsBelow x words) (omega (arith, known .least))) in
           rw first-test
           (sym (passed-count x words (refusedWith x) _ known ∙ pick-true _ _ _ breaks), sym (passed-count x words (λ why. words) _ known ∙ pick-true _ _ _ breaks))
 
-      pub take-noted : input < end .0 → {answer : Noted} → answer ≡ notedOf x words input → {after : List ℕ} → after ≡ wordsNoted x words input → Answers (meteredNoted x answer) after
-      unfolding meterOf meterWordsAfter meterNext
+      pub take-noted : input < awaited .below .0 → {block : Units} → block ≡ blockBehind awaited (record { 0 = input }) → {after : List ℕ} → after ≡ inputNoted words (awaited .at) input
+          → Answers (takenWith x block) after
+      unfolding meterOf meterWordsAfter meterNext awaitedOf
       take-noted within noted written =
           let known = counting x words answered in
-          let keeps = sym (within-breaks x words input (known .in-range)) ∙ ap not (lt-ltb input (inputsBelow x words) (omega (arith, known .same))) in
-          let (state, stored) = noted-next x words input (known .tested) (known .in-range) (known .in-order) small in
+          let keeps = sym (within-breaks x words input (known .in-range)) ∙ ap not (lt-ltb input (inputsBelow x words) (omega (arith, known .least))) in
+          let block-next = noted ∙ ap (λ (a : Awaited). blockBehind a (record { 0 = input })) (known .same) ∙ block-behind-next x words input (known .tested) (known .in-range) small in
+          let words-next = written ∙ ap (λ (a : Awaited). inputNoted words (a .at) input) (known .same) ∙ noted-next x words input (known .tested) (known .in-range) in
           rw first-test (
-            ap (meteredNoted x) (noted ∙ state) ∙ sym (passed-count x words (refusedWith x) _ known ∙ pick-false _ _ _ keeps),
-            written ∙ stored ∙ sym (passed-count x words (λ why. words) _ known ∙ pick-false _ _ _ keeps),
+            ap (takenWith x) block-next ∙ sym (passed-count x words (refusedWith x) _ known ∙ pick-false _ _ _ keeps),
+            words-next ∙ sym (passed-count x words (λ why. words) _ known ∙ pick-false _ _ _ keeps),
           )

@@ -1,32 +1,31 @@
 -- A meter's input in its parts: what each answers, from its tests in plain facts, and what it answers where the meter can be used.
 use mathlib.Core.Path.{_≡_, refl, ap, sym, _∙_}
 use mathlib.Core.Bool.{Bool, true, false, not}
-use mathlib.Core.List.{List, [], _∷_}
+use mathlib.Core.List.{List}
 use Prim.Native.Nat.{ℕ, suc, _+_, _-_, _%_, _≤_, _<_}
 use native.Mathlib.Nat.{le-dest, mod-lt}
 use native.Mathlib.Omega.{arith}
 use lib.ListN.{length, set, length-set}
 use lib.Seq.{getD-set-same, getD-set-other}
 use lib.Dec.{leb, ltb, eqb}
-use borrow.Author.Tests.{eqb-true, eqb-false}
-use Rattle.quantity.specs.Choice.{pick, either, anyOf}
-use Rattle.quantity.specs.Limits.{largestAmount}
+use borrow.Author.Tests.{eqb-true, eqb-false, lt-ltb, le-ltb}
+use Rattle.quantity.specs.Choice.{pick}
+use Rattle.quantity.specs.Limits.{largestAmount, largest64}
 use Rattle.quantity.specs.Sums.{every, listOf}
-use Rattle.quantity.proofs.Laws.{pick-true, pick-false, either-first, either-second, either-none}
+use Rattle.quantity.proofs.Laws.{pick-true, pick-false}
+use Rattle.quantity.proofs.Quantities.{units-sum}
 use Rattle.quantity.proofs.Sums.{every-same, listOf-ext}
 use Rattle.flow.specs.Declarations.{rowCount, rowAt, declarationInRange, rowsInOrder}
 use Rattle.words.specs.Stored.{wordAt}
 use Rattle.meter.specs.Meter.{meterWordCount, usesBlock, ringLength, meterUnusable, blockBefore, countedBefore, inputBreaks, roomIn, leastBelow, blockNext, meterWordNext}
-use Rattle.meter.specs.Parts.{inputsBelow, countedOf, hasPlace, noteUnfit, notedOf, wordsNoted}
+use Rattle.meter.specs.Parts.{inputsBelow, inputPlace, awaitedOf, countedOf, inputNoted, blockBehind}
 use Rattle.meter.specs.declared.SourceMeter.{SourceMeter}
 use Rattle.meter.specs.declared.parts.Counted.{Counted}
 use Rattle.meter.specs.declared.parts.Counted.the-variants.{Below}
-use Rattle.meter.specs.declared.parts.Noted.{Noted}
 use Rattle.flow.proofs.Declarations.{one-count, one-at}
-use Rattle.words.proofs.StoredLaws.{either-last, anyOf-append, unfitTests, fit, none-unfit, stored-le}
+use Rattle.words.proofs.StoredLaws.{stored-le}
 use Rattle.meter.proofs.Least.{leastFrom, least-from-last, least-less-one, below-least, within-below}
-use Rattle.meter.proofs.UsableMeter.{usable-meter, declaration-ranged, smooth-one, counted-block}
-use Rattle.meter.proofs.PlaceLaws.{ring-placed, place-ranged}
+use Rattle.meter.proofs.UsableMeter.{UsableMeter, Ranged, usable-meter, declaration-ranged, smooth-one, counted-block, ring-large, ring-fits, block-before-le}
 
 -- What the count answers.
 
@@ -45,7 +44,7 @@ module _ (x : SourceMeter) (words : List ℕ) where
       unfolding countedOf
       counted-unordered unordered = rw (usable, ranged, unordered)
 
-      pub counted-next : rowsInOrder (x .declaration) ≡ true → countedOf x words ≡ Below (record { 0 = inputsBelow x words })
+      pub counted-next : rowsInOrder (x .declaration) ≡ true → countedOf x words ≡ Below (awaitedOf x words)
       unfolding countedOf
       counted-next ordered = rw (usable, ranged, ordered)
 
@@ -90,78 +89,63 @@ module _ (x : SourceMeter) (words : List ℕ) where
   unfolding roomIn inputsBelow
   room-below = least-less-one leaves _ (λ i. omega arith) (rowCount (x .declaration))
 
--- What the writing answers.
+-- What is known of an input.
 
-module _ (x : SourceMeter) (words : List ℕ) (input : ℕ) where
-  -- what is answered, and what the words are then
-  abbrev Noting : Noted → List ℕ → Type 0
-  Noting answer after = (answer ≡ notedOf x words input) × (after ≡ wordsNoted x words input)
+module _ (x : SourceMeter) (words : List ℕ) {below : ℕ} (least : below ≡ inputsBelow x words) where
+  -- with a block
+  pub awaited-block : usesBlock (x .declaration .kind) ≡ true → {block : ℕ} → block ≡ blockBefore x
+      → record { below = record { 0 = below }; block = record { 0 = block }; at = meterWordCount } ≡ awaitedOf x words
+  unfolding awaitedOf inputPlace
+  awaited-block smooth so-far = rw (smooth, least, so-far)
 
-  abbrev tests : List Bool
-  tests = unfitTests (length words) meterWordCount (x .slot .0) (x .block .0) input
+  -- with a ring
+  pub awaited-ring : usesBlock (x .declaration .kind) ≡ false → {at : ℕ} → at ≡ x .slot .0 % ringLength (x .declaration)
+      → record { below = record { 0 = below }; block = record { 0 = 0 }; at = at } ≡ awaitedOf x words
+  unfolding awaitedOf inputPlace
+  awaited-ring ring place = rw (ring, least, place)
 
-  -- the place is tested behind the numbers
-  place-last : noteUnfit x words input ≡ either (anyOf tests) (not (hasPlace (x .declaration)))
-  place-last = anyOf-append tests (not (hasPlace (x .declaration)) ∷ []) ∙ ap (either (anyOf tests)) (either-last (not (hasPlace (x .declaration))))
+-- What is written where the meter can be used.
 
-  unfit : noteUnfit x words input ≡ true → Noting Noted.Unfit words
-  unfolding notedOf wordsNoted
-  unfit test = (sym (pick-true _ _ _ test), sym (pick-true _ _ _ test))
+module _ (x : SourceMeter) (words : List ℕ) (input : ℕ) (usable : meterUnusable x words ≡ false) (in-range : declarationInRange (x .declaration) ≡ true) where
+  stored : UsableMeter x words
+  stored = usable-meter x words usable
 
-  pub noted-unfit : anyOf tests ≡ true → Noting Noted.Unfit words
-  noted-unfit test = unfit (place-last ∙ either-first (anyOf tests) _ test)
+  ranged : Ranged (x .declaration)
+  ranged = declaration-ranged (x .declaration) in-range
 
-  pub noted-nowhere : hasPlace (x .declaration) ≡ false → Noting Noted.Unfit words
-  noted-nowhere none = unfit (place-last ∙ either-second (anyOf tests) _ (ap not none))
+  abbrev place : ℕ
+  place = x .slot .0 % ringLength (x .declaration)
 
-  module _ (passed : anyOf tests ≡ false) (placed : hasPlace (x .declaration) ≡ true) where
-    noting : Noting (Noted.Block (record { 0 = blockNext x input })) (listOf (meterWordNext x words input) meterWordCount)
-    unfolding notedOf wordsNoted
-    noting =
-        let none = place-last ∙ either-none (anyOf tests) _ passed (ap not placed) in
-        (sym (pick-false _ _ _ none), sym (pick-false _ _ _ none))
+  place-within : usesBlock (x .declaration .kind) ≡ false → place < meterWordCount
+  place-within ring = omega (arith, mod-lt (x .slot .0) (ring-large (x .declaration) ring ranged), ring-fits (x .declaration) ring ranged)
 
-    sized : length words ≡ meterWordCount
-    sized = fit (length words) meterWordCount (x .slot .0) (x .block .0) input passed .sized
+  word-set : place < length words → (j : ℕ) (test : Bool) → eqb j place ≡ test → wordAt (set words place input) j ≡ pick test input (wordAt words j)
+  word-set inside j true e = rw (eqb-true j _ e) (getD-set-same words place input 0 inside)
+  word-set inside j false e = getD-set-other words place j input 0 (eqb-false j _ e)
 
-    -- with a block, the words stay
-    pub noted-block : usesBlock (x .declaration .kind) ≡ true → Noting (Noted.Block (record { 0 = blockBefore x + input })) words
-    unfolding blockNext meterWordNext
-    noted-block smooth = (
-      ap (λ (n : ℕ). Noted.Block (record { 0 = n })) (sym (pick-true _ _ _ smooth)) ∙ noting .0,
-      listOf-ext 0 (meterWordNext x words input) meterWordCount words sized (λ j less. rw smooth) ∙ noting .1,
-    )
+  -- with a block the words stay, and with a ring the input replaces the word of its slot
+  pub noted-next : inputNoted words (inputPlace x) input ≡ listOf (meterWordNext x words input) meterWordCount
+  unfolding inputNoted inputPlace meterWordNext
+  noted-next = by-kind (usesBlock (x .declaration .kind)) refl
+    where
+      by-kind : (smooth : Bool) → usesBlock (x .declaration .kind) ≡ smooth → inputNoted words (inputPlace x) input ≡ listOf (meterWordNext x words input) meterWordCount
+      by-kind true smooth =
+          rw smooth
+          (pick-false _ _ _ (le-ltb meterWordCount (length words) (omega (arith, stored .sized)))
+          ∙ listOf-ext 0 (meterWordNext x words input) meterWordCount words (stored .sized) (λ j less. rw smooth))
+      by-kind false ring =
+          let inside : place < length words = omega (arith, place-within ring, stored .sized) in
+          rw ring
+          (pick-true _ _ _ (lt-ltb place (length words) inside)
+          ∙ listOf-ext 0 (meterWordNext x words input) meterWordCount (set words place input) (length-set words place input ∙ stored .sized) (λ j less. rw ring (word-set inside j (eqb j place) refl)))
 
-    module _ (ring : usesBlock (x .declaration .kind) ≡ false) where
-      abbrev place : ℕ
-      place = x .slot .0 % ringLength (x .declaration)
-
-      -- the word that the input replaces is among the words
-      pub place-within : place < length words
-      place-within = let (large, within) = ring-placed (x .declaration) ring placed in omega (arith, mod-lt (x .slot .0) large, sized)
-
-      -- with a ring, the input replaces the word of its slot
-      pub noted-word : Noting (Noted.Block (record { 0 = 0 })) (set words place input)
-      unfolding blockNext meterWordNext
-      noted-word = (
-        ap (λ (n : ℕ). Noted.Block (record { 0 = n })) (sym (pick-false _ _ _ ring)) ∙ noting .0,
-        listOf-ext 0 (meterWordNext x words input) meterWordCount (set words place input)
-            (length-set words place input ∙ sized)
-            (λ j less. rw ring (word-set j (eqb j place) refl))
-            ∙ noting .1,
-      )
-        where
-          word-set : (j : ℕ) (test : Bool) → eqb j place ≡ test → wordAt (set words place input) j ≡ pick test input (wordAt words j)
-          word-set j true e = rw (eqb-true j _ e) (getD-set-same words place input 0 place-within)
-          word-set j false e = getD-set-other words place j input 0 (eqb-false j _ e)
-
--- where the meter can be used
-pub noted-next : (x : SourceMeter) (words : List ℕ) (input : ℕ) → meterUnusable x words ≡ false → declarationInRange (x .declaration) ≡ true → rowsInOrder (x .declaration) ≡ true
-    → input ≤ largestAmount
-    → (notedOf x words input ≡ Noted.Block (record { 0 = blockNext x input })) × (wordsNoted x words input ≡ listOf (meterWordNext x words input) meterWordCount)
-noted-next x words input usable ranged ordered small =
-    let stored = usable-meter x words usable in
-    let block-le = stored-le (usesBlock (x .declaration .kind)) (x .block .0) (stored .block-fits) in
-    let tested = none-unfit (length words) meterWordCount (x .slot .0) (x .block .0) input (record { sized = stored .sized; slot-left = stored .slot-left; first-le = block-le; second-le = small }) in
-    let (answer, after) = noting x words input tested (place-ranged (x .declaration) (declaration-ranged (x .declaration) ranged)) in
-    (sym answer, sym after)
+  -- and the block's total is the next one's
+  pub block-behind-next : input ≤ largestAmount → blockBehind (awaitedOf x words) (record { 0 = input }) ≡ record { 0 = blockNext x input }
+  unfolding blockBehind awaitedOf inputPlace blockNext
+  block-behind-next small = by-kind (usesBlock (x .declaration .kind)) refl
+    where
+      by-kind : (smooth : Bool) → usesBlock (x .declaration .kind) ≡ smooth → blockBehind (awaitedOf x words) (record { 0 = input }) ≡ record { 0 = blockNext x input }
+      by-kind true smooth =
+          let fits : blockBefore x + input ≤ largest64 = omega (arith, block-before-le x, stored-le (usesBlock (x .declaration .kind)) (x .block .0) (stored .block-fits), small) in
+          rw smooth (ap (λ (n : ℕ). record { 0 = n }) (units-sum (record { 0 = blockBefore x }) (record { 0 = input }) fits))
+      by-kind false ring = rw ring (pick-true _ _ _ (lt-ltb place meterWordCount (place-within ring)))

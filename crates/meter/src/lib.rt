@@ -1,7 +1,7 @@
 // A meter: whether a slot's input keeps the declaration (document 01, sections 2, 6 and 7).
 
 use crate::parts::Counted;
-use crate::parts::Noted;
+use crate::parts::block_behind;
 use crate::parts::counted_before;
 use crate::parts::note;
 use flow::Declaration;
@@ -47,7 +47,8 @@ pub fn room_left(state: SourceMeter, words: &[u32]) -> Room
         Counted::Unusable => Room::Refused(Refusal::Unusable),
         Counted::OutOfRange => Room::Refused(Refusal::OutOfRange(0)),
         Counted::OutOfOrder => Room::Refused(Refusal::RowsOutOfOrder(0)),
-        Counted::Below(end) => {
+        Counted::Below(awaited) => {
+            let end = awaited.below;
             if end.0 == 0 {
                 return Room::Refused(Refusal::InputBreaksDeclaration);
             }
@@ -67,14 +68,12 @@ pub fn take(state: SourceMeter, words: &mut [u32], input: Units) -> Metered
         Counted::Unusable => refused(state, Refusal::Unusable),
         Counted::OutOfRange => refused(state, Refusal::OutOfRange(0)),
         Counted::OutOfOrder => refused(state, Refusal::RowsOutOfOrder(0)),
-        Counted::Below(end) => {
-            if end.0 <= input.0 {
+        Counted::Below(awaited) => {
+            if awaited.below.0 <= input.0 {
                 return refused(state, Refusal::InputBreaksDeclaration);
             }
-            match note(state, words, input) {
-                Noted::Block(block) => taken(state, block),
-                Noted::Unfit => refused(state, Refusal::Unusable),
-            }
+            note(words, awaited.at, input.0 as u32);
+            taken(state, block_behind(awaited, input))
         }
     }
 }

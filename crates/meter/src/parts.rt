@@ -10,7 +10,7 @@ use std::num::wrapping_add_u32;
 use words::Gathered;
 ghost use mathlib.Core.Path.{_≡_};
 ghost use mathlib.Core.Bool.{true, false};
-ghost use Prim.Native.Nat.{_+_, _-_, _≤_, _<_, min};
+ghost use Prim.Native.Nat.{_+_, _-_, _%_, _≤_, _<_, min};
 ghost use lib.ListN.{length};
 ghost use Rattle.quantity.specs.Choice.{pick};
 ghost use Rattle.quantity.specs.Limits.{largestAmount};
@@ -20,77 +20,67 @@ ghost use Rattle.words.specs.Gathering.{mostExact};
 ghost use Rattle.flow.specs.Declarations.{declarationInRange, rowsInOrder};
 ghost use Rattle.meter.specs.Meter.{meterWordCount, usesBlock, ringLength, meterUnusable, blockBefore, wordBefore};
 ghost use Rattle.meter.specs.Counting.{RowsTested, AgesGathered};
-ghost use Rattle.meter.specs.Parts.{inputsBelow, countedOf, hasPlace, notedOf, wordsNoted};
+ghost use Rattle.meter.specs.Parts.{inputsBelow, awaitedOf, countedOf, inputNoted, blockBehind};
 
 // The words of a meter.
 const WORDS: usize = 1024;
 
-// What the next input has to be below.
+// What is known of the next input: what it has to be below, the block's total before it, and the word that it is noted in; where there is a block there is none, and 1,024 stands for that.
+pub struct Awaited {
+    pub below: Units,
+    pub block: Units,
+    pub at: usize,
+}
+
+// What counting answers.
 pub enum Counted {
-    Below(Units),
+    Below(Awaited),
     Unusable,
     OutOfRange,
     OutOfOrder,
 }
 
-// What noting answers: the block's total behind the slot, 0 where there is a ring.
-pub enum Noted {
-    Block(Units),
-    Unfit,
-}
-
-// Test: what the next input has to be below, so that it keeps every row. Under several rows each word is visited once, unless one is so large that a sum could wrap.
+// Test: what the next input has to be below, so that it keeps every row, and where it goes. Under several rows each word is visited once, unless one is so large that a sum could wrap.
 pub fn counted_before(state: SourceMeter, words: &[u32]) -> Counted
     ensures { λ r. ⌜ r ≡ countedOf state (now (words .entry)) ⌝ }
 {
     if rows_tested(state, words) {
         let rows = rows_below(state, words);
         if rows.join <= words::MOST_EXACT {
-            return Counted::Below(Units(rows.least));
+            return Counted::Below(Awaited {
+                below: Units(rows.least),
+                block: Units(0),
+                at: rows.at,
+            });
         }
     }
     counted_by_scan(state, words)
 }
 
-// Write: the block's total, and the input's word where there is a ring. No word is tested, no quota, and of the declaration only that the slot has a place.
-pub fn note(state: SourceMeter, words: &mut [u32], input: Units) -> Noted
-    ensures { λ r. ⌜ (r ≡ notedOf state (now (words .entry)) (input .0)) × (now (words .exit) ≡ wordsNoted state (now (words .entry)) (input .0)) ⌝ }
+// Write: the word that counting answered becomes the input. Where there is a block there is none, and no word is written.
+pub fn note(words: &mut [u32], at: usize, input: u32)
+    ensures { λ _. ⌜ now (words .exit) ≡ inputNoted (now (words .entry)) at input ⌝ }
 {
-    if words::unfit(words.len(), WORDS, state.slot.0, state.block.0, input.0) {
-        return Noted::Unfit;
+    if at < words.len() {
+        words[at] = input;
     }
-    let declaration = state.declaration;
-    if !has_place(declaration) {
-        return Noted::Unfit;
-    }
-    let kind = declaration.kind;
-    if uses_block(kind) {
-        return Noted::Block(Units(block_before(state) + input.0));
-    }
-    let at = state.slot.0 as usize % ring_length(declaration);
-    words[at] = input.0 as u32;
-    Noted::Block(Units(0))
 }
 
-// Whether a slot has a place: in a block, or in a ring within the words.
-fn has_place(declaration: Declaration) -> bool
-    ensures { λ r. ⌜ r ≡ hasPlace declaration ⌝ }
+// The block's total behind an input, 0 where that is noted in a word.
+pub fn block_behind(awaited: Awaited, input: Units) -> Units
+    ensures { λ r. ⌜ r ≡ blockBehind awaited input ⌝ }
 {
-    let kind = declaration.kind;
-    if uses_block(kind) {
-        return 1 <= declaration.interval.0;
+    if awaited.at < WORDS {
+        return Units(0);
     }
-    let ring = ring_length(declaration);
-    if ring == 0 {
-        return false;
-    }
-    ring <= WORDS
+    awaited.block.plus(input)
 }
 
-// What one pass over the words finds under several rows: the words joined, and what the input has to be below where none of them is large.
+// What one pass over the words finds under several rows: the words joined, what the input has to be below where none of them is large, and its word.
 struct RowsBelow {
     join: u32,
     least: u64,
+    at: usize,
 }
 
 // Whether there are several rows, and no test stands but those of the words in the ring.
@@ -128,6 +118,7 @@ fn rows_tested(state: SourceMeter, words: &[u32]) -> bool
 fn rows_below(state: SourceMeter, words: &[u32]) -> RowsBelow
     requires { ⌜ RowsTested state (now words) ⌝ }
     ensures { λ r. ⌜ (r .join ≤ mostExact → (every (wordFits (ringLength (state .declaration)) (now (words .entry))) meterWordCount ≡ true) × (r .least ≡ inputsBelow state (now (words .entry)))) ⌝ }
+    ensures { λ r. ⌜ r .at ≡ state .slot .0 % ringLength (state .declaration) ⌝ }
 {
     let declaration = state.declaration;
     let count = declaration.count;
@@ -149,7 +140,7 @@ fn rows_below(state: SourceMeter, words: &[u32]) -> RowsBelow
         least = smaller(least, left_below(row.quota.0, low as u64));
         i = i + 1;
     }
-    RowsBelow { join, least }
+    RowsBelow { join, least, at }
 }
 
 // The words of the slots before the one at `at`, from age `from` to below age `to`, joined and added: one part of the words, or two.
@@ -189,7 +180,7 @@ fn counted_by_scan(state: SourceMeter, words: &[u32]) -> Counted
             if !declaration.in_order() {
                 return Counted::OutOfOrder;
             }
-            Counted::Below(Units(inputs_below(state, words, units)))
+            Counted::Below(awaited_in(state, words, units))
         }
     }
 }
@@ -224,31 +215,40 @@ fn stored_in(state: SourceMeter, words: &[u32]) -> Stored
     Stored::Words(scanned.units)
 }
 
-// What the next input has to be below: by the block's total, or by the words of the ring.
-fn inputs_below(state: SourceMeter, words: &[u32], units: u64) -> u64
+// What is known of the next input: by the block's total, or by the words of the ring.
+fn awaited_in(state: SourceMeter, words: &[u32], units: u64) -> Awaited
     requires { ⌜ (meterUnusable state (now words) ≡ false) × (declarationInRange (state .declaration) ≡ true) × (rowsInOrder (state .declaration) ≡ true) × (units ≡ total (wordAt (now words)) meterWordCount) ⌝ }
-    ensures { λ r. ⌜ r ≡ inputsBelow state (now (words .entry)) ⌝ }
+    ensures { λ r. ⌜ r ≡ awaitedOf state (now (words .entry)) ⌝ }
 {
     let declaration = state.declaration;
     let kind = declaration.kind;
     if uses_block(kind) {
-        return left_below(declaration.quota.0, block_before(state));
+        let block = block_before(state);
+        return Awaited {
+            below: Units(left_below(declaration.quota.0, block)),
+            block: Units(block),
+            at: WORDS,
+        };
     }
-    ring_below(state, words, units)
+    awaited_in_ring(state, words, units)
 }
 
 // The last row counts all words but the one that the input replaces. A row before it counts the words of the row before and those up to its own reach;
 // a uniform declaration has no row before its last, and its count is 0. Where the last row leaves something, no sum is above its quota, so 32 bits are enough.
-fn ring_below(state: SourceMeter, words: &[u32], units: u64) -> u64
+fn awaited_in_ring(state: SourceMeter, words: &[u32], units: u64) -> Awaited
     requires { ⌜ (usesBlock (state .declaration .kind) ≡ false) × (meterUnusable state (now words) ≡ false) × (declarationInRange (state .declaration) ≡ true) × (rowsInOrder (state .declaration) ≡ true) × (units ≡ total (wordAt (now words)) meterWordCount) ⌝ }
-    ensures { λ r. ⌜ r ≡ inputsBelow state (now (words .entry)) ⌝ }
+    ensures { λ r. ⌜ r ≡ awaitedOf state (now (words .entry)) ⌝ }
 {
     let declaration = state.declaration;
     let last = declaration.last_row();
     let at = (state.slot.0 % last.interval.0) as usize;
     let mut least = left_below(last.quota.0, units - words[at] as u64);
     if least == 0 {
-        return 0;
+        return Awaited {
+            below: Units(0),
+            block: Units(0),
+            at,
+        };
     }
     let ring = last.interval.0 as usize;
     let count = declaration.count;
@@ -264,7 +264,11 @@ fn ring_below(state: SourceMeter, words: &[u32], units: u64) -> u64
         least = smaller(least, left_below(row.quota.0, counted as u64));
         i = i + 1;
     }
-    least
+    Awaited {
+        below: Units(least),
+        block: Units(0),
+        at,
+    }
 }
 
 // The words of the slots before the one at `at`, from age `from` to below age `to`, in a ring: one part of the words, or two.

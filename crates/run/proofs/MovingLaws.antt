@@ -37,7 +37,7 @@ use Rattle.run.specs.declared.test.Begun.{Begun}
 use Rattle.run.specs.Calls.{Call, choiceFor, choicesMiscounted, amountTooLarge, callOf}
 use Rattle.run.specs.Runs.{operatorAtWord, operatorWords, noStage, stageAt, operatorOf, operatorIn, stageFits, runUnusable}
 use Rattle.run.specs.Slots.{inputInto, choiceAboveAt, choiceCases, runHoldsNext, leavesTooMuchAt, slotLeavesTooMuch, operatorNext, stageNext, slotCases}
-use Rattle.run.specs.Steps.{belowIn, notBegun, meterBegunOf, begunOf, stageKept, firstProgress, onceSent, onceUnusable, onceAbove, decisionCases}
+use Rattle.run.specs.Steps.{awaitedIn, notBegun, meterBegunOf, begunOf, stageKept, firstProgress, onceSent, onceUnusable, onceAbove, decisionCases}
 use Rattle.run.proofs.PathAnswers.{path-sent-fits, path-b-le, Sending, sends-told, above-told, unusable-told}
 use Rattle.run.proofs.UsableRun.{MeterFits, usable-fits, run-unusable, stage-usable, stage-number}
 use Rattle.run.proofs.TestLaws.{named-fits, meter-begun}
@@ -66,7 +66,7 @@ module _ {run : Run} {words : List ℕ} {input : Units} {choices : List ℕ} (re
   unfolding choicesMiscounted
   counted = eqb-true (length choices) (run .count) (not-false _ (ready .miscounted))
 
-  input-le : input .0 ≤ largestAmount
+  pub input-le : input .0 ≤ largestAmount
   unfolding amountTooLarge
   input-le = ltb-false largestAmount (input .0) (either-false (ltb largestAmount (input .0)) _ (ready .large) .0)
 
@@ -74,7 +74,7 @@ module _ {run : Run} {words : List ℕ} {input : Units} {choices : List ℕ} (re
 pub record Begins (run : Run) (words : List ℕ) (input : Units) (choices : List ℕ) (begun : Begun) : Type 0 where
   pub ready : Ready run words input choices
   pub count : begun .count ≡ run .count
-  pub below : begun .below .0 ≡ belowIn run words
+  pub awaited : begun .awaited ≡ awaitedIn run words
 
 module _ (run : Run) (words : List ℕ) (input : Units) (choices : List ℕ) {begun : Begun} (same : begun ≡ begunOf run words (callOf input choices)) where
   abbrev call : Call
@@ -91,7 +91,7 @@ module _ (run : Run) (words : List ℕ) (input : Units) (choices : List ℕ) {be
       by-tests false false e f made =
           ⊎-elim
           (λ none. inl (none .0, inr (e, inr (f, inl (run-unusable run words (λ usable. none .1 (usable-fits run words usable)), refl)))))
-          (λ some. inr (record { ready = record { miscounted = e; large = f; fits = some .0 }; count = some .1 .0; below = ap (λ (u : Units). u .0) (some .1 .1) }))
+          (λ some. inr (record { ready = record { miscounted = e; large = f; fits = some .0 }; count = some .1 .0; awaited = some .1 .1 }))
           (meter-begun run words made)
 
   pub begins : {k : ℕ} → k < begun .count → Begins run words input choices begun

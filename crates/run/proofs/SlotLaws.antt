@@ -19,6 +19,7 @@ use Rattle.quantity.proofs.Laws.{pick-true, pick-false, either-first}
 use Rattle.quantity.proofs.Sums.{both-true, every-same, listOf-ext}
 use Rattle.quantity.proofs.Refusals.{NoneStands, FirstIs}
 use Rattle.operator.specs.Ring.{ringPlace, totalNoted}
+use Rattle.meter.specs.Parts.{awaitedOf}
 use Rattle.meter.proofs.PartsLaws.{within-breaks}
 use Rattle.sheet.specs.declared.read.Verdict.{Verdict}
 use Rattle.run.specs.declared.Stage.{Stage}
@@ -30,7 +31,7 @@ use Rattle.run.specs.declared.test.Begun.{Begun}
 use Rattle.run.specs.Calls.{Call, choiceFor, choicesMiscounted, amountTooLarge, callOf}
 use Rattle.run.specs.Runs.{runWordCount, meterWords, noStage, stageAt, meterIn, operatorOf, operatorIn, stageFits, runUnusable}
 use Rattle.run.specs.Slots.{slotBreaks, slotCases, slotOutput, stageNext, refusedSlot, takenSlot, slottedOf, wordsSlotted}
-use Rattle.run.specs.Steps.{stageEmpty, emptyBehind, belowIn, notBegun, meterBegunOf, begunOf, behindClear, judgedOf, outcomeOf, runAdvanced, ringNoted, runWritten, wordWritten, decisionCases}
+use Rattle.run.specs.Steps.{stageEmpty, emptyBehind, awaitedIn, notBegun, meterBegunOf, begunOf, behindClear, judgedOf, outcomeOf, runAdvanced, ringNoted, runWritten, wordWritten, decisionCases}
 use Rattle.run.proofs.UsableRun.{MeterFits}
 use Rattle.run.proofs.TestLaws.{stages-told, usable-told}
 use Rattle.run.proofs.MovingLaws.{Ready, Begins, begun-or-not, Passing, Moving, standing-decided, unusable-decided, none-decided}
@@ -162,9 +163,9 @@ module _ (run : Run) (words : List ℕ) (input : Units) (choices : List ℕ) {be
         ∙ stages-told run words fits
         ∙ usable-told run words fits
 
-    breaks-told : not (ltb (input .0) (begun .below .0)) ≡ slotBreaks run words call
-    unfolding belowIn slotBreaks meterIn
-    breaks-told = rw (begins .below) (within-breaks (meterIn run) (meterWords words) (input .0) (fits .declared))
+    breaks-told : not (ltb (input .0) (begun .awaited .below .0)) ≡ slotBreaks run words call
+    unfolding awaitedIn awaitedOf slotBreaks meterIn
+    breaks-told = rw (begins .awaited) (within-breaks (meterIn run) (meterWords words) (input .0) (fits .declared))
 
     -- an operator that has advanced has its place
     place-next : (k : ℕ) → ringPlace (operatorIn run k) ≡ ringPlace (operatorOf (stageNext run words call k) (run .slot))
@@ -214,7 +215,7 @@ module _ (run : Run) (words : List ℕ) (input : Units) (choices : List ℕ) {be
             stage-next passing i true e = passing .advanced i (ltb-true i (run .count) e)
             stage-next passing i false e = moving .later i (ltb-false i (run .count) e)
 
-    some-begun : {usable : Bool} → Told usable → {verdict : Verdict} → verdict ≡ judgedOf usable (begun .below .0) (input .0) p → Judged verdict
+    some-begun : {usable : Bool} → Told usable → {verdict : Verdict} → verdict ≡ judgedOf usable (begun .awaited .below .0) (input .0) p → Judged verdict
     unfolding judgedOf
     some-begun {usable} told {verdict} judged = by-usable usable refl
       where
@@ -222,12 +223,12 @@ module _ (run : Run) (words : List ℕ) (input : Units) (choices : List ℕ) {be
         by-breaks stored fit true breaks =
             inl (record {
               why = InputBreaksDeclaration;
-              refused = judged ∙ pick-false _ _ _ (ap not fit) ∙ pick-true _ _ _ (le-leb (begun .below .0) (input .0) (ltb-false (input .0) (begun .below .0) (not-true _ (breaks-told ∙ breaks))));
+              refused = judged ∙ pick-false _ _ _ (ap not fit) ∙ pick-true _ _ _ (le-leb (begun .awaited .below .0) (input .0) (ltb-false (input .0) (begun .awaited .below .0) (not-true _ (breaks-told ∙ breaks))));
               first = inr (ready .miscounted, inr (ready .large, inr (stored, inl (breaks, refl))));
             })
         by-breaks stored fit false keeps =
             decided stored keeps (both-true (p .usable) _ (both-true (both (p .usable) (every (emptyBehind (begun .count) stages) mostOperators)) _ (sym told ∙ fit) .0) .0)
-            (judged ∙ pick-false _ _ _ (ap not fit) ∙ pick-false _ _ _ (lt-leb (begun .below .0) (input .0) (ltb-true (input .0) (begun .below .0) (not-false _ (breaks-told ∙ keeps)))))
+            (judged ∙ pick-false _ _ _ (ap not fit) ∙ pick-false _ _ _ (lt-leb (begun .awaited .below .0) (input .0) (ltb-true (input .0) (begun .awaited .below .0) (not-false _ (breaks-told ∙ keeps)))))
 
         by-usable : (t : Bool) → usable ≡ t → Judged verdict
         by-usable false unfit =
@@ -240,8 +241,8 @@ module _ (run : Run) (words : List ℕ) (input : Units) (choices : List ℕ) {be
 
   -- what is judged of the call
   pub judged-told : {usable : Bool} → usable ≡ both (both (p .usable) (every (emptyBehind (begun .count) stages) mostOperators)) (behindClear (begun .count) words)
-      → {verdict : Verdict} → verdict ≡ judgedOf usable (begun .below .0) (input .0) p → Refusing run words (callOf input choices) verdict ⊎ Taking run words (callOf input choices) verdict (begun .count) p stages places
-  judged-told told judged = ⊎-elim (λ none. none-begun none told (begun .below .0) judged) (λ some. some-begun some told judged) (begun-or-not run words input choices same)
+      → {verdict : Verdict} → verdict ≡ judgedOf usable (begun .awaited .below .0) (input .0) p → Refusing run words (callOf input choices) verdict ⊎ Taking run words (callOf input choices) verdict (begun .count) p stages places
+  judged-told told judged = ⊎-elim (λ none. none-begun none told (begun .awaited .below .0) judged) (λ some. some-begun some told judged) (begun-or-not run words input choices same)
 
 -- The ways out.
 

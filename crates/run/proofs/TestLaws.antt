@@ -29,6 +29,7 @@ use Rattle.meter.specs.Parts.{countedOf}
 use Rattle.operator.specs.declared.Operator.{Operator}
 use Rattle.operator.specs.declared.Operator.the-variants.{Limiter, Compactor, Expander, Filter, Delayer}
 use Rattle.meter.specs.declared.SourceMeter.{SourceMeter}
+use Rattle.meter.specs.declared.parts.Awaited.{Awaited}
 use Rattle.meter.specs.declared.parts.Counted.{Counted}
 use Rattle.meter.specs.declared.parts.Counted.the-variants.{Below}
 use Rattle.operator.proofs.RingLaws.{PathUsable, path-stored-usable}
@@ -37,7 +38,7 @@ use Rattle.run.specs.declared.Stage.{Stage}
 use Rattle.run.specs.declared.Run.{Run}
 use Rattle.run.specs.declared.test.Begun.{Begun}
 use Rattle.run.specs.Runs.{runWordCount, meterIn, meterWords, operatorAtWord, operatorWords, noStage, noOperator, stageAt, operatorOf, operatorIn, stageMisplaced, stageUnusable, stageFits, runUnusable}
-use Rattle.run.specs.Steps.{stageEmpty, emptyBehind, belowIn, meterMisfits, notBegun, meterBegunOf, wordsBehind, behindClear}
+use Rattle.run.specs.Steps.{stageEmpty, emptyBehind, awaitedIn, meterMisfits, notBegun, meterBegunOf, wordsBehind, behindClear}
 use Rattle.run.proofs.Parts.{length-operatorWords, operator-word}
 use Rattle.run.proofs.UsableRun.{MeterFits, usable-stages, fits-meter, meter-fits, meter-misfits, run-usable, run-unusable, stage-usable, stage-none}
 
@@ -263,22 +264,22 @@ module _ (run : Run) (words : List ℕ) where
   lent = meterWords words
 
   -- what is not counted cannot be used
-  pub meter-uncounted : {answer : Counted} → answer ≡ countedOf meter lent → ((below : Units) → answer ≡ Below below → ⊥) → MeterFits run words → ⊥
+  pub meter-uncounted : {answer : Counted} → answer ≡ countedOf meter lent → ((awaited : Awaited) → answer ≡ Below awaited → ⊥) → MeterFits run words → ⊥
   unfolding meterIn
   meter-uncounted answered never fits = never _ (answered ∙ counted-next meter lent (fits .meter) (fits .declared) (fits .ordered))
 
   -- and what is counted can
-  pub record MeterCounted (below : Units) : Type 0 where
+  pub record MeterCounted (awaited : Awaited) : Type 0 where
     pub meter : meterUnusable meter lent ≡ false
     pub declared : declarationInRange (run .declaration) ≡ true
     pub ordered : rowsInOrder (run .declaration) ≡ true
-    pub counted : below ≡ record { 0 = belowIn run words }
+    pub counted : awaited ≡ awaitedIn run words
 
-  pub meter-counted : {below : Units} → Below below ≡ countedOf meter lent → MeterCounted below
-  unfolding belowIn meterIn
-  meter-counted {below} answered = by-tests (meterUnusable meter lent) (declarationInRange (run .declaration)) (rowsInOrder (run .declaration)) refl refl refl
+  pub meter-counted : {awaited : Awaited} → Below awaited ≡ countedOf meter lent → MeterCounted awaited
+  unfolding awaitedIn meterIn
+  meter-counted {awaited} answered = by-tests (meterUnusable meter lent) (declarationInRange (run .declaration)) (rowsInOrder (run .declaration)) refl refl refl
     where
-      by-tests : (a b c : Bool) → meterUnusable meter lent ≡ a → declarationInRange (run .declaration) ≡ b → rowsInOrder (run .declaration) ≡ c → MeterCounted below
+      by-tests : (a b c : Bool) → meterUnusable meter lent ≡ a → declarationInRange (run .declaration) ≡ b → rowsInOrder (run .declaration) ≡ c → MeterCounted awaited
       by-tests true b c unusable ranged ordered = absurd (let clash = answered ∙ sym (counted-unusable meter lent unusable) in let z : _≡_ {A = ℕ} 0 1 = cc in omega arith)
       by-tests false false c usable ranged ordered = absurd (let clash = answered ∙ sym (counted-outside meter lent usable ranged) in let z : _≡_ {A = ℕ} 0 1 = cc in omega arith)
       by-tests false true false usable ranged ordered = absurd (let clash = answered ∙ sym (counted-unordered meter lent usable ranged ordered) in let z : _≡_ {A = ℕ} 0 1 = cc in omega arith)
@@ -293,19 +294,19 @@ module _ (run : Run) (words : List ℕ) where
   unfolding meterBegunOf
   begun-not fails = sym (pick-true _ _ _ (meter-misfits run words fails))
 
-  pub begun-fits : MeterFits run words → {below : Units} → below ≡ record { 0 = belowIn run words } → record { count = run .count; below = below } ≡ meterBegunOf run words
+  pub begun-fits : MeterFits run words → {awaited : Awaited} → awaited ≡ awaitedIn run words → record { count = run .count; awaited = awaited } ≡ meterBegunOf run words
   unfolding meterBegunOf
   begun-fits fits counts = rw counts (sym (pick-false _ _ _ (fits-meter run words fits)))
 
   -- no operators, or those of the run
-  pub meter-begun : {begun : Begun} → begun ≡ meterBegunOf run words → ((begun .count ≡ 0) × (MeterFits run words → ⊥)) ⊎ (MeterFits run words × ((begun .count ≡ run .count) × (begun .below ≡ record { 0 = belowIn run words })))
+  pub meter-begun : {begun : Begun} → begun ≡ meterBegunOf run words → ((begun .count ≡ 0) × (MeterFits run words → ⊥)) ⊎ (MeterFits run words × ((begun .count ≡ run .count) × (begun .awaited ≡ awaitedIn run words)))
   unfolding meterBegunOf
   meter-begun {begun} same = by-test (meterMisfits run words) refl same
     where
-      by-test : (t : Bool) → meterMisfits run words ≡ t → begun ≡ pick t notBegun (record { count = run .count; below = record { 0 = belowIn run words } })
-          → ((begun .count ≡ 0) × (MeterFits run words → ⊥)) ⊎ (MeterFits run words × ((begun .count ≡ run .count) × (begun .below ≡ record { 0 = belowIn run words })))
+      by-test : (t : Bool) → meterMisfits run words ≡ t → begun ≡ pick t notBegun (record { count = run .count; awaited = awaitedIn run words })
+          → ((begun .count ≡ 0) × (MeterFits run words → ⊥)) ⊎ (MeterFits run words × ((begun .count ≡ run .count) × (begun .awaited ≡ awaitedIn run words)))
       by-test true e made = inl (ap (λ (b : Begun). b .count) made, λ fits. let z : _≡_ {A = Bool} true false = sym e ∙ fits-meter run words fits in let w : _≡_ {A = ℕ} 0 1 = cc in omega arith)
-      by-test false e made = inr (meter-fits run words e, (ap (λ (b : Begun). b .count) made, ap (λ (b : Begun). b .below) made))
+      by-test false e made = inr (meter-fits run words e, (ap (λ (b : Begun). b .count) made, ap (λ (b : Begun). b .awaited) made))
 
 -- What is answered of the words behind the path's operators.
 

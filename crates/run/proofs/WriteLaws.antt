@@ -7,43 +7,41 @@ use Prim.Native.Nat.{ℕ, _+_, _-_, _/_, _%_, _<_}
 use native.Mathlib.Nat.{zero-add, div-add-mod', mod-lt}
 use native.Mathlib.Omega.{arith}
 use lib.Dec.{ltb, eqb}
-use lib.ListN.{length, getD, take, drop, length-set}
+use lib.ListN.{length, getD, set, take, drop, length-set}
 use borrow.Author.Tests.{ltb-true, ltb-false}
 use Rattle.quantity.specs.Limits.{mostOperators}
 use Rattle.quantity.specs.Choice.{pick, both}
 use Rattle.quantity.specs.Sums.{listOf}
 use Rattle.quantity.specs.declared.Slots.{Slots}
 use Rattle.quantity.specs.declared.Units.{Units}
-use Rattle.quantity.proofs.Sums.{length-listOf, listOf-ext}
+use Rattle.quantity.proofs.Sums.{listOf-ext}
 use Rattle.words.specs.Stored.{wordAt}
 use Rattle.operator.specs.Operators.{numberInRange}
 use Rattle.operator.specs.Single.{wordCount, usesHeld}
 use Rattle.operator.specs.Ring.{totalNoted}
 use Rattle.operator.proofs.RingLaws.{length-noted}
-use Rattle.meter.specs.Meter.{meterWordCount, meterWordNext}
-use Rattle.meter.specs.Parts.{noteUnfit, notedOf, wordsNoted}
-use Rattle.meter.specs.declared.SourceMeter.{SourceMeter}
+use Rattle.meter.specs.Meter.{meterWordCount}
+use Rattle.meter.specs.Parts.{inputPlace, awaitedOf, inputNoted, blockBehind}
+use Rattle.meter.specs.declared.parts.Awaited.{Awaited}
 use Rattle.operator.specs.declared.ring.PathOperator.{PathOperator}
-use Rattle.meter.specs.declared.parts.Noted.{Noted}
 use Rattle.sheet.specs.Bodies.{part}
 use Rattle.run.specs.declared.Stage.{Stage}
 use Rattle.run.specs.declared.Run.{Run}
 use Rattle.run.specs.Runs.{runWordCount, meterWords, operatorAtWord, operatorWords, noStage, stageAt, meterIn, operatorOf, operatorIn}
-use Rattle.run.specs.Steps.{ringNoted, withPart, blockWritten, stageWord, wordWritten}
+use Rattle.run.specs.Steps.{awaitedIn, blockWritten, meterNoted, ringNoted, withPart, stageWord, wordWritten}
 use Rattle.run.proofs.UpTo.{UpTo, up-to-none, up-to-here, up-to-next}
 use Rattle.run.proofs.Parts.{length-part, part-at, length-operatorWords, operator-word}
 use Rattle.run.proofs.WithPart.{put-back, meter-sized, meter-replaced, meter-beside, operator-sized, operator-replaced, meter-before, operator-before, operator-behind}
 
 -- Whether written or not, as many words are left as were lent.
 
-length-either : (n : ℕ) (t : Bool) (words next : List ℕ) → length words ≡ n → length next ≡ n → length (pick t words next) ≡ n
-length-either n true words next was will = was
-length-either n false words next was will = will
-
-length-metered : (x : SourceMeter) (words : List ℕ) (input : ℕ) → length words ≡ meterWordCount → length (wordsNoted x words input) ≡ meterWordCount
-unfolding wordsNoted
-length-metered x words input size =
-    length-either meterWordCount (noteUnfit x words input) words _ size (length-listOf (meterWordNext x words input) meterWordCount)
+length-metered : (words : List ℕ) (at input : ℕ) → length words ≡ meterWordCount → length (inputNoted words at input) ≡ meterWordCount
+unfolding inputNoted
+length-metered words at input size = by-test (ltb at (length words))
+  where
+    by-test : (inside : Bool) → length (pick inside (set words at input) words) ≡ meterWordCount
+    by-test true = length-set words at input ∙ size
+    by-test false = size
 
 length-ring : (x : PathOperator) (words : List ℕ) → length words ≡ wordCount → length (ringNoted x words) ≡ wordCount
 length-ring x words size = length-noted x words _ _ ∙ size
@@ -58,28 +56,26 @@ meter-word words sized j less = part-at 0 meterWordCount words (omega arith) j l
 
 -- The meter.
 
-abbrev pub blockThen : Units → Noted → Units
-blockThen block (Noted.Block next) = next
-blockThen block Noted.Unfit = block
-
-module _ (run : Run) (words : List ℕ) (input : ℕ) where
+module _ (at input : ℕ) (words : List ℕ) (sized : length words ≡ runWordCount) where
   abbrev noted : List ℕ
-  noted = wordsNoted (meterIn run) (meterWords words) input
+  noted = inputNoted (meterWords words) at input
 
-  block-taken : (answer : Noted) → answer ≡ notedOf (meterIn run) (meterWords words) input → blockThen (run .block) answer ≡ blockWritten run words input
-  unfolding blockWritten
-  block-taken (Noted.Block next) e = rw (← e)
-  block-taken Noted.Unfit e = rw (← e)
+  noted-sized : length noted ≡ meterWordCount
+  noted-sized = length-metered (meterWords words) at input (length-meterWords words sized)
 
-  pub meter-written : length words ≡ runWordCount → {meter : SourceMeter} → meter ≡ meterIn run → {answer : Noted} → answer ≡ notedOf meter (meterWords words) input
-      → {new : List ℕ} → new ≡ wordsNoted meter (meterWords words) input
-      → (blockThen (run .block) answer ≡ blockWritten run words input) × (take 0 words ++ (new ++ drop meterWordCount (drop 0 words)) ≡ withPart 0 noted words)
-  meter-written sized same {answer} answered left =
-      let sizes = length-metered (meterIn run) (meterWords words) input (length-meterWords words sized) in
-      (block-taken answer (rw same at answered), rw (left, same) (put-back 0 meterWordCount noted words sizes))
+  pub meter-written : {new : List ℕ} → new ≡ noted → take 0 words ++ (new ++ drop meterWordCount (drop 0 words)) ≡ withPart 0 noted words
+  meter-written left = rw left (put-back 0 meterWordCount noted words noted-sized)
 
-  pub metered-size : length words ≡ runWordCount → {after : List ℕ} → after ≡ withPart 0 noted words → length after ≡ runWordCount
-  metered-size sized same = rw same (meter-sized words noted sized (length-metered (meterIn run) (meterWords words) input (length-meterWords words sized)))
+  pub metered-size : {after : List ℕ} → after ≡ withPart 0 noted words → length after ≡ runWordCount
+  metered-size same = rw same (meter-sized words noted sized noted-sized)
+
+-- what is known of the input of a run has its place
+pub metered-same : (run : Run) (words : List ℕ) (input : Units) {awaited : Awaited} → awaited ≡ awaitedIn run words → {block : Units} → block ≡ blockBehind awaited input
+    → {after : List ℕ} → after ≡ withPart 0 (inputNoted (meterWords words) (awaited .at) (input .0)) words
+    → (block ≡ blockWritten run words (input .0)) × (after ≡ withPart 0 (meterNoted run words (input .0)) words)
+unfolding blockWritten awaitedIn awaitedOf
+metered-same run words input known blocks noted =
+    (blocks ∙ ap (λ (a : Awaited). blockBehind a input) known, noted ∙ ap (λ (a : Awaited). withPart 0 (inputNoted (meterWords words) (a .at) (input .0)) words) known)
 
 -- A stage.
 
@@ -149,19 +145,19 @@ module _ {run : Run} {words : List ℕ} {k : ℕ} {after : List ℕ} (written : 
 -- Behind the last stage.
 
 module _ (run : Run) (first : List ℕ) (input : ℕ) (sized : length first ≡ runWordCount)
-    {metered : List ℕ} (after-meter : metered ≡ withPart 0 (noted run first input) first) {k : ℕ} (ends : k ≡ run .count)
+    {metered : List ℕ} (after-meter : metered ≡ withPart 0 (meterNoted run first input) first) {k : ℕ} (ends : k ≡ run .count)
     {after : List ℕ} (before-k : Written run metered k after) where
   written : Written run metered (run .count) after
   written = rw ends at before-k
 
-  noted-size : length (noted run first input) ≡ meterWordCount
-  noted-size = length-metered (meterIn run) (meterWords first) input (length-meterWords first sized)
+  noted-size : length (meterNoted run first input) ≡ meterWordCount
+  noted-size = noted-sized (inputPlace (meterIn run)) input first sized
 
   same-operator : (i : ℕ) → i < mostOperators → operatorWords metered i ≡ operatorWords first i
-  same-operator i less = rw after-meter (meter-beside first (noted run first input) sized noted-size i less)
+  same-operator i less = rw after-meter (meter-beside first (meterNoted run first input) sized noted-size i less)
 
-  same-meter : meterWords metered ≡ noted run first input
-  same-meter = rw after-meter (meter-replaced first (noted run first input) sized noted-size)
+  same-meter : meterWords metered ≡ meterNoted run first input
+  same-meter = rw after-meter (meter-replaced first (meterNoted run first input) sized noted-size)
 
   pick-word : (t : Bool) (a b : List ℕ) (j : ℕ) → wordAt (pick t a b) j ≡ pick t (wordAt a j) (wordAt b j)
   pick-word true a b j = refl
@@ -175,7 +171,7 @@ module _ (run : Run) (first : List ℕ) (input : ℕ) (sized : length first ≡ 
       ∙ pick-word (ltb i (run .count)) _ _ a
       ∙ rw (same-operator i less)
 
-  meter-end : (j : ℕ) → j < meterWordCount → wordAt after j ≡ wordAt (noted run first input) j
+  meter-end : (j : ℕ) → j < meterWordCount → wordAt after j ≡ wordAt (meterNoted run first input) j
   meter-end j less =
       sym (meter-word after (written .sized) j less) ∙ ap (λ (xs : List ℕ). wordAt xs j) (written .meter ∙ same-meter)
 
@@ -184,7 +180,7 @@ module _ (run : Run) (first : List ℕ) (input : ℕ) (sized : length first ≡ 
   word-end j less = by-part (ltb j meterWordCount) refl
     where
       by-part : (t : Bool) → ltb j meterWordCount ≡ t
-          → wordAt after j ≡ pick t (wordAt (noted run first input) j) (stageWord run first ((j - meterWordCount) / wordCount) ((j - meterWordCount) % wordCount))
+          → wordAt after j ≡ pick t (wordAt (meterNoted run first input) j) (stageWord run first ((j - meterWordCount) / wordCount) ((j - meterWordCount) % wordCount))
       by-part true e = meter-end j (ltb-true j meterWordCount e)
       by-part false e =
           let behind = ltb-false j meterWordCount e in

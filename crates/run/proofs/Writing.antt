@@ -18,9 +18,7 @@ use Rattle.words.specs.Stored.{wordAt}
 use Rattle.operator.specs.Single.{wordCount}
 use Rattle.operator.specs.Ring.{ringWordNext, pathAdvanced}
 use Rattle.meter.specs.Meter.{meterWordCount, blockNext, meterNext, meterWordNext}
-use Rattle.meter.specs.Parts.{notedOf, wordsNoted}
 use Rattle.operator.specs.declared.ring.PathOperator.{PathOperator}
-use Rattle.meter.specs.declared.parts.Noted.{Noted}
 use Rattle.operator.proofs.RingLaws.{noted-next}
 use Rattle.meter.proofs.PartsLaws as meters
 use Rattle.run.specs.declared.Stage.{Stage}
@@ -28,7 +26,7 @@ use Rattle.run.specs.declared.Run.{Run}
 use Rattle.run.specs.Calls.{Call, amountTooLarge}
 use Rattle.run.specs.Runs.{meterWords, operatorWords, noStage, stageAt, meterIn, operatorOf, operatorIn}
 use Rattle.run.specs.Slots.{inputInto, runHoldsNext, slotCases, operatorNext, stageNext, runNext, operatorWordNext, wordNext}
-use Rattle.run.specs.Steps.{ringNoted, runAdvanced, blockWritten, runWritten, stageWord, wordWritten}
+use Rattle.run.specs.Steps.{awaitedIn, ringNoted, runAdvanced, blockWritten, meterNoted, runWritten, stageWord, wordWritten}
 use Rattle.run.proofs.UsableRun.{UsableRun, usable-run, stage-usable, stage-number, fits-at}
 
 module _ (run : Run) (words : List ℕ) (call : Call) (none : NoneStands (slotCases run words call)) where
@@ -45,10 +43,9 @@ module _ (run : Run) (words : List ℕ) (call : Call) (none : NoneStands (slotCa
   unfolding amountTooLarge
   input-small = ltb-false largestAmount (call .input) (either-false (ltb largestAmount (call .input)) _ (none .1 .0) .0)
 
-  meter-noted : (notedOf (meterIn run) (meterWords words) (call .input) ≡ Noted.Block (record { 0 = blockNext (meterIn run) (call .input) }))
-      × (wordsNoted (meterIn run) (meterWords words) (call .input) ≡ listOf (meterWordNext (meterIn run) (meterWords words) (call .input)) meterWordCount)
+  meter-noted : meterNoted run words (call .input) ≡ listOf (meterWordNext (meterIn run) (meterWords words) (call .input)) meterWordCount
   unfolding meterIn
-  meter-noted = meters.noted-next (meterIn run) (meterWords words) (call .input) (passed .meter) (passed .declared) (passed .ordered) input-small
+  meter-noted = meters.noted-next (meterIn run) (meterWords words) (call .input) (passed .meter) (passed .declared)
 
   module _ (k : ℕ) (less : k < run .count) where
     abbrev x : PathOperator
@@ -83,8 +80,8 @@ module _ (run : Run) (words : List ℕ) (call : Call) (none : NoneStands (slotCa
         ap (λ (x : PathOperator). ringNoted x xs) advanced ∙ noted-next x xs (stage-usable run words k fits .sized) (stage-number run words k fits less) into out b-next h-next
 
   block-next : blockWritten (runAdvanced run words call) words (call .input) ≡ record { 0 = blockNext (meterIn run) (call .input) }
-  unfolding blockWritten runAdvanced meterIn
-  block-next = rw (meter-noted .0)
+  unfolding blockWritten awaitedIn runAdvanced meterIn
+  block-next = meters.block-behind-next (meterIn run) (meterWords words) (call .input) (passed .meter) (passed .declared) input-small
 
   pub run-written : runWritten (runAdvanced run words call) words (call .input) ≡ runNext run words call
   unfolding runWritten runAdvanced runNext meterNext
@@ -102,7 +99,7 @@ module _ (run : Run) (words : List ℕ) (call : Call) (none : NoneStands (slotCa
   word-written j = by-part (ltb j meterWordCount) refl
     where
       by-part : (t : Bool) → ltb j meterWordCount ≡ t
-          → pick t (wordAt (wordsNoted (meterIn (runAdvanced run words call)) (meterWords words) (call .input)) j) (stageWord (runAdvanced run words call) words ((j - meterWordCount) / wordCount) ((j - meterWordCount) % wordCount))
+          → pick t (wordAt (meterNoted (runAdvanced run words call) words (call .input)) j) (stageWord (runAdvanced run words call) words ((j - meterWordCount) / wordCount) ((j - meterWordCount) % wordCount))
           ≡ pick t (meterWordNext (meterIn run) (meterWords words) (call .input) j) (operatorWordNext run words call ((j - meterWordCount) / wordCount) ((j - meterWordCount) % wordCount))
-      by-part true e = rw (metered, meter-noted .1) (getD-listOf 0 (meterWordNext (meterIn run) (meterWords words) (call .input)) meterWordCount j (ltb-true j meterWordCount e))
+      by-part true e = rw (metered, meter-noted) (getD-listOf 0 (meterWordNext (meterIn run) (meterWords words) (call .input)) meterWordCount j (ltb-true j meterWordCount e))
       by-part false e = word-next ((j - meterWordCount) / wordCount) ((j - meterWordCount) % wordCount) (mod-lt (j - meterWordCount) {m = wordCount} (omega arith)) (ltb ((j - meterWordCount) / wordCount) (run .count)) refl

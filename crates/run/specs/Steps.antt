@@ -15,10 +15,10 @@ use Rattle.flow.specs.Declarations.{declarationInRange, rowsInOrder}
 use Rattle.operator.specs.Single.{wordCount}
 use Rattle.operator.specs.Ring.{ringPlace, totalNoted}
 use Rattle.meter.specs.Meter.{meterWordCount, meterUnusable}
-use Rattle.meter.specs.Parts.{inputsBelow, notedOf, wordsNoted}
+use Rattle.meter.specs.Parts.{inputPlace, awaitedOf, inputNoted, blockBehind}
 use Rattle.words.specs.Stored.{wordAt, clearAt}
 use Rattle.operator.specs.declared.ring.PathOperator.{PathOperator}
-use Rattle.meter.specs.declared.parts.Noted.{Noted}
+use Rattle.meter.specs.declared.parts.Awaited.{Awaited}
 use Rattle.sheet.specs.declared.read.Verdict.{Verdict}
 use Rattle.run.specs.Calls.{Call, choicesMiscounted, amountTooLarge}
 use Rattle.run.specs.Runs.{runWordCount, meterWords, operatorAtWord, operatorWords, noOperator, noStage, stageAt, meterIn, operatorIn}
@@ -39,9 +39,9 @@ stageEmpty stage = both (noOperator (stage .operator)) (both (both (eqb (stage .
 unfoldable pub emptyBehind : ℕ → List Stage → ℕ → Bool
 emptyBehind count stages k = either (ltb k count) (stageEmpty (getD stages k noStage))
 
--- what the next input has to be below
-unfoldable pub belowIn : Run → List ℕ → ℕ
-belowIn run words = inputsBelow (meterIn run) (meterWords words)
+-- what is known of the next input
+unfoldable pub awaitedIn : Run → List ℕ → Awaited
+awaitedIn run words = awaitedOf (meterIn run) (meterWords words)
 
 -- the words' length, the count, the declaration or the meter does not fit
 unfoldable pub meterMisfits : Run → List ℕ → Bool
@@ -55,10 +55,10 @@ meterMisfits run words =
     ∷ [])
 
 abbrev pub notBegun : Begun
-notBegun = record { count = 0; below = record { 0 = 0 } }
+notBegun = record { count = 0; awaited = record { below = record { 0 = 0 }; block = record { 0 = 0 }; at = meterWordCount } }
 
 unfoldable pub meterBegunOf : Run → List ℕ → Begun
-meterBegunOf run words = pick (meterMisfits run words) notBegun (record { count = run .count; below = record { 0 = belowIn run words } })
+meterBegunOf run words = pick (meterMisfits run words) notBegun (record { count = run .count; awaited = awaitedIn run words })
 
 unfoldable pub begunOf : Run → List ℕ → Call → Begun
 begunOf run words call = pick (either (choicesMiscounted (run .count) call) (amountTooLarge call)) notBegun (meterBegunOf run words)
@@ -122,14 +122,12 @@ runAdvanced run words call =
 unfoldable pub withPart : ℕ → List ℕ → List ℕ → List ℕ
 withPart at new words = take at words ++ (new ++ drop (at + length new) words)
 
-blockNamed : Units → Noted → Units
-blockNamed block (Noted.Block next) = next
-blockNamed block Noted.Unfit = block
-
--- the meter's block once the input is noted
+-- the meter's block and its words once the input is noted
 unfoldable pub blockWritten : Run → List ℕ → ℕ → Units
-unfolding blockNamed
-blockWritten run words input = blockNamed (run .block) (notedOf (meterIn run) (meterWords words) input)
+blockWritten run words input = blockBehind (awaitedIn run words) (record { 0 = input })
+
+abbrev pub meterNoted : Run → List ℕ → ℕ → List ℕ
+meterNoted run words input = inputNoted (meterWords words) (inputPlace (meterIn run)) input
 
 -- the run that has advanced, and word j of all, once the slot is counted and meter and stages are written
 unfoldable pub runWritten : Run → List ℕ → ℕ → Run
@@ -152,7 +150,7 @@ stageWord run words k a = pick (ltb k (run .count)) (wordAt (ringNoted (operator
 unfoldable pub wordWritten : Run → List ℕ → ℕ → ℕ → ℕ
 wordWritten run words input j =
     pick (ltb j meterWordCount)
-    (wordAt (wordsNoted (meterIn run) (meterWords words) input) j)
+    (wordAt (meterNoted run words input) j)
     (stageWord run words ((j - meterWordCount) / wordCount) ((j - meterWordCount) % wordCount))
 
 -- 14 operator by operator, then 1 again.

@@ -93,12 +93,12 @@ pub fn slot(run: Run, words: &mut [u32], input: Units, choices: &[u64]) -> Slott
         k += 1;
     }
     let clear = behind_clear(count, &words[..]);
-    let verdict = judge(and(usable, clear), begun.below, input, progress);
+    let verdict = judge(and(usable, clear), begun.awaited.below, input, progress);
     let taken = accepted(verdict);
     if !taken {
         stages = run.stages;
     }
-    let block = write_meter(taken, run, words, input);
+    let block = write_meter(taken, run.block, begun.awaited, words, input);
     let end = if taken { count } else { 0 };
     let mut k = 0;
     while k < end {
@@ -121,7 +121,7 @@ pub fn slot(run: Run, words: &mut [u32], input: Units, choices: &[u64]) -> Slott
     }
 }
 
-// The path's operators and what the input has to be below; no operators where an argument, the words' length, the declaration or the meter does not fit.
+// The path's operators and what is known of the input; no operators where an argument, the words' length, the declaration or the meter does not fit.
 fn begin(run: Run, words: &[u32], input: Units, choices: &[u64]) -> Begun
     ensures { λ r. ⌜ r ≡ begunOf run (now (words .entry)) (callOf input (now (choices .entry))) ⌝ }
 {

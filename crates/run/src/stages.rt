@@ -1,11 +1,10 @@
 // The operators of a slot, one behind the other: each is tested, decided and advanced in one step, and its words are written once all have passed (document 01, sections 3, 6 and 7).
 
-use crate::Run;
 use crate::Stage;
 use crate::and;
-use crate::meter_of;
 use crate::operator_of;
-use meter::parts::Noted;
+use meter::parts::Awaited;
+use meter::parts::block_behind;
 use operator::ring::Advanced;
 use operator::ring::PathOperator;
 use operator::ring::advance;
@@ -13,13 +12,13 @@ use quantity::Slots;
 use quantity::Units;
 ghost use mathlib.Core.Path.{_≡_};
 ghost use mathlib.Core.Bool.{true, false};
-ghost use Prim.Native.Nat.{_<_, min};
+ghost use Prim.Native.Nat.{_≤_, _<_, min};
 ghost use lib.ListN.{length};
-ghost use Rattle.quantity.specs.Limits.{mostOperators};
+ghost use Rattle.quantity.specs.Limits.{largestAmount, mostOperators};
 ghost use Rattle.operator.specs.Ring.{advancedOf, totalNoted};
-ghost use Rattle.meter.specs.Parts.{wordsNoted};
-ghost use Rattle.run.specs.Runs.{runWordCount, operatorAtWord, meterWords, operatorWords, meterIn, operatorOf};
-ghost use Rattle.run.specs.Steps.{firstProgress, onceSent, onceUnusable, onceAbove, stageKept, withPart, blockWritten};
+ghost use Rattle.meter.specs.Parts.{inputNoted, blockBehind};
+ghost use Rattle.run.specs.Runs.{runWordCount, operatorAtWord, meterWords, operatorWords, operatorOf};
+ghost use Rattle.run.specs.Steps.{firstProgress, onceSent, onceUnusable, onceAbove, stageKept, withPart};
 
 // What the operators so far have told: whether all can be used and would store no more than the limit, the first whose choice is above, 16 if none is, and what arrives at the next.
 pub struct Progress {
@@ -119,32 +118,31 @@ fn smaller(a: usize, b: usize) -> usize
 }
 
 // The meter's block, and its words: as they were, unless the slot is taken.
-pub(crate) fn write_meter(taken: bool, run: Run, words: &mut [u32], input: Units) -> Units
-    requires { ⌜ (taken ≡ true → length (now words) ≡ runWordCount) ⌝ }
-    ensures { λ r. ⌜ (taken ≡ true → (r ≡ blockWritten run (now (words .entry)) (input .0)) × (now (words .exit) ≡ withPart 0 (wordsNoted (meterIn run) (meterWords (now (words .entry))) (input .0)) (now (words .entry)))) ⌝ }
-    ensures { λ r. ⌜ (taken ≡ false → (r ≡ run .block) × (now (words .exit) ≡ now (words .entry))) ⌝ }
+pub(crate) fn write_meter(
+    taken: bool,
+    block: Units,
+    awaited: Awaited,
+    words: &mut [u32],
+    input: Units,
+) -> Units
+    requires { ⌜ (taken ≡ true → (length (now words) ≡ runWordCount) × (input .0 ≤ largestAmount)) ⌝ }
+    ensures { λ r. ⌜ (taken ≡ true → (r ≡ blockBehind awaited input) × (now (words .exit) ≡ withPart 0 (inputNoted (meterWords (now (words .entry))) (awaited .at) (input .0)) (now (words .entry)))) ⌝ }
+    ensures { λ r. ⌜ (taken ≡ false → (r ≡ block) × (now (words .exit) ≡ now (words .entry))) ⌝ }
 {
     if taken {
-        note_input(run, words, input)
+        note_input(awaited.at, words, input);
+        block_behind(awaited, input)
     } else {
-        run.block
+        block
     }
 }
 
-// The input noted by the meter.
-fn note_input(run: Run, words: &mut [u32], input: Units) -> Units
-    requires { ⌜ length (now words) ≡ runWordCount ⌝ }
-    ensures { λ r. ⌜ r ≡ blockWritten run (now (words .entry)) (input .0) ⌝ }
-    ensures { λ r. ⌜ now (words .exit) ≡ withPart 0 (wordsNoted (meterIn run) (meterWords (now (words .entry))) (input .0)) (now (words .entry)) ⌝ }
+// The input in the word that counting answered.
+fn note_input(at: usize, words: &mut [u32], input: Units)
+    requires { ⌜ (length (now words) ≡ runWordCount) × (input .0 ≤ largestAmount) ⌝ }
+    ensures { λ _. ⌜ now (words .exit) ≡ withPart 0 (inputNoted (meterWords (now (words .entry))) at (input .0)) (now (words .entry)) ⌝ }
 {
-    let Noted::Block(block) = meter::parts::note(
-        meter_of(run),
-        &mut words[0..crate::METER_WORDS],
-        input,
-    ) else {
-        return run.block;
-    };
-    block
+    meter::parts::note(&mut words[0..crate::METER_WORDS], at, input.0 as u32);
 }
 
 // The total of operator k in the word that advancing answered.

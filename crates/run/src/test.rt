@@ -4,6 +4,7 @@ use crate::Run;
 use crate::Stage;
 use crate::meter_of;
 use crate::operator_of;
+use meter::parts::Awaited;
 use meter::parts::Counted;
 use meter::parts::counted_before;
 use operator::Operator;
@@ -22,10 +23,10 @@ ghost use Rattle.operator.specs.Ring.{pathUnusable};
 ghost use Rattle.run.specs.Runs.{runWordCount, operatorWords, noOperator, operatorOf, runUnusable};
 ghost use Rattle.run.specs.Steps.{stageEmpty, behindClear, notBegun, meterBegunOf};
 
-// The path's operators, none where what is lent and stored cannot be used, and what the next input has to be below.
+// The path's operators, none where what is lent and stored cannot be used, and what is known of the next input.
 pub struct Begun {
     pub count: usize,
-    pub below: Units,
+    pub awaited: Awaited,
 }
 
 // The words' length, the number of operators, the declaration and the meter.
@@ -42,19 +43,22 @@ pub(crate) fn begin_meter(run: Run, words: &[u32]) -> Begun
     if crate::OPERATORS < count {
         return not_begun();
     }
-    let Counted::Below(below) = counted_before(meter_of(run), &words[0..crate::METER_WORDS]) else {
+    let Counted::Below(awaited) = counted_before(meter_of(run), &words[0..crate::METER_WORDS])
+    else {
         return not_begun();
     };
-    Begun { count, below }
+    Begun { count, awaited }
 }
 
 pub(crate) fn not_begun() -> Begun
     ensures { λ r. ⌜ r ≡ notBegun ⌝ }
 {
-    Begun {
-        count: 0,
+    let awaited = Awaited {
         below: Units(0),
-    }
+        block: Units(0),
+        at: crate::METER_WORDS,
+    };
+    Begun { count: 0, awaited }
 }
 
 // Whether all that is lent and stored can be used.

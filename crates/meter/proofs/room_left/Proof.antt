@@ -17,14 +17,14 @@ enum-told-2 c = search needs
 enum-told-3 : tie.Need-enum-told-3
 enum-told-3 c = search needs
 
-enum-known-end : tie.Need-enum-known-end
-enum-known-end c = search needs
+enum-known-awaited : tie.Need-enum-known-awaited
+enum-known-awaited c = search needs
 
 returns : tie.Need-returns
-returns c = let known = c .before .before .before in room-none _ _ (sym (known .end .given .1) ∙ known .before .before .counted-before .ensures) (c .if1 .taken)
+returns c = let known = c .before .before .before .before in room-none _ _ (sym (known .awaited .given .1) ∙ known .before .before .counted-before .ensures) (c .if1 .taken)
 
-sub-t11 : tie.Need-sub-t11
-sub-t11 c = search needs
+sub-t12 : tie.Need-sub-t12
+sub-t12 c = search needs
 
 returns-2 : tie.Need-returns-2
 returns-2 c = room-unusable _ _ (sym (c .enum-told .given .1) ∙ c .before .before .counted-before .ensures)
@@ -36,7 +36,7 @@ returns-4 : tie.Need-returns-4
 returns-4 c = room-unordered _ _ (sym (c .enum-told3 .given .1) ∙ c .before .before .counted-before .ensures)
 
 returns-5 : tie.Need-returns-5
-returns-5 c = let known = c .before .before .before .before in room-some _ _ (sym (known .end .given .1) ∙ known .before .before .counted-before .ensures) (c .before .if1 .left)
+returns-5 c = let known = c .before .before .before .before .before in room-some _ _ (sym (known .awaited .given .1) ∙ known .before .before .counted-before .ensures) (c .before .if1 .left)
 
 pub room-left-spec : {M : Type 1} → statement M
 room-left-spec =
@@ -46,9 +46,9 @@ room-left-spec =
     enum-told
     enum-told-2
     enum-told-3
-    enum-known-end
+    enum-known-awaited
     returns
-    sub-t11
+    sub-t12
     returns-2
     returns-3
     returns-4

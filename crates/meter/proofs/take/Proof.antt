@@ -1,21 +1,10 @@
 -- Each way out is what the parts answered in turn.
 use mathlib.Core.Path.{_≡_, sym, _∙_}
 use native.Mathlib.Omega.{arith}
-use Rattle.meter.specs.declared.parts.Noted.{Noted}
-use Rattle.meter.specs.declared.Metered.{Metered}
-use Rattle.meter.proofs.MeterAnswers.{Answers, meteredNoted, take-above, take-unusable, take-outside, take-unordered, take-breaks, take-noted, slot-left}
+use Rattle.meter.proofs.MeterAnswers.{take-above, take-unusable, take-outside, take-unordered, take-breaks, take-noted, slot-left}
 use borrow.Author.Needs.{needs}
 use Rattle.meter.proofs.take.Statement.{statement}
 use Rattle.meter.proofs.take.Tie as tie
-
-noted : (c : tie.After-note) {answer : Noted} → c .note .result ≡ answer → {metered : Metered} →
-    let start = c .before .before .before .before .before .before .before .before .before .before .before .before .before .args in
-    metered ≡ meteredNoted (start .state) answer → Answers (start .state) (start .words .now) (start .input .0) metered (c .note .last .1 .0)
-noted c told made =
-    let known = c .before .before .before .before .before .before in
-    let (answer, after) = take-noted _ _ _ (known .before .before .before .before .if1 .left) (sym (known .end .given .1) ∙ known .before .before .counted-before .ensures)
-    (c .before .before .if2 .left) (sym told ∙ c .note .ensures .0) (c .note .ensures .1) in
-    (made ∙ answer, after)
 
 refused-requires : tie.Need-refused-requires
 refused-requires c κs = search needs
@@ -44,8 +33,8 @@ enum-told-3 c = search needs
 refused-requires-4 : tie.Need-refused-requires-4
 refused-requires-4 c κs = search needs
 
-enum-known-end : tie.Need-enum-known-end
-enum-known-end c = search needs
+enum-known-awaited : tie.Need-enum-known-awaited
+enum-known-awaited c = search needs
 
 refused-requires-5 : tie.Need-refused-requires-5
 refused-requires-5 c κs = search needs
@@ -56,26 +45,23 @@ same-length c = search needs
 returns-2 : tie.Need-returns-2
 returns-2 c =
     let known = c .before .before .before .before .before in
-    let (answer, after) = take-breaks _ _ _ (known .before .before .before .before .if1 .left) (sym (known .end .given .1) ∙ known .before .before .counted-before .ensures) (c .before .if2 .taken) in
+    let (answer, after) = take-breaks _ _ _ (known .before .before .before .before .if1 .left) (sym (known .awaited .given .1) ∙ known .before .before .counted-before .ensures) (c .before .if2 .taken) in
     (c .refused5 .ensures ∙ answer, after)
+
+cast-note : tie.Need-cast-note
+cast-note c = omega (arith, c .before .before .before .before .before .before .before .before .before .before .if1 .left)
 
 note-requires : tie.Need-note-requires
 note-requires c κs = search needs
 
-enum-known-block : tie.Need-enum-known-block
-enum-known-block c = search needs
+block-behind-requires : tie.Need-block-behind-requires
+block-behind-requires c κs = search needs
 
 taken-requires : tie.Need-taken-requires
 taken-requires c κs =
-    let known = c .before .before .before .before .before .before .before .before .before .before .before in
+    let known = c .before .before .before .before .before .before .before .before .before .before in
     let start = known .before .before .before .before .before .before .before .args in
-    omega (arith, slot-left (start .state) (start .words .now) (start .input .0) (known .before .before .before .before .if1 .left) (sym (known .end .given .1) ∙ known .before .before .counted-before .ensures))
-
-enum-told-4 : tie.Need-enum-told-4
-enum-told-4 c = search needs
-
-refused-requires-6 : tie.Need-refused-requires-6
-refused-requires-6 c κs = search needs
+    omega (arith, slot-left (start .state) (start .words .now) (start .input .0) (known .before .before .before .before .if1 .left) (sym (known .awaited .given .1) ∙ known .before .before .counted-before .ensures))
 
 same-length-2 : tie.Need-same-length-2
 same-length-2 c = search needs
@@ -105,13 +91,12 @@ same-length-5 : tie.Need-same-length-5
 same-length-5 c = search needs
 
 returns-6 : tie.Need-returns-6
-returns-6 c = noted (c .before .before .before .before .before .before) (c .before .before .block .given .1) (c .taken .ensures)
-
-same-length-6 : tie.Need-same-length-6
-same-length-6 c = search needs
-
-returns-7 : tie.Need-returns-7
-returns-7 c = noted (c .before .before .before .before .before) (c .before .enum-told4 .given .1) (c .refused6 .ensures)
+returns-6 c =
+    let noted = c .before .before .before .before in
+    let known = noted .before .before .before .before .before .before .before in
+    let (answer, after) = take-noted _ _ _ (known .before .before .before .before .if1 .left) (sym (known .awaited .given .1) ∙ known .before .before .counted-before .ensures) (noted .before .before .before .if2 .left)
+    (c .before .block-behind .ensures) (noted .note .ensures) in
+    (c .taken .ensures ∙ answer, after)
 
 pub take-spec : {M : Type 1} → statement M
 take-spec =
@@ -126,15 +111,14 @@ take-spec =
     refused-requires-3
     enum-told-3
     refused-requires-4
-    enum-known-end
+    enum-known-awaited
     refused-requires-5
     same-length
     returns-2
+    cast-note
     note-requires
-    enum-known-block
+    block-behind-requires
     taken-requires
-    enum-told-4
-    refused-requires-6
     same-length-2
     returns-3
     same-length-3
@@ -142,6 +126,4 @@ take-spec =
     same-length-4
     returns-5
     same-length-5
-    returns-6
-    same-length-6
-    returns-7)
+    returns-6)

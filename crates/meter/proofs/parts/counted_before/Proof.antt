@@ -13,8 +13,8 @@ rows-below-requires c κs = c .before .rows-tested .ensures (c .if1 .taken)
 returns : tie.Need-returns
 returns c =
     let found = c .before .before in
-    let (fit, least) = found .rows-below .ensures (c .if2 .taken) in
-    counted-rows _ _ (found .before .before .rows-tested .ensures (found .before .if1 .taken)) fit least
+    let (fit, least) = found .rows-below .ensures .0 (c .if2 .taken) in
+    counted-rows _ _ (found .before .before .rows-tested .ensures (found .before .if1 .taken)) fit least (found .rows-below .ensures .1)
 
 counted-by-scan-requires : tie.Need-counted-by-scan-requires
 counted-by-scan-requires c κs = search needs

@@ -1,6 +1,6 @@
 -- The loop: the rows passed have visited the words within reach.
 use mathlib.Core.Path.{_≡_, ap, _∙_}
-use Prim.Native.Nat.{_-_, _%_, _<_, min}
+use Prim.Native.Nat.{ℕ, _-_, _%_, _<_, min}
 use native.Mathlib.Omega.{arith}
 use borrow.Author.Needs.{needs}
 use Rattle.meter.proofs.VisitedRows.{Visiting, Visited, visiting, visited-none, visited-next, visited-fits, visited-least}
@@ -88,13 +88,13 @@ loop-again c =
     )
 
 returns : tie.Need-returns Inv-loop μ-loop
-returns c within =
+returns c =
     let start = c .before .before .before .before .before .before .before .before in
     let ring = c .before .before .before .before .ring-length .ensures in
     let (rows, visited) = c .before .loop .inv in
     let all : c .before .loop .i ≡ start .args .state .declaration .count = omega (arith, visited .passed) in
     let visited = rw (ring, all) at visited in
-    (visited-fits _ _ (start .pre) visited within, visited-least _ _ (start .pre) visited within)
+    (λ within. (visited-fits _ _ (start .pre) visited within, visited-least _ _ (start .pre) visited within), ap (λ (n : ℕ). start .args .state .slot .0 % n) ring)
 
 pub rows-below-spec : {M : Type 1} → statement M
 rows-below-spec =

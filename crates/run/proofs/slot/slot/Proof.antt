@@ -21,11 +21,11 @@ use Rattle.operator.specs.Single.{wordCount}
 use Rattle.operator.specs.Ring.{totalNoted}
 use Rattle.run.specs.Runs.{operatorAtWord, noStage, operatorOf, meterIn}
 use Rattle.run.specs.Slots.{slottedOf, wordsSlotted}
-use Rattle.run.specs.Steps.{emptyBehind, acceptedBy, runAdvanced, withPart, blockWritten, ringNoted, runWritten}
+use Rattle.run.specs.Steps.{awaitedIn, emptyBehind, acceptedBy, runAdvanced, withPart, blockWritten, ringNoted, runWritten}
 use Rattle.run.proofs.UsableRun.{slot-left}
 use Rattle.run.proofs.TestLaws.{empty-start, empty-next}
-use Rattle.run.proofs.MovingLaws.{Begins, begins, few, counted, Moving, moving-start, moving-sent, moving-unusable, moving-above}
-use Rattle.run.proofs.WriteLaws.{metered-size, Written, written-start, written-next, words-end}
+use Rattle.run.proofs.MovingLaws.{Begins, begins, few, counted, input-le, Moving, moving-start, moving-sent, moving-unusable, moving-above}
+use Rattle.run.proofs.WriteLaws.{metered-size, metered-same, Written, written-start, written-next, words-end}
 use Rattle.run.proofs.SlotLaws.{Refusing, Taking, judged-told, answer-refused, answer-taken}
 use Rattle.run.proofs.slot.slot.Statement.{statement}
 use Rattle.run.proofs.slot.slot.Tie as tie
@@ -92,6 +92,14 @@ took c taken-so = ⊎-elim (λ refusing. absurd (contradiction taken-so (c .acce
 left : (c : tie.After-accepted Inv-loop μ-loop Inv-loop2 μ-loop2 Inv-loop3 μ-loop3) → c .accepted .result ≡ false → let a = c .before .before .before .before .before .before .before .before .before .before .before .before .before .before .before .args in Refusing (a .run) (a .words .now) (callOf (a .input) (a .choices .now)) (c .before .judge .result)
 unfolding acceptedBy
 left c left-so = ⊎-elim (λ refusing. refusing) (λ taking. absurd (contradiction (c .accepted .ensures ∙ ap acceptedBy (taking .accepted)) left-so)) (judged (c .before))
+
+-- and has begun
+begun-taken : (c : tie.After-accepted Inv-loop μ-loop Inv-loop2 μ-loop2 Inv-loop3 μ-loop3) → c .accepted .result ≡ true →
+    let a = c .before .before .before .before .before .before .before .before .before .before .before .before .before .before .before .args in
+    Begins (a .run) (a .words .now) (a .input) (a .choices .now) (c .before .before .before .before .before .before .before .before .before .before .before .begin .result)
+begun-taken c taken-so =
+    let taking = took c taken-so in
+    begins _ _ _ _ (c .before .before .before .before .before .before .before .before .before .before .before .begin .ensures) {k = 0} (omega (arith, taking .operators, taking .fits .some))
 
 -- the stages then
 stages-taken : (c : tie.Joined1 Inv-loop μ-loop Inv-loop2 μ-loop2 Inv-loop3 μ-loop3) → c .before .accepted .result ≡ true → c .if1 .stages ≡ c .before .before .before .before .before .before .before .before .before .loop .stages
@@ -239,7 +247,7 @@ accepted-requires : tie.Need-accepted-requires Inv-loop μ-loop Inv-loop2 μ-loo
 accepted-requires c κs = search needs
 
 write-meter-requires : tie.Need-write-meter-requires Inv-loop μ-loop Inv-loop2 μ-loop2 Inv-loop3 μ-loop3
-write-meter-requires c κs taken-so = took (c .before .before) taken-so .fits .sized
+write-meter-requires c κs taken-so = (took (c .before .before) taken-so .fits .sized, input-le (begun-taken (c .before .before) taken-so .ready))
 
 loop3-holds : tie.Need-loop3-holds Inv-loop μ-loop Inv-loop2 μ-loop2 Inv-loop3 μ-loop3
 loop3-holds c = (
@@ -301,7 +309,7 @@ run-same run slots blocks same = rw (slots, blocks, same)
 
 run-next : (run : Run) (words : List ℕ) (call : Call) {slot : Slots} {block : Units} {stages : List Stage} → slot ≡ record { 0 = run .slot .0 + 1 } → block ≡ blockWritten run words (call .input) → stages ≡ runAdvanced run words call .stages
     → record { declaration = run .declaration; slot = slot; block = block; count = run .count; stages = stages } ≡ runWritten (runAdvanced run words call) words (call .input)
-unfolding runWritten runAdvanced blockWritten meterIn
+unfolding runWritten runAdvanced blockWritten awaitedIn meterIn
 run-next run words call slots blocks same = rw (slots, blocks, same)
 
 advanced-same : (run : Run) (words : List ℕ) (call : Call) {stages : List Stage} → stages ≡ runAdvanced run words call .stages → withStages run stages ≡ runAdvanced run words call
@@ -326,7 +334,9 @@ taken-answer c taken-so =
     let a = c .before .before .before .before .before .before .before .before .before .before .before .before .before .before .before .before .before .before .before .before .before .before .before .before .before .before .before .args in
     let call = callOf (a .input) (a .choices .now) in
     let taking = took (c .before .before .before .before .before .before .before .before .before .before .before .before) taken-so in
-    let metered = c .before .before .before .before .before .before .before .before .before .write-meter .ensures .0 taken-so in
+    let written = c .before .before .before .before .before .before .before .before .before .write-meter .ensures .0 taken-so in
+    let known = begun-taken (c .before .before .before .before .before .before .before .before .before .before .before .before) taken-so .awaited in
+    let metered = metered-same (a .run) (a .words .now) (a .input) known (written .0) (written .1) in
     let stages-same : c .before .before .before .before .before .before .before .before .before .before .before .if1 .stages ≡ runAdvanced (a .run) (a .words .now) call .stages = stages-taken (c .before .before .before .before .before .before .before .before .before .before .before) taken-so ∙ taking .stages-next in
     let advanced = advanced-same (a .run) (a .words .now) call stages-same in
     let ends : c .before .before .before .before .before .loop3 .k ≡ a .run .count =

@@ -13,14 +13,19 @@ contradiction e f = let z : _≡_ {A = ℕ} 0 1 = cc in omega arith
 note-input-requires : tie.Need-note-input-requires
 note-input-requires c κs = c .before .before .before .pre (c .before .if1 .taken)
 
+block-behind-requires : tie.Need-block-behind-requires
+block-behind-requires c κs = search needs
+
 same-length : tie.Need-same-length
 same-length c = search needs
 
 returns : tie.Need-returns
-returns c = (λ yes. (c .before .before .note-input .ensures .0, c .before .before .note-input .ensures .1), λ no. absurd (contradiction (c .before .before .before .before .if1 .taken) no))
+returns c =
+    let noted = c .before .before .before in
+    (λ yes. (c .block-behind .ensures, noted .note-input .ensures), λ no. absurd (contradiction (noted .before .before .if1 .taken) no))
 
 returns-2 : tie.Need-returns-2
-returns-2 c = (λ yes. absurd (contradiction yes (c .before .if1 .left)), λ no. (refl, refl))
+returns-2 c = (λ yes. absurd (contradiction yes (c .if1 .left)), λ no. (refl, refl))
 
 pub write-meter-spec : {M : Type 1} → statement M
-write-meter-spec = tie.close (tie.spec note-input-requires same-length returns returns-2)
+write-meter-spec = tie.close (tie.spec note-input-requires block-behind-requires same-length returns returns-2)

@@ -51,8 +51,8 @@ part-counted-before-end c = search needs
 counted-before-requires : tie.Need-counted-before-requires
 counted-before-requires c κs = search needs
 
-enum-known-below : tie.Need-enum-known-below
-enum-known-below c = search needs
+enum-known-awaited : tie.Need-enum-known-awaited
+enum-known-awaited c = search needs
 
 not-begun-requires-4 : tie.Need-not-begun-requires-4
 not-begun-requires-4 c κs = search needs
@@ -67,7 +67,7 @@ returns-5 : tie.Need-returns-5
 returns-5 c =
     let counted = c .before .before .before in
     let tested = counted .before .before in
-    let found = meter-counted _ _ (sym (c .before .below .given .1) ∙ answered counted) in
+    let found = meter-counted _ _ (sym (c .before .awaited .given .1) ∙ answered counted) in
     let some : 1 ≤ tested .before .before .before .before .before .args .run .count = omega (arith, tested .before .before .if2 .left) in
     begun-fits _ _
     (record {
@@ -95,7 +95,7 @@ begin-meter-spec =
     part-counted-before-start
     part-counted-before-end
     counted-before-requires
-    enum-known-below
+    enum-known-awaited
     not-begun-requires-4
     returns-4
     returns-5)

@@ -13,9 +13,10 @@ use Rattle.words.specs.Stored.{wordAt}
 use Rattle.meter.specs.Meter.{meterWordCount, ringLength, wordBefore}
 use Rattle.meter.proofs.Least.{leastFrom, least-from-none, least-from-next}
 use Rattle.meter.proofs.UsableMeter.{UsableMeter, Ranged, usable-meter, declaration-ranged, ring-interval, ring-large, ring-fits}
+use Rattle.meter.proofs.PartsLaws.{awaited-ring}
 use Rattle.meter.proofs.EarlierRows.{Rising, givenRow, rowLeaves, rising, below-found, below-none}
-use Rattle.meter.proofs.parts.ring_below.Statement.{statement}
-use Rattle.meter.proofs.parts.ring_below.Tie as tie
+use Rattle.meter.proofs.parts.awaited_in_ring.Statement.{statement}
+use Rattle.meter.proofs.parts.awaited_in_ring.Tie as tie
 
 abbrev Inv-loop : tie.InvT-loop
 Inv-loop words units at least₀ ring count rows counted₀ reach₀ i₀ least counted reach i =
@@ -109,8 +110,11 @@ returns : tie.Need-returns Inv-loop μ-loop
 returns c =
     let start = c .before .before .before .before .before .before .before .before in
     let last = c .before .before .before .before .before in
+    let least =
     below-none (start .args .state) (start .args .words .now) (usable last) (ranged last) (start .pre .3) (start .pre .0) (last .last-row .result .interval .0) (ringed last) (last .last-row .result .quota .0)
     (quota-last last) (sym (leaves-last (c .before)) ∙ c .if1 .taken)
+    in
+    awaited-ring _ _ least (start .pre .0) (ap (λ (ring : ℕ). start .args .state .slot .0 % ring) (ringed last))
 
 cast-ring : tie.Need-cast-ring Inv-loop μ-loop
 cast-ring c = search needs
@@ -188,12 +192,15 @@ returns-2 c =
     let ring = last .last-row .result .interval .0 in
     let leaves = rowLeaves words ring (state .slot .0 % ring) (state .declaration .rows) in
     let all : c .before .loop .i ≡ state .declaration .count - 1 = omega (arith, c .before .loop .inv .1) in
+    let least =
     c .before .loop .inv .4
     ∙ ap₂ (λ (first n : ℕ). leastFrom first leaves n) (leaves-last (c .before .before .before .before .before)) all
     ∙ below-found state words (usable last) (ranged last) (start .pre .3) (start .pre .0) ring (ringed last) (last .last-row .result .quota .0) (quota-last last)
+    in
+    awaited-ring _ _ least (start .pre .0) (ap (λ (ring : ℕ). state .slot .0 % ring) (ringed last))
 
-pub ring-below-spec : {M : Type 1} → statement M
-ring-below-spec =
+pub awaited-in-ring-spec : {M : Type 1} → statement M
+awaited-in-ring-spec =
     tie.close
     (tie.spec
     Inv-loop
