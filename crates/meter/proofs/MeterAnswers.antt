@@ -14,8 +14,9 @@ use Rattle.quantity.specs.declared.refusal.Refusal.{Refusal}
 use Rattle.quantity.specs.declared.refusal.Refusal.the-variants.{Unusable, OutOfRange, InputBreaksDeclaration, RowsOutOfOrder}
 use Rattle.quantity.proofs.Laws.{pick-true, pick-false, picked-false, pick-map, either-first}
 use Rattle.flow.specs.Declarations.{declarationInRange, rowsInOrder}
+use Rattle.words.specs.Stored.{wordNoted}
 use Rattle.meter.specs.Meter.{meterUnusable, declarationCases, roomOf, meterNext, meterOf, meterWordsAfter}
-use Rattle.meter.specs.Parts.{inputsBelow, awaitedOf, countedOf, inputNoted, blockBehind}
+use Rattle.meter.specs.Parts.{inputsBelow, awaitedOf, countedOf, blockBehind}
 use Rattle.meter.specs.declared.SourceMeter.{SourceMeter}
 use Rattle.meter.specs.declared.parts.Awaited.{Awaited}
 use Rattle.meter.specs.declared.parts.Counted.{Counted}
@@ -161,14 +162,14 @@ module _ (x : SourceMeter) (words : List ℕ) (input : ℕ) where
           rw first-test
           (sym (passed-count x words (refusedWith x) _ known ∙ pick-true _ _ _ breaks), sym (passed-count x words (λ why. words) _ known ∙ pick-true _ _ _ breaks))
 
-      pub take-noted : input < awaited .below .0 → {block : Units} → block ≡ blockBehind awaited (record { 0 = input }) → {after : List ℕ} → after ≡ inputNoted words (awaited .at) input
+      pub take-noted : input < awaited .below .0 → {block : Units} → block ≡ blockBehind awaited (record { 0 = input }) → {after : List ℕ} → after ≡ wordNoted words (awaited .at) input
           → Answers (takenWith x block) after
       unfolding meterOf meterWordsAfter meterNext awaitedOf
       take-noted within noted written =
           let known = counting x words answered in
           let keeps = sym (within-breaks x words input (known .in-range)) ∙ ap not (lt-ltb input (inputsBelow x words) (omega (arith, known .least))) in
           let block-next = noted ∙ ap (λ (a : Awaited). blockBehind a (record { 0 = input })) (known .same) ∙ block-behind-next x words input (known .tested) (known .in-range) small in
-          let words-next = written ∙ ap (λ (a : Awaited). inputNoted words (a .at) input) (known .same) ∙ noted-next x words input (known .tested) (known .in-range) in
+          let words-next = written ∙ ap (λ (a : Awaited). wordNoted words (a .at) input) (known .same) ∙ noted-next x words input (known .tested) (known .in-range) in
           rw first-test (
             ap (takenWith x) block-next ∙ sym (passed-count x words (refusedWith x) _ known ∙ pick-false _ _ _ keeps),
             words-next ∙ sym (passed-count x words (λ why. words) _ known ∙ pick-false _ _ _ keeps),

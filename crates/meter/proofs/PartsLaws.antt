@@ -16,9 +16,9 @@ use Rattle.quantity.proofs.Laws.{pick-true, pick-false}
 use Rattle.quantity.proofs.Quantities.{units-sum}
 use Rattle.quantity.proofs.Sums.{every-same, listOf-ext}
 use Rattle.flow.specs.Declarations.{rowCount, rowAt, declarationInRange, rowsInOrder}
-use Rattle.words.specs.Stored.{wordAt}
+use Rattle.words.specs.Stored.{wordAt, wordNoted}
 use Rattle.meter.specs.Meter.{meterWordCount, usesBlock, ringLength, meterUnusable, blockBefore, countedBefore, inputBreaks, roomIn, leastBelow, blockNext, meterWordNext}
-use Rattle.meter.specs.Parts.{inputsBelow, inputPlace, awaitedOf, countedOf, inputNoted, blockBehind}
+use Rattle.meter.specs.Parts.{inputsBelow, inputPlace, awaitedOf, countedOf, blockBehind}
 use Rattle.meter.specs.declared.SourceMeter.{SourceMeter}
 use Rattle.meter.specs.declared.parts.Counted.{Counted}
 use Rattle.meter.specs.declared.parts.Counted.the-variants.{Below}
@@ -124,11 +124,11 @@ module _ (x : SourceMeter) (words : List ℕ) (input : ℕ) (usable : meterUnusa
   word-set inside j false e = getD-set-other words place j input 0 (eqb-false j _ e)
 
   -- with a block the words stay, and with a ring the input replaces the word of its slot
-  pub noted-next : inputNoted words (inputPlace x) input ≡ listOf (meterWordNext x words input) meterWordCount
-  unfolding inputNoted inputPlace meterWordNext
+  pub noted-next : wordNoted words (inputPlace x) input ≡ listOf (meterWordNext x words input) meterWordCount
+  unfolding wordNoted inputPlace meterWordNext
   noted-next = by-kind (usesBlock (x .declaration .kind)) refl
     where
-      by-kind : (smooth : Bool) → usesBlock (x .declaration .kind) ≡ smooth → inputNoted words (inputPlace x) input ≡ listOf (meterWordNext x words input) meterWordCount
+      by-kind : (smooth : Bool) → usesBlock (x .declaration .kind) ≡ smooth → wordNoted words (inputPlace x) input ≡ listOf (meterWordNext x words input) meterWordCount
       by-kind true smooth =
           rw smooth
           (pick-false _ _ _ (le-ltb meterWordCount (length words) (omega (arith, stored .sized)))

@@ -2,7 +2,6 @@
 use Prim.Native.Nat.{ℕ, _+_, _-_, _%_}
 use mathlib.Core.Bool.{not}
 use mathlib.Core.List.{List}
-use lib.ListN.{length, set}
 use lib.Dec.{ltb}
 use Rattle.quantity.specs.Choice.{pick}
 use Rattle.quantity.specs.Quantities.{unitsSum}
@@ -34,10 +33,6 @@ countedOf x words =
     (pick (not (declarationInRange (x .declaration))) Counted.OutOfRange
     (pick (not (rowsInOrder (x .declaration))) Counted.OutOfOrder (Below (awaitedOf x words))))
 
--- Write: the words with the input in its word, if it has one
-unfoldable pub inputNoted : List ℕ → ℕ → ℕ → List ℕ
-inputNoted words at input = pick (ltb at (length words)) (set words at input) words
-
--- and the block's total behind it, 0 where it has one
+-- Write: its word is noted, if it has one; the block's total behind it is 0 where it has
 unfoldable pub blockBehind : Awaited → Units → Units
 blockBehind awaited input = pick (ltb (awaited .at) meterWordCount) (record { 0 = 0 }) (unitsSum (awaited .block) input)

@@ -3,7 +3,6 @@
 use crate::parts::Counted;
 use crate::parts::block_behind;
 use crate::parts::counted_before;
-use crate::parts::note;
 use flow::Declaration;
 use quantity::Slots;
 use quantity::Units;
@@ -72,7 +71,7 @@ pub fn take(state: SourceMeter, words: &mut [u32], input: Units) -> Metered
             if awaited.below.0 <= input.0 {
                 return refused(state, Refusal::InputBreaksDeclaration);
             }
-            note(words, awaited.at, input.0 as u32);
+            words::note(words, awaited.at, input.0 as u32);
             taken(state, block_behind(awaited, input))
         }
     }

@@ -20,7 +20,7 @@ ghost use Rattle.words.specs.Gathering.{mostExact};
 ghost use Rattle.flow.specs.Declarations.{declarationInRange, rowsInOrder};
 ghost use Rattle.meter.specs.Meter.{meterWordCount, usesBlock, ringLength, meterUnusable, blockBefore, wordBefore};
 ghost use Rattle.meter.specs.Counting.{RowsTested, AgesGathered};
-ghost use Rattle.meter.specs.Parts.{inputsBelow, awaitedOf, countedOf, inputNoted, blockBehind};
+ghost use Rattle.meter.specs.Parts.{inputsBelow, awaitedOf, countedOf, blockBehind};
 
 // The words of a meter.
 const WORDS: usize = 1024;
@@ -57,16 +57,7 @@ pub fn counted_before(state: SourceMeter, words: &[u32]) -> Counted
     counted_by_scan(state, words)
 }
 
-// Write: the word that counting answered becomes the input. Where there is a block there is none, and no word is written.
-pub fn note(words: &mut [u32], at: usize, input: u32)
-    ensures { λ _. ⌜ now (words .exit) ≡ inputNoted (now (words .entry)) at input ⌝ }
-{
-    if at < words.len() {
-        words[at] = input;
-    }
-}
-
-// The block's total behind an input, 0 where that is noted in a word.
+// Write: the block's total behind an input, 0 where that is noted in a word.
 pub fn block_behind(awaited: Awaited, input: Units) -> Units
     ensures { λ r. ⌜ r ≡ blockBehind awaited input ⌝ }
 {

@@ -6,7 +6,7 @@ use Prim.Native.Nat.{ℕ}
 use lib.ListN.{replicate}
 use Rattle.quantity.specs.Ranges.{inRange}
 use Rattle.quantity.specs.Sums.{every, listOf}
-use Rattle.words.specs.Stored.{storedFits}
+use Rattle.words.specs.Stored.{storedFits, wordNoted}
 use Rattle.operator.specs.Delayer.{delayerGreatest, delayerAfter}
 use Rattle.operator.specs.Operators.{greatestOutput, heldAfter, numberInRange, limiter, delayer}
 use Rattle.operator.specs.Single.{usesHeld, usesBeside, wordsUsed}
@@ -108,12 +108,12 @@ unfolding before after usesHeld Ring.totalMore Ring.totalNext Ring.pathStateKept
 reference-kept = refl
 
 -- word 7 mod 3 has the total then; a limiter has no word
-pub reference-words : Ring.totalNoted beforeWords (Ring.ringPlace before) 4 ≡ afterWords
-unfolding before beforeWords afterWords usesHeld wordsUsed Ring.ringPlace Ring.totalNoted
+pub reference-words : wordNoted beforeWords (Ring.ringPlace before) 4 ≡ afterWords
+unfolding before beforeWords afterWords usesHeld wordsUsed Ring.ringPlace wordNoted
 reference-words = refl
 
-pub reference-no-word : Ring.totalNoted beforeWords (Ring.ringPlace (counting (limiter 3) 7 4 0)) 4 ≡ beforeWords
-unfolding beforeWords usesHeld Ring.ringPlace Ring.totalNoted
+pub reference-no-word : wordNoted beforeWords (Ring.ringPlace (counting (limiter 3) 7 4 0)) 4 ≡ beforeWords
+unfolding beforeWords usesHeld Ring.ringPlace wordNoted
 reference-no-word = refl
 
 -- Words that no slot wrote: of the 10 that are held a word says that 5 entered after slot t − d, another that 4,294,967,291 did, which leaves nothing to send.

@@ -6,7 +6,7 @@ use Prim.Native.Nat.{ℕ, zero, suc, _+_, _-_, _%_, _≤_, _<_}
 use native.Mathlib.Nat.{add-zero, add-suc, add-mod-mod, mod-lt}
 use native.Mathlib.Decide.{decLt, ℕ-discrete}
 use native.Mathlib.Omega.{arith}
-use lib.ListN.{length, set, take, drop, length-set, length-drop}
+use lib.ListN.{length, set, take, drop, length-drop}
 use lib.Seq.{length-take-le, getD-take, getD-drop, getD-set-same, getD-set-other}
 use lib.Bits.{bitOr}
 use lib.Dec.{leb, ltb, eqb}
@@ -17,15 +17,15 @@ use Rattle.quantity.specs.Ranges.{delayRange}
 use Rattle.quantity.specs.Sums.{every, listOf}
 use Rattle.quantity.proofs.Laws.{pick-true, pick-false, either-false, either-first, either-second, either-none, least-le}
 use Rattle.quantity.proofs.Sums.{both-true, every-holds, every-same, listOf-ext}
-use Rattle.words.specs.Stored.{wordAt, clearAt, storedFits}
-use Rattle.words.proofs.StoredLaws.{stored-le}
+use Rattle.words.specs.Stored.{wordAt, clearAt, storedFits, wordNoted}
+use Rattle.words.proofs.StoredLaws.{stored-le, length-noted}
 use Rattle.words.proofs.JoinLaws.{or-clear}
 use Rattle.flow.specs.Flows.{Flow}
 use Rattle.operator.specs.Held.{Held}
 use Rattle.operator.specs.Operators.{leastOutput, greatestOutput, heldAfter, numberInRange}
 use Rattle.operator.specs.Single.{wordCount, wordsUsed, usesHeld, usesBeside}
 use Rattle.operator.specs.Parts.{mostOnTheWay}
-use Rattle.operator.specs.Ring.{wrap, totalMore, totalLess, ringHeld, ringRecent, ringPast, pathHolds, pathLeast, pathGreatest, wordUnused, totalsFit, pathUnusable, pathSent, pathChoiceAbove, pathHoldsNext, totalNext, pathStateKept, ringWordNext, pathAdvanced, storable, pathUnready, pathHoldsSent, ringPlace, advancedOf, totalNoted}
+use Rattle.operator.specs.Ring.{wrap, totalMore, totalLess, ringHeld, ringRecent, ringPast, pathHolds, pathLeast, pathGreatest, wordUnused, totalsFit, pathUnusable, pathSent, pathChoiceAbove, pathHoldsNext, totalNext, pathStateKept, ringWordNext, pathAdvanced, storable, pathUnready, pathHoldsSent, ringPlace, advancedOf, ringNoted}
 use Rattle.operator.specs.Steps.{SendsWithin}
 use Rattle.operator.specs.declared.Operator.{Operator}
 use Rattle.operator.specs.declared.Operator.the-variants.{Limiter, Compactor, Expander, Filter, Delayer}
@@ -437,28 +437,16 @@ module _ (x : PathOperator) (input output kept beside : ℕ) where
 
 -- What noting writes.
 
--- an operator's total in its word
-abbrev pub ringNoted : PathOperator → List ℕ → List ℕ
-ringNoted x words = totalNoted words (ringPlace x) (x .entered)
-
 module _ (x : PathOperator) (words : List ℕ) where
   abbrev place : ℕ
   place = x .slot .0 % wordsUsed (x .operator)
 
-  pub length-noted : (at total : ℕ) → length (totalNoted words at total) ≡ length words
-  unfolding totalNoted
-  length-noted at total = by-test (ltb at (length words))
-    where
-      by-test : (t : Bool) → length (pick t (set words at total) words) ≡ length words
-      by-test true = length-set words at total
-      by-test false = refl
-
-  noted-apart : length words ≡ wordCount → usesHeld (x .operator) ≡ true → (total : ℕ) → totalNoted words (ringPlace x) total ≡ words
-  unfolding totalNoted ringPlace
+  noted-apart : length words ≡ wordCount → usesHeld (x .operator) ≡ true → (total : ℕ) → wordNoted words (ringPlace x) total ≡ words
+  unfolding wordNoted ringPlace
   noted-apart sized apart total = ap (λ (at : ℕ). pick (ltb at (length words)) (set words at total) words) (pick-true _ _ _ apart) ∙ pick-false _ _ _ (le-ltb wordCount (length words) (omega arith))
 
-  noted-ring : length words ≡ wordCount → numberInRange (x .operator) ≡ true → usesHeld (x .operator) ≡ false → (total : ℕ) → totalNoted words (ringPlace x) total ≡ set words place total
-  unfolding totalNoted ringPlace
+  noted-ring : length words ≡ wordCount → numberInRange (x .operator) ≡ true → usesHeld (x .operator) ≡ false → (total : ℕ) → wordNoted words (ringPlace x) total ≡ set words place total
+  unfolding wordNoted ringPlace
   noted-ring sized inside ring total =
       let within : place < length words = omega (arith, mod-lt (x .slot .0) (delayer-used (x .operator) inside ring), used-within (x .operator) inside) in
       ap (λ (at : ℕ). pick (ltb at (length words)) (set words at total) words) (pick-false _ _ _ ring) ∙ pick-true _ _ _ (lt-ltb place (length words) within)
@@ -495,5 +483,5 @@ module _ (x : PathOperator) (words : List ℕ) (sized : length words ≡ wordCou
   pub noted-next : ringNoted advanced words ≡ listOf (ringWordNext x words input) wordCount
   unfolding ringWordNext
   noted-next =
-      listOf-ext 0 _ wordCount (ringNoted advanced words) (length-noted advanced words (ringPlace advanced) (advanced .entered) ∙ sized)
+      listOf-ext 0 _ wordCount (ringNoted advanced words) (length-noted words (ringPlace advanced) (advanced .entered) ∙ sized)
       (λ j less. word-noted (usesHeld (x .operator)) refl j)

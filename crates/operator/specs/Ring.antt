@@ -3,12 +3,12 @@
 use Prim.Native.Nat.{ℕ, zero, suc, _+_, _-_, _%_, min}
 use mathlib.Core.Bool.{Bool, not}
 use mathlib.Core.List.{List, [], _∷_}
-use lib.ListN.{length, set}
+use lib.ListN.{length}
 use lib.Dec.{leb, ltb, eqb}
 use Rattle.quantity.specs.Choice.{pick, both, either, anyOf}
 use Rattle.quantity.specs.Sums.{every, listOf}
 use Rattle.quantity.specs.Limits.{largestAmount, lastSlot}
-use Rattle.words.specs.Stored.{wordAt, storedFits}
+use Rattle.words.specs.Stored.{wordAt, storedFits, wordNoted}
 use Rattle.flow.specs.Flows.{Flow}
 use Rattle.operator.specs.Held.{Held}
 use Rattle.operator.specs.Operators.{leastOutput, greatestOutput, heldAfter, numberInRange}
@@ -156,9 +156,9 @@ advancedOf x words input choice =
     (pathAdvanced x input (pathSent x words input choice) (pathHoldsSent x words input choice .b) (pathHoldsSent x words input choice .h))
     (ringPlace x)))
 
--- Note: a word becomes a total; where there is no such word, nothing is written
-unfoldable pub totalNoted : List ℕ → ℕ → ℕ → List ℕ
-totalNoted words at total = pick (ltb at (length words)) (set words at total) words
+-- an operator's words with its total noted in its word
+abbrev pub ringNoted : PathOperator → List ℕ → List ℕ
+ringNoted x words = wordNoted words (ringPlace x) (x .entered)
 
 -- The state and the words slot after slot.
 

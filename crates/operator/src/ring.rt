@@ -26,7 +26,7 @@ ghost use Rattle.quantity.specs.Limits.{largestAmount, lastSlot};
 ghost use Rattle.words.specs.Stored.{wordAt};
 ghost use Rattle.operator.specs.Single.{wordCount, wordsUsed, usesHeld, usesBeside};
 ghost use Rattle.operator.specs.Parts.{mostOnTheWay};
-ghost use Rattle.operator.specs.Ring.{totalMore, totalLess, ringHeld, pathUnusable, storable, advancedOf, totalNoted};
+ghost use Rattle.operator.specs.Ring.{totalMore, totalLess, ringHeld, pathUnusable, storable, advancedOf};
 ghost use Rattle.operator.specs.Steps.{SendsWithin};
 
 // The words of an operator.
@@ -261,15 +261,6 @@ fn within(kept: u64, beside: u64) -> bool
     ensures { λ r. ⌜ r ≡ storable kept beside ⌝ }
 {
     kept <= Units::LARGEST && beside <= Units::LARGEST
-}
-
-// Note: the word that advancing answered becomes the total of what entered. An operator that is no delayer has none, and no word is written.
-pub fn note(words: &mut [u32], at: usize, total: u32)
-    ensures { λ _. ⌜ now (words .exit) ≡ totalNoted (now (words .entry)) at total ⌝ }
-{
-    if at < words.len() {
-        words[at] = total;
-    }
 }
 
 // What an operator of a path holds, for people who watch it.

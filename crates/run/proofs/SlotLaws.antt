@@ -18,7 +18,8 @@ use Rattle.quantity.specs.declared.refusal.Refusal.the-variants.{Unusable, Inpu
 use Rattle.quantity.proofs.Laws.{pick-true, pick-false, either-first}
 use Rattle.quantity.proofs.Sums.{both-true, every-same, listOf-ext}
 use Rattle.quantity.proofs.Refusals.{NoneStands, FirstIs}
-use Rattle.operator.specs.Ring.{ringPlace, totalNoted}
+use Rattle.words.specs.Stored.{wordNoted}
+use Rattle.operator.specs.Ring.{ringPlace, ringNoted}
 use Rattle.meter.specs.Parts.{awaitedOf}
 use Rattle.meter.proofs.PartsLaws.{within-breaks}
 use Rattle.sheet.specs.declared.read.Verdict.{Verdict}
@@ -31,7 +32,7 @@ use Rattle.run.specs.declared.test.Begun.{Begun}
 use Rattle.run.specs.Calls.{Call, choiceFor, choicesMiscounted, amountTooLarge, callOf}
 use Rattle.run.specs.Runs.{runWordCount, meterWords, noStage, stageAt, meterIn, operatorOf, operatorIn, stageFits, runUnusable}
 use Rattle.run.specs.Slots.{slotBreaks, slotCases, slotOutput, stageNext, refusedSlot, takenSlot, slottedOf, wordsSlotted}
-use Rattle.run.specs.Steps.{stageEmpty, emptyBehind, awaitedIn, notBegun, meterBegunOf, begunOf, behindClear, judgedOf, outcomeOf, runAdvanced, ringNoted, runWritten, wordWritten, decisionCases}
+use Rattle.run.specs.Steps.{stageEmpty, emptyBehind, awaitedIn, notBegun, meterBegunOf, begunOf, behindClear, judgedOf, outcomeOf, runAdvanced, runWritten, wordWritten, decisionCases}
 use Rattle.run.proofs.UsableRun.{MeterFits}
 use Rattle.run.proofs.TestLaws.{stages-told, usable-told}
 use Rattle.run.proofs.MovingLaws.{Ready, Begins, begun-or-not, Passing, Moving, standing-decided, unusable-decided, none-decided}
@@ -109,7 +110,7 @@ pub record Taking (run : Run) (words : List ℕ) (call : Call) (verdict : Verdic
   pub none : NoneStands (slotCases run words call)
   pub sent : p .arriving .0 ≡ slotOutput run words call
   pub stages-next : stages ≡ runAdvanced run words call .stages
-  pub noted : (k : ℕ) → k < run .count → (ws : List ℕ) → totalNoted ws (getD places k 0) (getD stages k noStage .entered) ≡ ringNoted (operatorOf (getD stages k noStage) (run .slot)) ws
+  pub noted : (k : ℕ) → k < run .count → (ws : List ℕ) → wordNoted ws (getD places k 0) (getD stages k noStage .entered) ≡ ringNoted (operatorOf (getD stages k noStage) (run .slot)) ws
 
 module _ (run : Run) (words : List ℕ) (input : Units) (choices : List ℕ) {begun : Begun} (same : begun ≡ begunOf run words (callOf input choices))
     {p : Progress} {stages : List Stage} {places : List ℕ} (moved : Moving run words (callOf input choices) (begun .count) (begun .count) p stages places) where
@@ -207,9 +208,9 @@ module _ (run : Run) (words : List ℕ) (input : Units) (choices : List ℕ) {be
             })
           where
             noted-here : Passing run words call (run .count) p stages places → (k : ℕ) → k < run .count → (ws : List ℕ)
-                → totalNoted ws (getD places k 0) (getD stages k noStage .entered) ≡ ringNoted (operatorOf (getD stages k noStage) (run .slot)) ws
+                → wordNoted ws (getD places k 0) (getD stages k noStage .entered) ≡ ringNoted (operatorOf (getD stages k noStage) (run .slot)) ws
             noted-here passing k less ws =
-                ap (λ (at : ℕ). totalNoted ws at (getD stages k noStage .entered)) (passing .placed k less ∙ place-next k ∙ ap (λ (stage : Stage). ringPlace (operatorOf stage (run .slot))) (sym (passing .advanced k less)))
+                ap (λ (at : ℕ). wordNoted ws at (getD stages k noStage .entered)) (passing .placed k less ∙ place-next k ∙ ap (λ (stage : Stage). ringPlace (operatorOf stage (run .slot))) (sym (passing .advanced k less)))
 
             stage-next : Passing run words call (run .count) p stages places → (i : ℕ) (t : Bool) → ltb i (run .count) ≡ t → getD stages i noStage ≡ pick t (stageNext run words call i) (stageAt run i)
             stage-next passing i true e = passing .advanced i (ltb-true i (run .count) e)

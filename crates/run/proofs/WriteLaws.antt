@@ -15,36 +15,28 @@ use Rattle.quantity.specs.Sums.{listOf}
 use Rattle.quantity.specs.declared.Slots.{Slots}
 use Rattle.quantity.specs.declared.Units.{Units}
 use Rattle.quantity.proofs.Sums.{listOf-ext}
-use Rattle.words.specs.Stored.{wordAt}
+use Rattle.words.specs.Stored.{wordAt, wordNoted}
 use Rattle.operator.specs.Operators.{numberInRange}
 use Rattle.operator.specs.Single.{wordCount, usesHeld}
-use Rattle.operator.specs.Ring.{totalNoted}
-use Rattle.operator.proofs.RingLaws.{length-noted}
+use Rattle.operator.specs.Ring.{ringNoted}
+use Rattle.words.proofs.StoredLaws.{length-noted}
 use Rattle.meter.specs.Meter.{meterWordCount}
-use Rattle.meter.specs.Parts.{inputPlace, awaitedOf, inputNoted, blockBehind}
+use Rattle.meter.specs.Parts.{inputPlace, awaitedOf, blockBehind}
 use Rattle.meter.specs.declared.parts.Awaited.{Awaited}
 use Rattle.operator.specs.declared.ring.PathOperator.{PathOperator}
 use Rattle.sheet.specs.Bodies.{part}
 use Rattle.run.specs.declared.Stage.{Stage}
 use Rattle.run.specs.declared.Run.{Run}
 use Rattle.run.specs.Runs.{runWordCount, meterWords, operatorAtWord, operatorWords, noStage, stageAt, meterIn, operatorOf, operatorIn}
-use Rattle.run.specs.Steps.{awaitedIn, blockWritten, meterNoted, ringNoted, withPart, stageWord, wordWritten}
+use Rattle.run.specs.Steps.{awaitedIn, blockWritten, meterNoted, withPart, stageWord, wordWritten}
 use Rattle.run.proofs.UpTo.{UpTo, up-to-none, up-to-here, up-to-next}
 use Rattle.run.proofs.Parts.{length-part, part-at, length-operatorWords, operator-word}
 use Rattle.run.proofs.WithPart.{put-back, meter-sized, meter-replaced, meter-beside, operator-sized, operator-replaced, meter-before, operator-before, operator-behind}
 
 -- Whether written or not, as many words are left as were lent.
 
-length-metered : (words : List ℕ) (at input : ℕ) → length words ≡ meterWordCount → length (inputNoted words at input) ≡ meterWordCount
-unfolding inputNoted
-length-metered words at input size = by-test (ltb at (length words))
-  where
-    by-test : (inside : Bool) → length (pick inside (set words at input) words) ≡ meterWordCount
-    by-test true = length-set words at input ∙ size
-    by-test false = size
-
 length-ring : (x : PathOperator) (words : List ℕ) → length words ≡ wordCount → length (ringNoted x words) ≡ wordCount
-length-ring x words size = length-noted x words _ _ ∙ size
+length-ring x words size = length-noted words _ _ ∙ size
 
 length-meterWords : (words : List ℕ) → length words ≡ runWordCount → length (meterWords words) ≡ meterWordCount
 unfolding meterWords
@@ -58,10 +50,10 @@ meter-word words sized j less = part-at 0 meterWordCount words (omega arith) j l
 
 module _ (at input : ℕ) (words : List ℕ) (sized : length words ≡ runWordCount) where
   abbrev noted : List ℕ
-  noted = inputNoted (meterWords words) at input
+  noted = wordNoted (meterWords words) at input
 
   noted-sized : length noted ≡ meterWordCount
-  noted-sized = length-metered (meterWords words) at input (length-meterWords words sized)
+  noted-sized = length-noted (meterWords words) at input ∙ length-meterWords words sized
 
   pub meter-written : {new : List ℕ} → new ≡ noted → take 0 words ++ (new ++ drop meterWordCount (drop 0 words)) ≡ withPart 0 noted words
   meter-written left = rw left (put-back 0 meterWordCount noted words noted-sized)
@@ -71,11 +63,11 @@ module _ (at input : ℕ) (words : List ℕ) (sized : length words ≡ runWordCo
 
 -- what is known of the input of a run has its place
 pub metered-same : (run : Run) (words : List ℕ) (input : Units) {awaited : Awaited} → awaited ≡ awaitedIn run words → {block : Units} → block ≡ blockBehind awaited input
-    → {after : List ℕ} → after ≡ withPart 0 (inputNoted (meterWords words) (awaited .at) (input .0)) words
+    → {after : List ℕ} → after ≡ withPart 0 (wordNoted (meterWords words) (awaited .at) (input .0)) words
     → (block ≡ blockWritten run words (input .0)) × (after ≡ withPart 0 (meterNoted run words (input .0)) words)
 unfolding blockWritten awaitedIn awaitedOf
 metered-same run words input known blocks noted =
-    (blocks ∙ ap (λ (a : Awaited). blockBehind a input) known, noted ∙ ap (λ (a : Awaited). withPart 0 (inputNoted (meterWords words) (a .at) (input .0)) words) known)
+    (blocks ∙ ap (λ (a : Awaited). blockBehind a input) known, noted ∙ ap (λ (a : Awaited). withPart 0 (wordNoted (meterWords words) (a .at) (input .0)) words) known)
 
 -- A stage.
 
@@ -84,14 +76,14 @@ module _ (at total : ℕ) (words : List ℕ) (k : ℕ) where
   lent = operatorAtWord k + wordCount - operatorAtWord k
 
   abbrev withTotal : List ℕ
-  withTotal = totalNoted (operatorWords words k) at total
+  withTotal = wordNoted (operatorWords words k) at total
 
-  pub total-written : length words ≡ runWordCount → k < mostOperators → {new : List ℕ} → new ≡ totalNoted (take lent (drop (operatorAtWord k) words)) at total
+  pub total-written : length words ≡ runWordCount → k < mostOperators → {new : List ℕ} → new ≡ wordNoted (take lent (drop (operatorAtWord k) words)) at total
       → take (operatorAtWord k) words ++ (new ++ drop lent (drop (operatorAtWord k) words)) ≡ withPart (operatorAtWord k) withTotal words
   unfolding operatorWords part
   total-written sized less left =
       let wide : lent ≡ wordCount = omega arith in
-      let sizes = length-noted (operatorOf noStage (record { 0 = 0 })) (operatorWords words k) at total ∙ length-operatorWords words sized k less in
+      let sizes = length-noted (operatorWords words k) at total ∙ length-operatorWords words sized k less in
       rw (left, wide) (put-back (operatorAtWord k) wordCount withTotal words sizes)
 
 -- what a stage's words are once written, over the words behind the meter's

@@ -16,7 +16,7 @@ use Rattle.quantity.proofs.Sums.{getD-listOf}
 use Rattle.quantity.proofs.Refusals.{NoneStands}
 use Rattle.words.specs.Stored.{wordAt}
 use Rattle.operator.specs.Single.{wordCount}
-use Rattle.operator.specs.Ring.{ringWordNext, pathAdvanced}
+use Rattle.operator.specs.Ring.{ringWordNext, pathAdvanced, ringNoted}
 use Rattle.meter.specs.Meter.{meterWordCount, blockNext, meterNext, meterWordNext}
 use Rattle.operator.specs.declared.ring.PathOperator.{PathOperator}
 use Rattle.operator.proofs.RingLaws.{noted-next}
@@ -26,7 +26,7 @@ use Rattle.run.specs.declared.Run.{Run}
 use Rattle.run.specs.Calls.{Call, amountTooLarge}
 use Rattle.run.specs.Runs.{meterWords, operatorWords, noStage, stageAt, meterIn, operatorOf, operatorIn}
 use Rattle.run.specs.Slots.{inputInto, runHoldsNext, slotCases, operatorNext, stageNext, runNext, operatorWordNext, wordNext}
-use Rattle.run.specs.Steps.{awaitedIn, ringNoted, runAdvanced, blockWritten, meterNoted, runWritten, stageWord, wordWritten}
+use Rattle.run.specs.Steps.{awaitedIn, runAdvanced, blockWritten, meterNoted, runWritten, stageWord, wordWritten}
 use Rattle.run.proofs.UsableRun.{UsableRun, usable-run, stage-usable, stage-number, fits-at}
 
 module _ (run : Run) (words : List ℕ) (call : Call) (none : NoneStands (slotCases run words call)) where

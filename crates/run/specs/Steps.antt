@@ -13,10 +13,10 @@ use Rattle.quantity.specs.declared.Units.{Units}
 use Rattle.quantity.specs.declared.refusal.Refusal.the-variants.{Unusable, InputBreaksDeclaration, ChoiceAboveGreatest}
 use Rattle.flow.specs.Declarations.{declarationInRange, rowsInOrder}
 use Rattle.operator.specs.Single.{wordCount}
-use Rattle.operator.specs.Ring.{ringPlace, totalNoted}
+use Rattle.operator.specs.Ring.{ringNoted}
 use Rattle.meter.specs.Meter.{meterWordCount, meterUnusable}
-use Rattle.meter.specs.Parts.{inputPlace, awaitedOf, inputNoted, blockBehind}
-use Rattle.words.specs.Stored.{wordAt, clearAt}
+use Rattle.meter.specs.Parts.{inputPlace, awaitedOf, blockBehind}
+use Rattle.words.specs.Stored.{wordAt, clearAt, wordNoted}
 use Rattle.operator.specs.declared.ring.PathOperator.{PathOperator}
 use Rattle.meter.specs.declared.parts.Awaited.{Awaited}
 use Rattle.sheet.specs.declared.read.Verdict.{Verdict}
@@ -127,7 +127,7 @@ unfoldable pub blockWritten : Run → List ℕ → ℕ → Units
 blockWritten run words input = blockBehind (awaitedIn run words) (record { 0 = input })
 
 abbrev pub meterNoted : Run → List ℕ → ℕ → List ℕ
-meterNoted run words input = inputNoted (meterWords words) (inputPlace (meterIn run)) input
+meterNoted run words input = wordNoted (meterWords words) (inputPlace (meterIn run)) input
 
 -- the run that has advanced, and word j of all, once the slot is counted and meter and stages are written
 unfoldable pub runWritten : Run → List ℕ → ℕ → Run
@@ -139,10 +139,6 @@ runWritten run words input =
       count = run .count;
       stages = run .stages;
     }
-
--- an operator's words with its total noted
-abbrev pub ringNoted : PathOperator → List ℕ → List ℕ
-ringNoted x words = totalNoted words (ringPlace x) (x .entered)
 
 unfoldable pub stageWord : Run → List ℕ → ℕ → ℕ → ℕ
 stageWord run words k a = pick (ltb k (run .count)) (wordAt (ringNoted (operatorIn run k) (operatorWords words k)) a) (wordAt (operatorWords words k) a)

@@ -15,8 +15,9 @@ ghost use mathlib.Core.Bool.{true, false};
 ghost use Prim.Native.Nat.{_≤_, _<_, min};
 ghost use lib.ListN.{length};
 ghost use Rattle.quantity.specs.Limits.{largestAmount, mostOperators};
-ghost use Rattle.operator.specs.Ring.{advancedOf, totalNoted};
-ghost use Rattle.meter.specs.Parts.{inputNoted, blockBehind};
+ghost use Rattle.operator.specs.Ring.{advancedOf};
+ghost use Rattle.meter.specs.Parts.{blockBehind};
+ghost use Rattle.words.specs.Stored.{wordNoted};
 ghost use Rattle.run.specs.Runs.{runWordCount, operatorAtWord, meterWords, operatorWords, operatorOf};
 ghost use Rattle.run.specs.Steps.{firstProgress, onceSent, onceUnusable, onceAbove, stageKept, withPart};
 
@@ -126,7 +127,7 @@ pub(crate) fn write_meter(
     input: Units,
 ) -> Units
     requires { ⌜ (taken ≡ true → (length (now words) ≡ runWordCount) × (input .0 ≤ largestAmount)) ⌝ }
-    ensures { λ r. ⌜ (taken ≡ true → (r ≡ blockBehind awaited input) × (now (words .exit) ≡ withPart 0 (inputNoted (meterWords (now (words .entry))) (awaited .at) (input .0)) (now (words .entry)))) ⌝ }
+    ensures { λ r. ⌜ (taken ≡ true → (r ≡ blockBehind awaited input) × (now (words .exit) ≡ withPart 0 (wordNoted (meterWords (now (words .entry))) (awaited .at) (input .0)) (now (words .entry)))) ⌝ }
     ensures { λ r. ⌜ (taken ≡ false → (r ≡ block) × (now (words .exit) ≡ now (words .entry))) ⌝ }
 {
     if taken {
@@ -140,17 +141,17 @@ pub(crate) fn write_meter(
 // The input in the word that counting answered.
 fn note_input(at: usize, words: &mut [u32], input: Units)
     requires { ⌜ (length (now words) ≡ runWordCount) × (input .0 ≤ largestAmount) ⌝ }
-    ensures { λ _. ⌜ now (words .exit) ≡ withPart 0 (inputNoted (meterWords (now (words .entry))) at (input .0)) (now (words .entry)) ⌝ }
+    ensures { λ _. ⌜ now (words .exit) ≡ withPart 0 (wordNoted (meterWords (now (words .entry))) at (input .0)) (now (words .entry)) ⌝ }
 {
-    meter::parts::note(&mut words[0..crate::METER_WORDS], at, input.0 as u32);
+    words::note(&mut words[0..crate::METER_WORDS], at, input.0 as u32);
 }
 
 // The total of operator k in the word that advancing answered.
 pub(crate) fn write_total(at: usize, total: u32, words: &mut [u32], k: usize)
     requires { ⌜ (length (now words) ≡ runWordCount) × (k < mostOperators) ⌝ }
-    ensures { λ _. ⌜ now (words .exit) ≡ withPart (operatorAtWord k) (totalNoted (operatorWords (now (words .entry)) k) at total) (now (words .entry)) ⌝ }
+    ensures { λ _. ⌜ now (words .exit) ≡ withPart (operatorAtWord k) (wordNoted (operatorWords (now (words .entry)) k) at total) (now (words .entry)) ⌝ }
 {
     let start = crate::METER_WORDS + crate::OPERATOR_WORDS * k;
     let end = start + crate::OPERATOR_WORDS;
-    operator::ring::note(&mut words[start..end], at, total);
+    words::note(&mut words[start..end], at, total);
 }

@@ -1,5 +1,5 @@
 -- Stored amounts that fit are at most the limit, and 0 where they are not used; so the sum of words is that of the used ones.
--- And refusal 1 of numbers, in plain facts.
+-- And refusal 1 of numbers, in plain facts; and as many words are left where one is noted.
 use mathlib.Core.Path.{_≡_, refl, sym, ap, _∙_}
 use mathlib.Core.Bool.{Bool, true, false, not}
 use mathlib.Core.List.{List, [], _∷_, _++_}
@@ -7,15 +7,15 @@ use Prim.Native.Nat.{ℕ, _≤_, _<_}
 use native.Mathlib.Nat.{le-dest, lt-of-not-le}
 use native.Mathlib.Decide.{decLe}
 use native.Mathlib.Omega.{arith}
-use lib.ListN.{length, List·getD-eq-default}
+use lib.ListN.{length, set, length-set, List·getD-eq-default}
 use lib.Dec.{ltb, eqb}
 use borrow.Author.Tests.{leb-true, eqb-true, eq-eqb, ne-eqb, ltb-false, lt-ltb, le-ltb, not-false}
-use Rattle.quantity.specs.Choice.{either, anyOf}
+use Rattle.quantity.specs.Choice.{pick, either, anyOf}
 use Rattle.quantity.specs.Limits.{largestAmount, lastSlot}
 use Rattle.quantity.specs.Sums.{total, every}
 use Rattle.quantity.proofs.Laws.{either-false, either-first, either-second}
 use Rattle.quantity.proofs.Sums.{every-at, total-rest}
-use Rattle.words.specs.Stored.{wordAt, storedFits, wordFits}
+use Rattle.words.specs.Stored.{wordAt, storedFits, wordFits, wordNoted}
 
 pub stored-le : (used : Bool) (amount : ℕ) → storedFits used amount ≡ true → amount ≤ largestAmount
 unfolding storedFits
@@ -101,3 +101,11 @@ module _ (lent count slot first second : ℕ) where
   pub none-unfit : Fit lent count slot first second → anyOf (unfitTests lent count slot first second) ≡ false
   none-unfit all =
       sym (unfit-second (all .sized) (all .slot-left) (all .first-le)) ∙ le-ltb largestAmount second (all .second-le)
+
+pub length-noted : (words : List ℕ) (at word : ℕ) → length (wordNoted words at word) ≡ length words
+unfolding wordNoted
+length-noted words at word = by-test (ltb at (length words))
+  where
+    by-test : (t : Bool) → length (pick t (set words at word) words) ≡ length words
+    by-test true = length-set words at word
+    by-test false = refl

@@ -2,7 +2,7 @@
 use Prim.Native.Nat.{ℕ}
 use mathlib.Core.Bool.{Bool}
 use mathlib.Core.List.{List}
-use lib.ListN.{getD}
+use lib.ListN.{length, getD, set}
 use lib.Dec.{leb, ltb, eqb}
 use Rattle.quantity.specs.Choice.{pick}
 use Rattle.quantity.specs.Limits.{largestAmount}
@@ -21,3 +21,7 @@ storedFits used amount = pick used (leb amount largestAmount) (eqb amount 0)
 -- so a word, of which the first so many are used
 unfoldable pub wordFits : ℕ → List ℕ → ℕ → Bool
 wordFits used words j = storedFits (ltb j used) (wordAt words j)
+
+-- a word noted at a place; where there is no such word, nothing is written
+unfoldable pub wordNoted : List ℕ → ℕ → ℕ → List ℕ
+wordNoted words at word = pick (ltb at (length words)) (set words at word) words

@@ -12,7 +12,7 @@ ghost use lib.ListN.{length};
 ghost use Rattle.quantity.specs.Choice.{both, anyOf};
 ghost use Rattle.quantity.specs.Sums.{total, every};
 ghost use Rattle.quantity.specs.Limits.{largestAmount, lastSlot};
-ghost use Rattle.words.specs.Stored.{wordAt, clearAt, storedFits, wordFits};
+ghost use Rattle.words.specs.Stored.{wordAt, clearAt, storedFits, wordFits, wordNoted};
 ghost use Rattle.words.specs.Scanning.{noneScanned, scannedOf};
 ghost use Rattle.words.specs.Gathering.{joined, gatheredOf};
 
@@ -214,4 +214,13 @@ pub fn stored_fits(used: bool, amount: u64) -> bool
 {
     let most = if used { Units::LARGEST } else { 0 };
     amount <= most
+}
+
+// A word noted at a place. Where there is no such word, none is written.
+pub fn note(words: &mut [u32], at: usize, word: u32)
+    ensures { λ _. ⌜ now (words .exit) ≡ wordNoted (now (words .entry)) at word ⌝ }
+{
+    if at < words.len() {
+        words[at] = word;
+    }
 }

@@ -18,10 +18,11 @@ use Rattle.run.specs.declared.Run.{Run}
 use Rattle.run.specs.declared.Stage.{Stage}
 use Rattle.run.specs.Calls.{Call, callOf}
 use Rattle.operator.specs.Single.{wordCount}
-use Rattle.operator.specs.Ring.{totalNoted}
+use Rattle.operator.specs.Ring.{ringNoted}
+use Rattle.words.specs.Stored.{wordNoted}
 use Rattle.run.specs.Runs.{operatorAtWord, noStage, operatorOf, meterIn}
 use Rattle.run.specs.Slots.{slottedOf, wordsSlotted}
-use Rattle.run.specs.Steps.{awaitedIn, emptyBehind, acceptedBy, runAdvanced, withPart, blockWritten, ringNoted, runWritten}
+use Rattle.run.specs.Steps.{awaitedIn, emptyBehind, acceptedBy, runAdvanced, withPart, blockWritten, runWritten}
 use Rattle.run.proofs.UsableRun.{slot-left}
 use Rattle.run.proofs.TestLaws.{empty-start, empty-next}
 use Rattle.run.proofs.MovingLaws.{Begins, begins, few, counted, input-le, Moving, moving-start, moving-sent, moving-unusable, moving-above}
@@ -113,7 +114,7 @@ stages-long c = ⊎-elim (λ w. ap length (w .2) ∙ full (c .before .before .be
 
 -- what is noted of operator k
 noted-then : (c : tie.Joined1 Inv-loop μ-loop Inv-loop2 μ-loop2 Inv-loop3 μ-loop3) → c .before .accepted .result ≡ true → let a = c .before .before .before .before .before .before .before .before .before .before .before .before .before .before .before .before .args in
-    (k : ℕ) → k < a .run .count → (ws : List ℕ) → totalNoted ws (getD (c .before .before .before .before .before .before .before .before .before .loop .places) k 0) (getD (c .if1 .stages) k noStage .entered) ≡ ringNoted (operatorOf (getD (c .if1 .stages) k noStage) (a .run .slot)) ws
+    (k : ℕ) → k < a .run .count → (ws : List ℕ) → wordNoted ws (getD (c .before .before .before .before .before .before .before .before .before .loop .places) k 0) (getD (c .if1 .stages) k noStage .entered) ≡ ringNoted (operatorOf (getD (c .if1 .stages) k noStage) (a .run .slot)) ws
 noted-then c taken-so k less ws = rw (stages-taken c taken-so) (took (c .before) taken-so .noted k less ws)
 
 -- what is written is of a slot that is taken, and of the path's operators

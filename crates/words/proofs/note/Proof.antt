@@ -2,10 +2,10 @@
 use mathlib.Core.Path.{sym}
 use borrow.Author.Tests.{lt-ltb, le-ltb}
 use Rattle.quantity.proofs.Laws.{pick-true, pick-false}
-use Rattle.operator.specs.Ring.{totalNoted}
+use Rattle.words.specs.Stored.{wordNoted}
 use borrow.Author.Needs.{needs}
-use Rattle.operator.proofs.ring.note.Statement.{statement}
-use Rattle.operator.proofs.ring.note.Tie as tie
+use Rattle.words.proofs.note.Statement.{statement}
+use Rattle.words.proofs.note.Tie as tie
 
 mul-words : tie.Need-mul-words
 mul-words c = search needs
@@ -17,11 +17,11 @@ same-length : tie.Need-same-length
 same-length c = search needs
 
 returns : tie.Need-returns
-unfolding totalNoted
+unfolding wordNoted
 returns c = sym (pick-true _ _ _ (lt-ltb _ _ (c .if1 .taken)))
 
 returns-2 : tie.Need-returns-2
-unfolding totalNoted
+unfolding wordNoted
 returns-2 c = sym (pick-false _ _ _ (le-ltb _ _ (c .if1 .left)))
 
 pub note-spec : {M : Type 1} → statement M
