@@ -1,5 +1,5 @@
 -- Inputs that the programs do not say, as tables that are computed from the definitions: a meter's words of a wrong length; inputs taken and refused at each row of
--- document 02, item 6; and declarations of several rows that are refused.
+-- document 02, item 6; declarations of several rows that are refused; and where an input goes.
 use mathlib.Core.Path.{_≡_, refl, sym, ap, _∙_}
 use mathlib.Core.Bool.{Bool, true, false}
 use mathlib.Core.List.{List, [], _∷_, _++_}
@@ -11,6 +11,7 @@ use lib.ListN.{length, replicate, length-append, length-replicate, getD-replicat
 use lib.Seq.{getD-append-add}
 use lib.Dec.{ltb}
 use Rattle.quantity.specs.Limits.{lastSlot}
+use Rattle.quantity.specs.Quantities.{unitsSum}
 use Rattle.quantity.specs.Ranges.{inRange}
 use Rattle.quantity.specs.Sums.{total, every}
 use Rattle.quantity.specs.Refusals.{refusalNumber, refusalPlace}
@@ -21,6 +22,7 @@ use Rattle.flow.specs.declared.DeclaredRow.{DeclaredRow}
 use Rattle.flow.specs.declared.Declaration.{Declaration}
 use Rattle.words.specs.Stored.{wordAt, storedFits, wordFits}
 use Rattle.meter.specs.Meter
+use Rattle.meter.specs.Parts
 use Rattle.meter.specs.declared.SourceMeter.{SourceMeter}
 use Rattle.meter.specs.declared.Intake.{Intake}
 use Rattle.meter.specs.declared.Metered.{Metered}
@@ -211,3 +213,26 @@ reference-declared =
       unused-set quotaBeside newWords refl,
       unused-set rowBehind newWords refl,
     )
+
+-- Where an input goes: that of slot 13, under rows of which the last has 12 slots, into word 1, with no block behind it. Under smooth (3, 5) with 4 units in the block that of slot 4
+-- makes 5 of them with 1 more, and slot 6 begins a block; neither has a word.
+
+abbrev pub inBlock : ℕ → SourceMeter
+inBlock t = record { declaration = ofOneRow Kind.Smooth 3 5; slot = record { 0 = t }; block = record { 0 = 4 } }
+
+pub places-computed : List ℕ
+places-computed =
+    Parts.inputPlace camera
+    ∷ Parts.blockBehind (Parts.awaitedOf camera []) (record { 0 = 5 }) .0
+    ∷ Parts.inputPlace (inBlock 4)
+    ∷ Parts.blockBehind (Parts.awaitedOf (inBlock 4) []) (record { 0 = 1 }) .0
+    ∷ Parts.inputPlace (inBlock 6)
+    ∷ Parts.blockBehind (Parts.awaitedOf (inBlock 6) []) (record { 0 = 1 }) .0
+    ∷ []
+
+pub places-expected : List ℕ
+places-expected = 1 ∷ 0 ∷ 1_024 ∷ 5 ∷ 1_024 ∷ 1 ∷ []
+
+pub reference-places : places-computed ≡ places-expected
+unfolding places-computed places-expected rowCount rowAt lastRow unitsSum Meter.usesBlock Meter.ringLength Meter.blockBefore Parts.inputPlace Parts.awaitedOf Parts.blockBehind
+reference-places = refl

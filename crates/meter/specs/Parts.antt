@@ -1,4 +1,4 @@
--- The parts of a slot: test what is lent and stored and count, decide on numbers, write. Each is defined on all inputs, and answers the first of its tests that stands.
+-- The parts of a slot: what is lent and stored is tested and counted, which tells where the input goes; then it is written. Each is defined on all inputs, and answers the first of its tests that stands.
 use Prim.Native.Nat.{ℕ, _+_, _-_, _%_}
 use mathlib.Core.Bool.{not}
 use mathlib.Core.List.{List}
