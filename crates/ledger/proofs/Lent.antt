@@ -1,17 +1,14 @@
--- The lent calls stand on their steps over values: where 64 records are lent the value is these, and else each call is refused by 1 whatever they hold.
+-- The lent calls stand on what is decided: its answer is the call's, and with what it writes the records are the call's.
 use mathlib.Core.Path.{_≡_, refl, ap, sym, _∙_}
-use mathlib.Core.Bool.{Bool, true, false, not}
-use mathlib.Core.List.{List, [], _∷_, _++_}
+use mathlib.Core.List.{List, _++_}
 use mathlib.Core.Logic.{⊎-elim}
 use Prim.Native.Nat.{ℕ, _≤_, _<_}
 use native.Mathlib.Omega.{arith}
 use lib.ListN.{length, set, replicate, drop-of-length-le}
 use lib.Dec.{ltb, eqb}
 use borrow.Author.Tests.{eqb-true, eqb-false, ltb-true, lt-ltb, not-false}
-use Rattle.quantity.specs.Ranges.{inRange, pathNumberRange}
-use Rattle.quantity.specs.Refusals.{Case, _⇒_, firstOf}
+use Rattle.quantity.specs.Refusals.{Case}
 use Rattle.quantity.specs.declared.refusal.Refusal.{Refusal}
-use Rattle.quantity.specs.declared.refusal.Refusal.the-variants.{Unusable, PathNumberWrong, ConfirmedAlready}
 use Rattle.quantity.proofs.Laws.{pick-true}
 use Rattle.quantity.proofs.Refusals.{NoneStands, FirstIs, firstOf-none, none-or-first, none-of-each, first-answered}
 use Rattle.sheet.specs.Sheets.{sheetCases, pathIn}
@@ -24,42 +21,14 @@ use Rattle.ledger.specs.declared.release.Releasing.{Releasing}
 use Rattle.ledger.specs.declared.confirming.Marking.{Marking}
 use Rattle.ledger.specs.declared.opening.Clearing.{Clearing}
 use Rattle.ledger.specs.Records.{markHeld, noRecord, numberAt, placeAmong, stands}
-use Rattle.ledger.specs.Ledgers.{recordCount, ledgerUnusable}
+use Rattle.ledger.specs.Ledgers.{recordCount}
 use Rattle.ledger.specs.Opening.{openCases, newLedger, refusedOpening, openedOf, recordsOpened}
 use Rattle.ledger.specs.Holding.{recordOf, ledgerFull, standingCases, holdingCases, refusedHolding, acceptedHolding, holdingOf, recordsHeld}
 use Rattle.ledger.specs.Release.{releaseCases, closedUp, refusedRelease, acceptedRelease, recordOfNumber, releasedOf, recordsReleased}
-use Rattle.ledger.specs.Confirming.{confirmedAlready, confirmCases, refusedConfirming, confirmedOf, confirmedAt, recordsConfirmed}
-use Rattle.ledger.specs.Steps.{loadedOf, loadedRecords, appended, marked, filled, refusedMarking, markingOf, refusedClearing, clearingOf, refusedAppending, acceptedAppending, appendingOf, refusedReleasing, releasingOf}
+use Rattle.ledger.specs.Confirming.{confirmCases, refusedConfirming, confirmedOf, confirmedAt, recordsConfirmed}
+use Rattle.ledger.specs.Steps.{appended, marked, filled, refusedMarking, markingOf, refusedClearing, clearingOf, refusedAppending, acceptedAppending, appendingOf, refusedReleasing, releasingOf}
 use Rattle.ledger.proofs.Deciding.{stands-below}
-use Rattle.ledger.proofs.UsableLedger.{usable-ledger, ledger-unusable}
-
--- the value of 64 lent records stands for them
-held-all : (records : List Record) → eqb (length records) recordCount ≡ true → loadedRecords (loadedOf records) ≡ records
-unfolding loadedOf loadedRecords
-held-all records all = rw all
-
--- and any other for none
-held-none : (records : List Record) → eqb (length records) recordCount ≡ false → loadedRecords (loadedOf records) ≡ []
-unfolding loadedOf loadedRecords
-held-none records other = rw other
-
--- so an answer is the same from the value as from the records, if records of a wrong length have the answer of none
-pub from-held : {A : Type 0} (answer : List Record → A) (records : List Record) → (eqb (length records) recordCount ≡ false → answer [] ≡ answer records) → answer (loadedRecords (loadedOf records)) ≡ answer records
-from-held answer records alike = by-size (eqb (length records) recordCount) refl
-  where
-    by-size : (t : Bool) → eqb (length records) recordCount ≡ t → answer (loadedRecords (loadedOf records)) ≡ answer records
-    by-size true e = ap answer (held-all records e)
-    by-size false e = ap answer (held-none records e) ∙ alike e
-
--- and records of a wrong length are refused by 1
-unusable-size : (ledger : Ledger) (records : List Record) → eqb (length records) recordCount ≡ false → ledgerUnusable ledger records ≡ true
-unusable-size ledger records other = ledger-unusable ledger records (λ sound. eqb-false (length records) recordCount other (sound .sized))
-
--- a call that goes through 1 twice, the second time with the ledger, and whose ledger cannot be used
-refused-by-one : {A : Type 0} (refused : Refusal → A) (result : A) (number ledger : Bool) (others : List Case) → ledger ≡ true
-    → firstOf ((number ⇒ Unusable) ∷ (ledger ⇒ Unusable) ∷ others) refused result ≡ refused Unusable
-refused-by-one refused result true ledger others e = refl
-refused-by-one refused result false ledger others e = rw e
+use Rattle.ledger.proofs.UsableLedger.{usable-ledger}
 
 -- at a place the record is set, and 64 is none
 appended-there : (records : List Record) (at : ℕ) (entry : Record) → at < recordCount → appended records at entry ≡ set records at entry
@@ -83,18 +52,11 @@ unfolding closedUp
 closed-nowhere records last = refl
 
 module _ (ledger : Ledger) (records : List Record) (number : ℕ) (sheet : List ℕ) where
-  appending-loaded : appendingOf ledger (loadedRecords (loadedOf records)) number sheet ≡ appendingOf ledger records number sheet
-  unfolding appendingOf
-  appending-loaded = from-held (λ rs. appendingOf ledger rs number sheet) records (λ other. by-one [] (unusable-size ledger [] refl) ∙ sym (by-one records (unusable-size ledger records other)))
-    where
-      by-one : (rs : List Record) → ledgerUnusable ledger rs ≡ true → appendingOf ledger rs number sheet ≡ refusedAppending ledger Unusable
-      by-one rs = refused-by-one (refusedAppending ledger) (acceptedAppending ledger number (pathIn sheet)) (not (inRange pathNumberRange number)) (ledgerUnusable ledger rs) ((sheetCases sheet ++ pathCases (pathIn sheet)) ++ standingCases ledger rs number (pathIn sheet))
-
   -- what the holding decides: its answer, a place only where 64 records are lent, and with what is appended there the records of the call
   abbrev pub Appends : Appending → Type 0
   Appends a = (a .holding ≡ holdingOf ledger records number sheet) × ((a .at < recordCount → length records ≡ recordCount) × (appended records (a .at) (a .entry) ≡ recordsHeld ledger records number sheet))
 
-  pub holds : (a : Appending) → a ≡ appendingOf ledger (loadedRecords (loadedOf records)) number sheet → Appends a
+  pub holds : (a : Appending) → a ≡ appendingOf ledger records number sheet → Appends a
   unfolding appendingOf holdingOf recordsHeld refusedAppending acceptedAppending ledgerFull
   holds a e = ⊎-elim taken left (none-or-first cases)
     where
@@ -103,7 +65,7 @@ module _ (ledger : Ledger) (records : List Record) (number : ℕ) (sheet : List 
 
       taken : NoneStands cases → Appends a
       taken none =
-          let is : a ≡ acceptedAppending ledger number (pathIn sheet) = e ∙ appending-loaded ∙ firstOf-none (refusedAppending ledger) (acceptedAppending ledger number (pathIn sheet)) cases none in
+          let is : a ≡ acceptedAppending ledger number (pathIn sheet) = e ∙ firstOf-none (refusedAppending ledger) (acceptedAppending ledger number (pathIn sheet)) cases none in
           let sound = usable-ledger ledger records (none .1 .0) in
           let not-full = none-of-each (sheetCases sheet ++ pathCases (pathIn sheet)) (standingCases ledger records number (pathIn sheet)) (none .1 .1) .1 .1 .0 in
           let room : ledger .count < recordCount = let other = eqb-false (ledger .count) recordCount not-full in let few = sound .few in omega arith in (
@@ -117,7 +79,7 @@ module _ (ledger : Ledger) (records : List Record) (number : ℕ) (sheet : List 
 
       left : ((why : Refusal) × FirstIs cases why) → Appends a
       left (why, first) =
-          let is : a ≡ refusedAppending ledger why = e ∙ appending-loaded ∙ first-answered (refusedAppending ledger) (acceptedAppending ledger number (pathIn sheet)) why cases first in (
+          let is : a ≡ refusedAppending ledger why = e ∙ first-answered (refusedAppending ledger) (acceptedAppending ledger number (pathIn sheet)) why cases first in (
             ap (λ x. x .holding) is ∙ sym (first-answered (refusedHolding ledger) (acceptedHolding ledger (pathIn sheet)) why cases first),
             (
               (λ less. absurd (let at = ap (λ (x : Appending). x .at) is in omega (arith, at, less))),
@@ -133,20 +95,11 @@ module _ (ledger : Ledger) (records : List Record) (number : ℕ) where
   abbrev acceptedReleasing : Releasing
   acceptedReleasing = record { released = acceptedRelease ledger (recordOfNumber ledger records number); at = place; last = noRecord }
 
-  releasing-held : releasingOf ledger (loadedRecords (loadedOf records)) number ≡ releasingOf ledger records number
-  unfolding releasingOf
-  releasing-held = from-held (λ rs. releasingOf ledger rs number) records (λ other. by-one [] (unusable-size ledger [] refl) ∙ sym (by-one records (unusable-size ledger records other)))
-    where
-      by-one : (rs : List Record) → ledgerUnusable ledger rs ≡ true → releasingOf ledger rs number ≡ refusedReleasing ledger Unusable
-      by-one rs =
-          refused-by-one (refusedReleasing ledger) (record { released = acceptedRelease ledger (recordOfNumber ledger rs number); at = placeAmong (numberAt rs) (ledger .count) number; last = noRecord })
-          (not (inRange pathNumberRange number)) (ledgerUnusable ledger rs) ((not (stands rs (ledger .count) number) ⇒ PathNumberWrong) ∷ [])
-
   -- and what a release decides
   abbrev pub Releases : Releasing → Type 0
   Releases a = (a .released ≡ releasedOf ledger records number) × ((a .at < recordCount → length records ≡ recordCount) × (closedUp records (a .at) (a .last) ≡ recordsReleased ledger records number))
 
-  pub released : (a : Releasing) → a ≡ releasingOf ledger (loadedRecords (loadedOf records)) number → Releases a
+  pub released : (a : Releasing) → a ≡ releasingOf ledger records number → Releases a
   unfolding releasingOf releasedOf recordsReleased refusedReleasing
   released a e = ⊎-elim taken left (none-or-first cases)
     where
@@ -155,7 +108,7 @@ module _ (ledger : Ledger) (records : List Record) (number : ℕ) where
 
       taken : NoneStands cases → Releases a
       taken none =
-          let is : a ≡ acceptedReleasing = e ∙ releasing-held ∙ firstOf-none (refusedReleasing ledger) acceptedReleasing cases none in (
+          let is : a ≡ acceptedReleasing = e ∙ firstOf-none (refusedReleasing ledger) acceptedReleasing cases none in (
             ap (λ x. x .released) is ∙ sym (firstOf-none (refusedRelease ledger) (acceptedRelease ledger (recordOfNumber ledger records number)) cases none),
             (
               (λ less. usable-ledger ledger records (none .1 .0) .sized),
@@ -165,7 +118,7 @@ module _ (ledger : Ledger) (records : List Record) (number : ℕ) where
 
       left : ((why : Refusal) × FirstIs cases why) → Releases a
       left (why, first) =
-          let is : a ≡ refusedReleasing ledger why = e ∙ releasing-held ∙ first-answered (refusedReleasing ledger) acceptedReleasing why cases first in (
+          let is : a ≡ refusedReleasing ledger why = e ∙ first-answered (refusedReleasing ledger) acceptedReleasing why cases first in (
             ap (λ x. x .released) is ∙ sym (first-answered (refusedRelease ledger) (acceptedRelease ledger (recordOfNumber ledger records number)) why cases first),
             (
               (λ less. absurd (let at = ap (λ (x : Releasing). x .at) is in omega (arith, at, less))),
@@ -177,20 +130,11 @@ module _ (ledger : Ledger) (records : List Record) (number : ℕ) where
   abbrev acceptedMarking : List Record → Marking
   acceptedMarking rs = record { confirmed = record { verdict = Verdict.Accepted }; at = placeAmong (numberAt rs) (ledger .count) number }
 
-  marking-held : markingOf ledger (loadedRecords (loadedOf records)) number ≡ markingOf ledger records number
-  unfolding markingOf
-  marking-held = from-held (λ rs. markingOf ledger rs number) records (λ other. by-one [] (unusable-size ledger [] refl) ∙ sym (by-one records (unusable-size ledger records other)))
-    where
-      by-one : (rs : List Record) → ledgerUnusable ledger rs ≡ true → markingOf ledger rs number ≡ refusedMarking Unusable
-      by-one rs =
-          refused-by-one refusedMarking (acceptedMarking rs) (not (inRange pathNumberRange number)) (ledgerUnusable ledger rs)
-          ((not (stands rs (ledger .count) number) ⇒ PathNumberWrong) ∷ (confirmedAlready ledger rs number ⇒ ConfirmedAlready) ∷ [])
-
   -- and what confirming decides
   abbrev pub Confirms : Marking → Type 0
   Confirms a = (a .confirmed ≡ confirmedOf ledger records number) × ((a .at < recordCount → length records ≡ recordCount) × (marked records (a .at) ≡ recordsConfirmed ledger records number))
 
-  pub confirms : (a : Marking) → a ≡ markingOf ledger (loadedRecords (loadedOf records)) number → Confirms a
+  pub confirms : (a : Marking) → a ≡ markingOf ledger records number → Confirms a
   unfolding markingOf confirmedOf recordsConfirmed refusedMarking
   confirms a e = ⊎-elim taken left (none-or-first cases)
     where
@@ -199,7 +143,7 @@ module _ (ledger : Ledger) (records : List Record) (number : ℕ) where
 
       taken : NoneStands cases → Confirms a
       taken none =
-          let is : a ≡ acceptedMarking records = e ∙ marking-held ∙ firstOf-none refusedMarking (acceptedMarking records) cases none in
+          let is : a ≡ acceptedMarking records = e ∙ firstOf-none refusedMarking (acceptedMarking records) cases none in
           let sound = usable-ledger ledger records (none .1 .0) in
           let below : place ledger records number < recordCount =
           let few = sound .few in let less = ltb-true (place ledger records number) (ledger .count) (stands-below records (ledger .count) number refl ∙ not-false (stands records (ledger .count) number) (none .1 .1 .0)) in omega arith in (
@@ -213,7 +157,7 @@ module _ (ledger : Ledger) (records : List Record) (number : ℕ) where
 
       left : ((why : Refusal) × FirstIs cases why) → Confirms a
       left (why, first) =
-          let is : a ≡ refusedMarking why = e ∙ marking-held ∙ first-answered refusedMarking (acceptedMarking records) why cases first in (
+          let is : a ≡ refusedMarking why = e ∙ first-answered refusedMarking (acceptedMarking records) why cases first in (
             ap (λ x. x .confirmed) is ∙ sym (first-answered refusedConfirming (record { verdict = Verdict.Accepted }) why cases first),
             (
               (λ less. absurd (let at = ap (λ (x : Marking). x .at) is in omega (arith, at, less))),

@@ -18,7 +18,7 @@ pub mod Lent
 pub mod Shared
 pub mod Fields
 pub mod Passing
-pub mod Loading
+pub mod TestingStep
 pub mod Writing
 pub mod MarkingStep
 pub mod Links

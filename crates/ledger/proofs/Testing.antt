@@ -1,7 +1,7 @@
 -- What the test of a ledger shows: the records lent, the count, the capacities, each record, the numbers, each link and its total; and that a ledger of which these hold passes it.
-use mathlib.Core.Path.{_≡_, refl, ap, ap₂, sym, _∙_}
+use mathlib.Core.Path.{_≡_, ap, ap₂, sym, _∙_}
 use mathlib.Core.Bool.{Bool, true, false}
-use mathlib.Core.List.{List, []}
+use mathlib.Core.List.{List}
 use Prim.Native.Nat.{ℕ, _+_, _-_, _%_, _^_, _≤_, _<_}
 use native.Mathlib.Nat.{mod-eq-of-lt}
 use native.Mathlib.Decide.{decLt}
@@ -17,10 +17,9 @@ use Rattle.quantity.proofs.Sums.{total-same, total-rest, both-true, getD-listOf
 use Rattle.ledger.specs.declared.Record.{Record}
 use Rattle.ledger.specs.declared.Ledger.{Ledger}
 use Rattle.ledger.specs.declared.test.Tested.{Tested}
-use Rattle.ledger.specs.declared.records.Loaded.{Loaded}
 use Rattle.ledger.specs.Records.{noRecord, recordAt, numberAt, markAt, hasLink, share, reserved, placeAmong, allDiffer}
 use Rattle.ledger.specs.Ledgers.{recordCount, linkCount, capacityOf, totalOf, capacitiesFit, recordInRange, recordClear, recordFits, linkFits, totalKept}
-use Rattle.ledger.specs.Steps.{loadedRecords, numbersOf, ratesOf, linkBitsOf, marksOf, Narrow, sumOn, linkHolds, notTested, foundAt, testedOf}
+use Rattle.ledger.specs.Steps.{numbersOf, ratesOf, linkBitsOf, marksOf, Narrow, sumOn, linkHolds, notTested, foundAt, testedOf}
 use Rattle.ledger.proofs.Numbers.{all-differ-same}
 use Rattle.ledger.proofs.Reserving.{share-at-most, reserved-at-most}
 use Rattle.ledger.proofs.UsableLedger.{UsableLedger, ledger-usable, ledger-unusable}
@@ -38,6 +37,10 @@ module _ (ledger : Ledger) (records : List Record) (number : ℕ) where
   pub tested-not : (UsableLedger ledger records → ⊥) → notTested ≡ testedOf ledger records number
   unfolding testedOf
   tested-not fails = sym (pick-true _ notTested _ (ledger-unusable ledger records fails))
+
+  -- there are not 64
+  pub tested-unsized : (length records ≡ recordCount → ⊥) → notTested ≡ testedOf ledger records number
+  tested-unsized other = tested-not (λ usable. other (usable .sized))
 
   abbrev pub tested : Tested
   tested = foundAt records (ledger .count) (placeAmong (numberAt records) (ledger .count) number)
@@ -152,22 +155,3 @@ module _ (ledger : Ledger) (records : List Record) (few : ledger .count ≤ reco
   links-hold usable =
       every-holds holds linkCount
       (λ link less. holds-is link ∙ ap₂ both (every-at _ linkCount (usable .capacities-fit) link less) (ap₂ both (every-at _ linkCount (usable .links-fit) link less) (every-at _ linkCount (usable .totals-kept) link less)))
-
--- The records that a value stands for: those lent, where there are 64.
-module _ (ledger : Ledger) (held : Loaded) (number : ℕ) where
-  -- records that can be used are those held
-  usable-sized : UsableLedger ledger (loadedRecords held) → held .sized ≡ true
-  unfolding loadedRecords
-  usable-sized usable = by-test (held .sized) refl
-    where
-      by-test : (t : Bool) → held .sized ≡ t → t ≡ true
-      by-test true e = refl
-      by-test false e = absurd (let none : _≡_ {A = ℕ} 0 recordCount = rw (pick-false (held .sized) (held .records) [] e) at (usable .sized) in omega arith)
-
-  pub tested-unsized : held .sized ≡ false → notTested ≡ testedOf ledger (loadedRecords held) number
-  tested-unsized other =
-      tested-not ledger (loadedRecords held) number (λ usable. let sized = usable-sized usable in let never : _≡_ {A = ℕ} 0 1 = cc in omega arith)
-
-  pub tested-sized : held .sized ≡ true → testedOf ledger (held .records) number ≡ testedOf ledger (loadedRecords held) number
-  unfolding loadedRecords
-  tested-sized sized = ap (λ (records : List Record). testedOf ledger records number) (sym (pick-true (held .sized) (held .records) [] sized))

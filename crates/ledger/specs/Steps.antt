@@ -1,10 +1,10 @@
 -- Serves the private contracts of the ledger, and need not be believed: no public call cites it.
--- The steps of the calls, as the code takes them: the lent records by value, what the test finds, what is decided, what is written, and what asking finds of the links.
+-- The steps of the calls, as the code takes them: what the test finds, what is decided, what is written, and what asking finds of the links.
 use mathlib.Core.Path.{_≡_}
 use Prim.Native.Nat.{ℕ, _+_, _-_, _%_, _^_, _≤_, _<_}
 use mathlib.Core.Bool.{Bool, true, false, not}
-use mathlib.Core.List.{List, [], _++_}
-use lib.ListN.{length, getD, set, drop, replicate}
+use mathlib.Core.List.{List, _++_}
+use lib.ListN.{getD, set, drop, replicate}
 use lib.Dec.{leb, ltb, eqb}
 use Rattle.quantity.specs.Choice.{pick, both}
 use Rattle.quantity.specs.Sums.{total, every, listOf}
@@ -22,7 +22,6 @@ use Rattle.sheet.specs.declared.PathValue.{PathValue}
 use Rattle.sheet.specs.declared.read.Verdict.{Verdict}
 use Rattle.ledger.specs.declared.Record.{Record}
 use Rattle.ledger.specs.declared.Ledger.{Ledger}
-use Rattle.ledger.specs.declared.records.Loaded.{Loaded}
 use Rattle.ledger.specs.declared.test.Tested.{Tested}
 use Rattle.ledger.specs.declared.opening.Clearing.{Clearing}
 use Rattle.ledger.specs.declared.opening.Checked.{Checked}
@@ -39,13 +38,6 @@ use Rattle.ledger.specs.Confirming.{confirmCases, refusedConfirming, con
 use Rattle.ledger.specs.Spare.{linksUnusable}
 
 -- The lent records.
-
-unfoldable pub loadedOf : List Record → Loaded
-loadedOf records = pick (eqb (length records) recordCount) (record { records = records; sized = true }) (record { records = replicate recordCount noRecord; sized = false })
-
--- the records that a value stands for: none where 64 were not lent
-unfoldable pub loadedRecords : Loaded → List Record
-loadedRecords loaded = pick (loaded .sized) (loaded .records) []
 
 unfoldable pub appended : List Record → ℕ → Record → List Record
 appended records at r = pick (ltb at recordCount) (set records at r) records
@@ -137,6 +129,10 @@ foundAt records count at = record { usable = true; at = at; found = pick (ltb at
 unfoldable pub testedOf : Ledger → List Record → ℕ → Tested
 testedOf ledger records number =
     pick (ledgerUnusable ledger records) notTested (foundAt records (ledger .count) (placeAmong (numberAt records) (ledger .count) number))
+
+-- what the test of some records answered
+abbrev pub FromTest : Ledger → ℕ → Tested → Type 0
+FromTest ledger number tested = (records : List Record) × (tested ≡ testedOf ledger records number)
 
 -- Decide.
 

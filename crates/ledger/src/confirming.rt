@@ -2,17 +2,18 @@
 
 use crate::Ledger;
 use crate::Record;
-use crate::records::Loaded;
-use crate::records::load;
 use crate::records::mark;
+use crate::test::Tested;
 use crate::test::test;
 use quantity::CheckedPathNumber;
 use quantity::PathNumber;
 use quantity::refusal::Refusal;
 use sheet::read::Verdict;
 ghost use mathlib.Core.Path.{_≡_};
+ghost use mathlib.Core.List.{List};
+ghost use Rattle.ledger.specs.declared.Record.{Record};
 ghost use Rattle.ledger.specs.Confirming.{confirmedOf, recordsConfirmed};
-ghost use Rattle.ledger.specs.Steps.{loadedRecords, refusedMarking, markingOf};
+ghost use Rattle.ledger.specs.Steps.{testedOf, refusedMarking, markingOf};
 
 // What is answered. The ledger is as it was, confirmed or not.
 pub struct Confirmed {
@@ -29,20 +30,19 @@ pub struct Marking {
 pub fn confirm(ledger: Ledger, records: &mut [Record], number: u32) -> Confirmed
     ensures { λ r. ⌜ (r ≡ confirmedOf ledger (now (records .entry)) number) × (now (records .exit) ≡ recordsConfirmed ledger (now (records .entry)) number) ⌝ }
 {
-    let loaded = load(records);
-    let marking = decide(ledger, loaded, number);
+    let tested = test(ledger, records, number);
+    let marking = decide(ledger, tested, number);
     let at = marking.at;
     mark(records, at);
     marking.confirmed
 }
 
-fn decide(ledger: Ledger, loaded: Loaded, number: u32) -> Marking
-    ensures { λ r. ⌜ r ≡ markingOf ledger (loadedRecords loaded) number ⌝ }
+fn decide(ledger: Ledger, tested: Tested, number: u32) -> Marking
+    ensures { λ r. ⌜ ((records : List Record) → tested ≡ testedOf ledger records number → r ≡ markingOf ledger records number) ⌝ }
 {
     match PathNumber::checked(number) {
         CheckedPathNumber::OutOfRange => refused(Refusal::Unusable),
         CheckedPathNumber::InRange(number) => {
-            let tested = test(ledger, loaded, number.0);
             if !tested.usable {
                 return refused(Refusal::Unusable);
             }

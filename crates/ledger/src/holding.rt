@@ -3,9 +3,7 @@
 use crate::Ledger;
 use crate::Record;
 use crate::no_record;
-use crate::records::Loaded;
 use crate::records::append;
-use crate::records::load;
 use crate::test::Tested;
 use crate::test::and;
 use crate::test::charge;
@@ -35,7 +33,7 @@ ghost use Rattle.figures.specs.Answers.{pathDelay};
 ghost use Rattle.ledger.specs.declared.Record.{Record};
 ghost use Rattle.ledger.specs.Ledgers.{linkCount, ledgerUnusable};
 ghost use Rattle.ledger.specs.Holding.{standingCases, holdingOf, recordsHeld, bitsOf};
-ghost use Rattle.ledger.specs.Steps.{loadedRecords, testedOf, namedBy, shortOf, Decidable, refusedAppending, acceptedAppending, appendingOf};
+ghost use Rattle.ledger.specs.Steps.{testedOf, FromTest, namedBy, shortOf, Decidable, refusedAppending, acceptedAppending, appendingOf};
 
 // What the path reserves, its delay, and the ledger with it. Beside a refusal they are 0, and the ledger is as it was.
 pub struct Holding {
@@ -56,21 +54,21 @@ pub struct Appending {
 pub fn hold(ledger: Ledger, records: &mut [Record], number: u32, sheet: &[u8]) -> Holding
     ensures { λ r. ⌜ (r ≡ holdingOf ledger (now (records .entry)) number (now (sheet .entry))) × (now (records .exit) ≡ recordsHeld ledger (now (records .entry)) number (now (sheet .entry))) ⌝ }
 {
-    let loaded = load(records);
-    let appending = decide(ledger, loaded, number, sheet);
+    let tested = test(ledger, records, number);
+    let appending = decide(ledger, tested, number, sheet);
     let at = appending.at;
     let entry = appending.entry;
     append(records, at, entry);
     appending.holding
 }
 
-fn decide(ledger: Ledger, loaded: Loaded, number: u32, sheet: &[u8]) -> Appending
-    ensures { λ r. ⌜ r ≡ appendingOf ledger (loadedRecords loaded) number (now (sheet .entry)) ⌝ }
+fn decide(ledger: Ledger, tested: Tested, number: u32, sheet: &[u8]) -> Appending
+    requires { ⌜ FromTest ledger number tested ⌝ }
+    ensures { λ r. ⌜ ((records : List Record) → tested ≡ testedOf ledger records number → r ≡ appendingOf ledger records number (now (sheet .entry))) ⌝ }
 {
     match PathNumber::checked(number) {
         CheckedPathNumber::OutOfRange => refused(ledger, Refusal::Unusable),
         CheckedPathNumber::InRange(number) => {
-            let tested = test(ledger, loaded, number.0);
             if !tested.usable {
                 return refused(ledger, Refusal::Unusable);
             }

@@ -1,45 +1,11 @@
-// The lent records: read into values once, and written by an append, a mark, a close-up or a clearing. Nothing here decides.
+// The lent records are written by an append, a mark, a close-up or a clearing. Nothing here decides.
 
 use crate::Record;
-use quantity::PathNumber;
-use quantity::Rate;
 ghost use mathlib.Core.Path.{_≡_};
 ghost use Prim.Native.Nat.{_<_, _≤_};
 ghost use lib.ListN.{length};
-ghost use Rattle.ledger.specs.Steps.{loadedOf, appended, marked, filled};
+ghost use Rattle.ledger.specs.Steps.{appended, marked, filled};
 ghost use Rattle.ledger.specs.Release.{closedUp};
-
-// The lent records by value, clear ones where there are not 64.
-pub struct Loaded {
-    pub records: [Record; 64],
-    pub sized: bool,
-}
-
-pub(crate) fn load(records: &[Record]) -> Loaded
-    ensures { λ r. ⌜ r ≡ loadedOf (now (records .entry)) ⌝ }
-{
-    let mut list = [Record {
-        number: PathNumber(0),
-        rate: Rate(0),
-        links: 0,
-        mark: 0,
-    }; 64];
-    if records.len() != crate::RECORDS {
-        return Loaded {
-            records: list,
-            sized: false,
-        };
-    }
-    let mut j: usize = 0;
-    while j < crate::RECORDS {
-        list[j] = records[j];
-        j += 1;
-    }
-    Loaded {
-        records: list,
-        sized: true,
-    }
-}
 
 // One more record, behind those that stand. 64 is no place, and nothing is written there.
 pub(crate) fn append(records: &mut [Record], at: usize, entry: Record)

@@ -3,9 +3,8 @@
 use crate::Ledger;
 use crate::Record;
 use crate::no_record;
-use crate::records::Loaded;
 use crate::records::close_up;
-use crate::records::load;
+use crate::test::Tested;
 use crate::test::share_on;
 use crate::test::test;
 use quantity::CheckedPathNumber;
@@ -14,11 +13,13 @@ use quantity::Rate;
 use quantity::refusal::Refusal;
 use sheet::read::Verdict;
 ghost use mathlib.Core.Path.{_≡_};
+ghost use mathlib.Core.List.{List};
 ghost use Prim.Native.Nat.{ℕ, _≤_, _<_};
+ghost use Rattle.ledger.specs.declared.Record.{Record};
 ghost use Rattle.ledger.specs.Records.{share};
 ghost use Rattle.ledger.specs.Ledgers.{linkCount};
 ghost use Rattle.ledger.specs.Release.{releasedOf, recordsReleased};
-ghost use Rattle.ledger.specs.Steps.{loadedRecords, rateAt, discharged, refusedReleasing, releasingOf};
+ghost use Rattle.ledger.specs.Steps.{testedOf, FromTest, rateAt, discharged, refusedReleasing, releasingOf};
 
 // The ledger without the path. Beside a refusal it is as it was.
 pub struct Released {
@@ -37,21 +38,21 @@ pub struct Releasing {
 pub fn release(ledger: Ledger, records: &mut [Record], number: u32) -> Released
     ensures { λ r. ⌜ (r ≡ releasedOf ledger (now (records .entry)) number) × (now (records .exit) ≡ recordsReleased ledger (now (records .entry)) number) ⌝ }
 {
-    let loaded = load(records);
-    let releasing = decide(ledger, loaded, number);
+    let tested = test(ledger, records, number);
+    let releasing = decide(ledger, tested, number);
     let at = releasing.at;
     let last = releasing.last;
     close_up(records, at, last);
     releasing.released
 }
 
-fn decide(ledger: Ledger, loaded: Loaded, number: u32) -> Releasing
-    ensures { λ r. ⌜ r ≡ releasingOf ledger (loadedRecords loaded) number ⌝ }
+fn decide(ledger: Ledger, tested: Tested, number: u32) -> Releasing
+    requires { ⌜ FromTest ledger number tested ⌝ }
+    ensures { λ r. ⌜ ((records : List Record) → tested ≡ testedOf ledger records number → r ≡ releasingOf ledger records number) ⌝ }
 {
     match PathNumber::checked(number) {
         CheckedPathNumber::OutOfRange => refused(ledger, Refusal::Unusable),
         CheckedPathNumber::InRange(number) => {
-            let tested = test(ledger, loaded, number.0);
             if !tested.usable {
                 return refused(ledger, Refusal::Unusable);
             }

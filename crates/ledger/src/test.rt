@@ -3,7 +3,6 @@
 use crate::Ledger;
 use crate::Record;
 use crate::no_record;
-use crate::records::Loaded;
 use quantity::PathNumber;
 use quantity::Rate;
 use std::num::wrapping_add_u32;
@@ -18,7 +17,7 @@ ghost use Rattle.quantity.specs.Sums.{every, listOf};
 ghost use Rattle.ledger.specs.declared.Record.{Record};
 ghost use Rattle.ledger.specs.Records.{recordAt, share, among, placeAmong, allDiffer};
 ghost use Rattle.ledger.specs.Ledgers.{linkCount, recordCount, recordInRange, recordClear, recordFits};
-ghost use Rattle.ledger.specs.Steps.{loadedRecords, numbersOf, ratesOf, linkBitsOf, marksOf, ringSize, ringAt, oneIf, repeatsIn, zerosIn, Narrow, sumOn, linkHolds, charged, notTested, testedOf};
+ghost use Rattle.ledger.specs.Steps.{numbersOf, ratesOf, linkBitsOf, marksOf, ringSize, ringAt, oneIf, repeatsIn, zerosIn, Narrow, sumOn, linkHolds, charged, notTested, testedOf};
 
 // Half of the records.
 const HALF: usize = 32;
@@ -30,11 +29,11 @@ pub struct Tested {
     pub found: Record,
 }
 
-// The records are read once, each field into a list of its own.
-pub(crate) fn test(ledger: Ledger, loaded: Loaded, number: u32) -> Tested
-    ensures { λ r. ⌜ r ≡ testedOf ledger (loadedRecords loaded) number ⌝ }
+// The lent records are read once, each field into a list of its own.
+pub(crate) fn test(ledger: Ledger, records: &[Record], number: u32) -> Tested
+    ensures { λ r. ⌜ r ≡ testedOf ledger (now (records .entry)) number ⌝ }
 {
-    if !loaded.sized {
+    if records.len() != crate::RECORDS {
         return not_tested();
     }
     let count = ledger.count;
@@ -46,7 +45,7 @@ pub(crate) fn test(ledger: Ledger, loaded: Loaded, number: u32) -> Tested
     let mut j = 0;
     let mut place: u32 = 0;
     while j < crate::RECORDS {
-        let entry = loaded.records[j];
+        let entry = records[j];
         excess = excess | excess_of(entry, place, count);
         numbers[j] = entry.number.0;
         rates[j] = entry.rate.0;

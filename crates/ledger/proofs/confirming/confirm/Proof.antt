@@ -1,4 +1,4 @@
--- `confirm` meets its contract: a walk of its MIR, by hand. The records are lent to `load` as a `&` and come back, `decide` says over values what is answered and which record is marked, and the records go to `mark` for good.
+-- `confirm` meets its contract: a walk of its MIR, by hand. The records are lent to `test` as a `&` and come back, `decide` says over values what is answered and which record is marked, and the records go to `mark` for good.
 use mathlib.Core.Path.{_≡_, refl, ap, _∙_}
 use Prim.Native.Nat.{ℕ, _<_, _^_}
 use mathlib.Core.List.{[], _∷_, List}
@@ -37,30 +37,30 @@ use denote.Triple.Table.{entered, cited}
 use denote.Triple.Walked.{says, Stays, gave-slice, stay-dropped, walkOf, goes-gave-slice, goes-dropped, Walks, ends-at, walked, walk-meets}
 use denote.Exit.{yes}
 use Rattle.ledger.specs.Confirming.{confirmedOf, recordsConfirmed}
-use Rattle.ledger.specs.Steps.{loadedOf, loadedRecords, markingOf}
+use Rattle.ledger.specs.Steps.{testedOf, markingOf}
 use Rattle.ledger.specs.declared.Record.{Record}
 use Rattle.ledger.specs.declared.Ledger.{Ledger}
-use Rattle.ledger.specs.declared.records.Loaded.{Loaded}
+use Rattle.ledger.specs.declared.test.Tested.{Tested}
 use Rattle.ledger.specs.declared.confirming.Confirmed.{Confirmed}
 use Rattle.ledger.specs.declared.confirming.Marking.{Marking}
 use Rattle.ledger.proofs.Fields.{of-field}
-use Rattle.ledger.proofs.Lent.{Confirms, confirms}
-use Rattle.ledger.proofs.Passing.{Load}
-use Rattle.ledger.proofs.Loading.{loads-lent}
+use Rattle.ledger.proofs.Lent.{confirms}
+use Rattle.ledger.proofs.Passing.{Test}
+use Rattle.ledger.proofs.TestingStep.{tests-lent}
 use Rattle.ledger.proofs.MarkingStep.{Mark, marks}
 use Rattle.ledger.proofs.Record as T
 use Rattle.ledger.proofs.Record.Laws as T′
 use Rattle.ledger.proofs.Ledger as L
 use Rattle.ledger.proofs.Ledger.Laws as L′
-use Rattle.ledger.proofs.records.Loaded as D
-use Rattle.ledger.proofs.records.Loaded.Laws as D′
+use Rattle.ledger.proofs.test.Tested as D
+use Rattle.ledger.proofs.test.Tested.Laws as D′
 use Rattle.ledger.proofs.confirming.Confirmed as S
 use Rattle.ledger.proofs.confirming.Confirmed.Laws as S′
 use Rattle.ledger.proofs.confirming.Marking as N
 use Rattle.ledger.proofs.confirming.Marking.Laws as N′
-use Rattle.ledger.proofs.records.load.Symbol as ld-def
-use Rattle.ledger.proofs.records.load.Symbol.{name as #load}
-use Rattle.ledger.proofs.records.load.Met as ld-thm
+use Rattle.ledger.proofs.test.test.Symbol as ts-def
+use Rattle.ledger.proofs.test.test.Symbol.{name as #test}
+use Rattle.ledger.proofs.test.test.Met as ts-thm
 use Rattle.ledger.proofs.confirming.decide as de
 use Rattle.ledger.proofs.confirming.decide.Symbol as de-def
 use Rattle.ledger.proofs.confirming.decide.Symbol.{name as #decide}
@@ -110,20 +110,20 @@ module _ {M : Type 1} (𝓤 : URA M) (H : Heap 𝓤) (A : Atoms 𝓤) (W : Given
       frame ! $ nothing ! $ nothing ! $ fjoin ! $ move ! (1 ∷ 0 ∷ []) $ fjoin ! $ nothing ! $ fjoin ! $ frame ! $ done !
 
   -- ---- `decide`, over values
-  abbrev to-decide : Loaded → Val → Decide 𝓤 H A at-mem run .Ghost
+  abbrev to-decide : Tested → Val → Decide 𝓤 H A at-mem run .Ghost
   to-decide h w = ((tt, tt, tt, (ledger, (h, (n, tt))), (ml ∷ [], (w ∷ [], (vint w32 n ∷ [], tt)))), tt)
 
-  goes-decide : (h : Loaded) (w : Val) → ent 𝓤 (sem 𝓤 H A (owns (L.the-row ∷ D.the-row ∷ u32 ∷ []) (ledger, (h, (n, tt))) (ml ∷ [], (w ∷ [], (vint w32 n ∷ [], tt))))) (Decide 𝓤 H A at-mem run .pre (to-decide h w))
+  goes-decide : (h : Tested) (w : Val) → ent 𝓤 (sem 𝓤 H A (owns (L.the-row ∷ D.the-row ∷ u32 ∷ []) (ledger, (h, (n, tt))) (ml ∷ [], (w ∷ [], (vint w32 n ∷ [], tt))))) (Decide 𝓤 H A at-mem run .pre (to-decide h w))
   goes-decide h w = qed W (‵ (owns (L.the-row ∷ D.the-row ∷ u32 ∷ []) (ledger, (h, (n, tt))) (ml ∷ [], (w ∷ [], (vint w32 n ∷ [], tt)))) ∷ []) ∵ nothing ! $ join ! $ frame ! $ done !
 
-  decided : (h : Loaded) (r : Marking) → ent 𝓤 (ensured 𝓤 H A de.ended (de.clauses 𝓤 H A at-mem run) tt (ledger, (h, (n, tt))) tt r) (fact 𝓤 (r ≡ markingOf ledger (loadedRecords h) n))
-  decided h r = exE 𝓤 _ (λ ws. snd∗ 𝓤 (sem 𝓤 H A (lasts de.ended tt (ledger, (h, (n, tt))) ws)) (fact 𝓤 (r ≡ markingOf ledger (loadedRecords h) n)))
+  -- what it answers, of the records that were tested
+  abbrev Decides : Tested → Marking → Type 0
+  Decides h r = (records : List Record) → h ≡ testedOf ledger records n → r ≡ markingOf ledger records n
 
-  -- what is decided, from the lent records
-  settles : (h : Loaded) (r : Marking) → h ≡ loadedOf ys → r ≡ markingOf ledger (loadedRecords h) n → Confirms ledger ys n r
-  settles h r e₁ e₂ = confirms ledger ys n r (e₂ ∙ ap (λ (k : Loaded). markingOf ledger (loadedRecords k) n) e₁)
+  decided : (h : Tested) (r : Marking) → ent 𝓤 (ensured 𝓤 H A de.ended (de.clauses 𝓤 H A at-mem run) tt (ledger, (h, (n, tt))) tt r) (fact 𝓤 (Decides h r))
+  decided h r = exE 𝓤 _ (λ ws. snd∗ 𝓤 (sem 𝓤 H A (lasts de.ended tt (ledger, (h, (n, tt))) ws)) (fact 𝓤 (Decides h r)))
 
-  module _ (C : Calls 𝓤 H) (Λ : Loops 𝓤 H) (fm : FmC 𝓤 H (W .laws) C) (known-load : Triple 𝓤 (C #load) (Load 𝓤 H A at-mem run)) (known-decide : Triple 𝓤 (C #decide) (Decide 𝓤 H A at-mem run)) (known-mark : Triple 𝓤 (C #mark) (Mark 𝓤 H A at-mem run)) where
+  module _ (C : Calls 𝓤 H) (Λ : Loops 𝓤 H) (fm : FmC 𝓤 H (W .laws) C) (known-test : Triple 𝓤 (C #test) (Test 𝓤 H A at-mem run)) (known-decide : Triple 𝓤 (C #decide) (Decide 𝓤 H A at-mem run)) (known-mark : Triple 𝓤 (C #mark) (Mark 𝓤 H A at-mem run)) where
     walk : Room T.the-row (length ys) → Is L.the-row ledger (ml ∷ []) → n < 2 ^ 32 → ent 𝓤 (onEntry 𝓤 H A f.signature (κ, tt) (q, tt) a vals) (WpFn 𝓤 H C Λ code.function (ml ∷ s ∷ vint w32 n ∷ []) Post)
     walk room il n-fits =
         qed W ((‵ (flft κ q) ⊛ ‵ ftrue) ∷ ‵ (owns (L.the-row ∷ MutSlice (named 0) κ T.the-row ∷ u32 ∷ []) a vals) ∷ []) ∵ enter ! C Λ code.function (ml ∷ s ∷ vint w32 n ∷ []) _ $
@@ -134,14 +134,14 @@ module _ {M : Type 1} (𝓤 : URA M) (H : Heap 𝓤) (A : Atoms 𝓤) (W : Given
         assigns ! (agg ! (and-then ! (load ! (from ! (stop !)) (look ! 8 refl)) (and-then ! (load ! (from ! (fld ! refl (stop !))) (look-in ! 18 (sub ! 1 refl (whole !)))) (no-more !)))) (from ! (stop !)) (init ! 6 refl (tt, (tt, (record { fits = room .0 }, tt)))) $
         move ! (25 ∷ []) $ fsplit ! $ move ! (1 ∷ []) $ fsplit ! $ move ! (27 ∷ []) $ split ! $ move ! (1 ∷ []) $ drop ! $
         -- [the token; the slice; what the number owns (2); what the ledger owns (3); _11 (4); …; _8 (10); …]
-        loads-lent 𝓤 H A W at-mem run b o ys fm known-load κ q γ (λ ν δ. and-then ! (load ! (from ! (stop !)) (look ! 10 refl)) (no-more !)) (λ w h e₁.
+        tests-lent 𝓤 H A W at-mem run b o ys ledger n fm known-test il (refl, n-fits) κ q γ (λ ν δ. and-then ! (load ! (from ! (stop !)) (look ! 24 refl)) (and-then ! (load ! (from ! (stop !)) (look ! 10 refl)) (and-then ! (load ! (from ! (stop !)) (look ! 20 refl)) (no-more !)))) (λ w h e₁.
         peeks ! D.the-row (Is D.the-row) (shows 𝓤 H A D.the-row) h (w ∷ []) (λ ih. land ! (from ! (stop !)) (init ! 19 refl (LL.lawful D.the-type D′.the-laws 𝓤 H A W .typed h _ ih .0)) $
         -- [what the value owns; the slice; the token; what the number owns (3); what the ledger owns (4); _11 (5); …]
         move ! (0 ∷ 3 ∷ []) $ fjoin ! $ move ! (3 ∷ 0 ∷ []) $ fjoin ! $ use1 W (raw (Decide 𝓤 H A at-mem run .pre (to-decide h w))) (goes-decide h w) $
         calls-at ! fm (Decide 𝓤 H A at-mem run) known-decide (to-decide h w) (and-then ! (load ! (from ! (stop !)) (look ! 23 refl)) (and-then ! (load ! (from ! (stop !)) (look ! 17 refl)) (and-then ! (load ! (from ! (stop !)) (look ! 19 refl)) (no-more !)))) (λ w′.
         use1 W (later (some (λ (r : Marking). (‵ ftrue ⊛ ‵ (N.the-row .own r (w′ ∷ []))) ⊛ raw (ensured 𝓤 H A de.ended (de.clauses 𝓤 H A at-mem run) tt (ledger, (h, (n, tt))) tt r)))) (id⊢ 𝓤 _) $ await ! tt $ pick ! (λ r.
-        split ! $ move ! (1 ∷ []) $ use1 W (raw (fact 𝓤 (r ≡ markingOf ledger (loadedRecords h) n))) (decided h r) $ heard ! (r ≡ markingOf ledger (loadedRecords h) n) (λ e₂. split ! $ drop ! $
-        peeks ! N.the-row (Is N.the-row) (shows 𝓤 H A N.the-row) r (w′ ∷ []) (λ ir. let parts = LL.owed N.the-type N′.the-laws r _ ir in let e = settles h r e₁ e₂ in
+        split ! $ move ! (1 ∷ []) $ use1 W (raw (fact 𝓤 (Decides h r))) (decided h r) $ heard ! (Decides h r) (λ e₂. split ! $ drop ! $
+        peeks ! N.the-row (Is N.the-row) (shows 𝓤 H A N.the-row) r (w′ ∷ []) (λ ir. let parts = LL.owed N.the-type N′.the-laws r _ ir in let e = confirms ledger ys n r (e₂ ys e₁) in
         land ! (from ! (stop !)) (init ! 15 refl (LL.lawful N.the-type N′.the-laws 𝓤 H A W .typed r _ ir .0)) $
         rewrite ! 15 (λ (u : Val). ‵ (fat fullShare N′.mir l₅ 0 u)) (ap only (LL.tells N.the-type N′.the-laws r (w′ ∷ []) ir)) refl $ drop ! $
         -- [the slice; the token; _11 (2); …; _5 (14); …; _2 (20); …]
@@ -161,14 +161,14 @@ module _ {M : Type 1} (𝓤 : URA M) (H : Heap 𝓤) (A : Atoms 𝓤) (W : Given
         by ! (exits (r .confirmed) _ zs (e .0, e₃ ∙ e .1 .1) l))))))))))))))))))))
 
 module _ {M : Type 1} (𝓤 : URA M) (H : Heap 𝓤) (A : Atoms 𝓤) (W : Given 𝓤 H A) (at-mem : Memory → SProp 𝓤) (run : Routine → Fun 𝓤) (C : Calls 𝓤 H) (Λ : Loops 𝓤 H) where
-  walks : FmC 𝓤 H (W .laws) C → Triple 𝓤 (C #load) (Load 𝓤 H A at-mem run) → Triple 𝓤 (C #decide) (Decide 𝓤 H A at-mem run) → Triple 𝓤 (C #mark) (Mark 𝓤 H A at-mem run) → Walks 𝓤 H A f.ended stayed (WpFn 𝓤 H C Λ code.function) (f.clauses 𝓤 H A at-mem run)
+  walks : FmC 𝓤 H (W .laws) C → Triple 𝓤 (C #test) (Test 𝓤 H A at-mem run) → Triple 𝓤 (C #decide) (Decide 𝓤 H A at-mem run) → Triple 𝓤 (C #mark) (Mark 𝓤 H A at-mem run) → Walks 𝓤 H A f.ended stayed (WpFn 𝓤 H C Λ code.function) (f.clauses 𝓤 H A at-mem run)
   walks fm k₁ k₂ k₃ = walked 𝓤 H A f.ended stayed (f.clauses 𝓤 H A at-mem run) (WpFn 𝓤 H C Λ code.function)
       (λ κs. (LL.vals L.the-type L′.the-laws, (slice-vals, (uint-vals w32, tt)))) (λ κs. (LL.tells L.the-type L′.the-laws, (mut-slice-tells (named 0) (κs .0) T.the-row, (uint-tells w32, tt))))
       (λ κs qs bounds a g are. via 𝓤 _ (fst∗ 𝓤 _ (emp 𝓤))
       (walk 𝓤 H A W at-mem run (κs .0) (qs .0) (a .0) (a .1 .0 .ptr .0) (a .1 .0 .ptr .1) (a .1 .0 .name) (a .1 .0 .now) (a .1 .1 .0) C Λ fm k₁ k₂ k₃ (are .1 .0 .0 .1) (are .0) (are .1 .1 .0 .1)))
 
 meets : {M : Type 1} (𝓤 : URA M) (H : Heap 𝓤) (A : Atoms 𝓤) → Given 𝓤 H A → (at-mem : Memory → SProp 𝓤) (run : Routine → Fun 𝓤) (𝓣 : Tables 𝓤 H)
-    → Triple 𝓤 (𝓣 .C #load) (Load 𝓤 H A at-mem run) → Triple 𝓤 (𝓣 .C #decide) (Decide 𝓤 H A at-mem run) → Triple 𝓤 (𝓣 .C #mark) (Mark 𝓤 H A at-mem run)
+    → Triple 𝓤 (𝓣 .C #test) (Test 𝓤 H A at-mem run) → Triple 𝓤 (𝓣 .C #decide) (Decide 𝓤 H A at-mem run) → Triple 𝓤 (𝓣 .C #mark) (Mark 𝓤 H A at-mem run)
     → Meets 𝓤 H A f.signature (WpFn 𝓤 H (𝓣 .C) (𝓣 .Λ) code.function) (f.spec 𝓤 H A at-mem run)
 meets 𝓤 H A W at-mem run 𝓣 k₁ k₂ k₃ =
     walk-meets 𝓤 H A f.ended stayed W
@@ -181,6 +181,6 @@ confirm-spec 𝓤 H 𝓜 𝓖 𝓡 =
     entered 𝓤 H (tripleOf 𝓤 H (𝓖 .A) f.signature (f.spec 𝓤 H (𝓖 .A) (𝓜 .mem) (𝓡 .run)))
     (tables 𝓤 H 𝓜 𝓡 code.env .C) (tables 𝓤 H 𝓜 𝓡 code.env .Λ) #confirm code.function (code.unfolded 𝓤 H 𝓜 𝓡)
     (meets 𝓤 H (𝓖 .A) (givenOf 𝓤 H 𝓜 𝓖) (𝓜 .mem) (𝓡 .run) (tablesOf 𝓤 H 𝓜 (tables 𝓤 H 𝓜 𝓡 code.env))
-    (cited 𝓤 H (Load 𝓤 H (𝓖 .A) (𝓜 .mem) (𝓡 .run)) 𝓜 𝓡 code.env #load ld-def.routine code.calls-ledger·records·load (ld-thm.met 𝓤 H 𝓜 𝓖 𝓡))
+    (cited 𝓤 H (Test 𝓤 H (𝓖 .A) (𝓜 .mem) (𝓡 .run)) 𝓜 𝓡 code.env #test ts-def.routine code.calls-ledger·test·test (ts-thm.met 𝓤 H 𝓜 𝓖 𝓡))
     (cited 𝓤 H (Decide 𝓤 H (𝓖 .A) (𝓜 .mem) (𝓡 .run)) 𝓜 𝓡 code.env #decide de-def.routine code.calls-ledger·confirming·decide (de-thm.met 𝓤 H 𝓜 𝓖 𝓡))
     (cited 𝓤 H (Mark 𝓤 H (𝓖 .A) (𝓜 .mem) (𝓡 .run)) 𝓜 𝓡 code.env #mark mk-def.routine code.calls-ledger·records·mark (mk-thm.met 𝓤 H 𝓜 𝓖 𝓡)))

@@ -1,4 +1,4 @@
--- `hold` meets its contract: a walk of its MIR, by hand. The records are lent to `load` as a `&` and come back, `decide` says over values what is answered and what is appended, and the records go to `append` for good.
+-- `hold` meets its contract: a walk of its MIR, by hand. The records are lent to `test` as a `&` and come back, `decide` says over values what is answered and what is appended, and the records go to `append` for good.
 use mathlib.Core.Path.{_≡_, refl, ap, _∙_}
 use Prim.Native.Nat.{ℕ}
 use mathlib.Core.List.{[], _∷_, List}
@@ -37,30 +37,30 @@ use denote.Triple.Table.{entered, cited}
 use denote.Triple.Walked.{says, Stays, gave-slice, stay-dropped, walkOf, goes-gave-slice, goes-dropped, Walks, ends-at, walked, walk-meets}
 use denote.Exit.{yes}
 use Rattle.ledger.specs.Holding.{holdingOf, recordsHeld}
-use Rattle.ledger.specs.Steps.{loadedOf, loadedRecords, appended, appendingOf}
+use Rattle.ledger.specs.Steps.{testedOf, appended, appendingOf}
 use Rattle.ledger.specs.declared.Record.{Record}
 use Rattle.ledger.specs.declared.Ledger.{Ledger}
-use Rattle.ledger.specs.declared.records.Loaded.{Loaded}
+use Rattle.ledger.specs.declared.test.Tested.{Tested}
 use Rattle.ledger.specs.declared.holding.Holding.{Holding}
 use Rattle.ledger.specs.declared.holding.Appending.{Appending}
-use Rattle.ledger.proofs.Lent.{Appends, holds}
+use Rattle.ledger.proofs.Lent.{holds}
 use Rattle.ledger.proofs.Fields.{of-field}
-use Rattle.ledger.proofs.Passing.{Load}
-use Rattle.ledger.proofs.Loading.{loads-lent}
+use Rattle.ledger.proofs.Passing.{Test}
+use Rattle.ledger.proofs.TestingStep.{tests-lent}
 use Rattle.ledger.proofs.Writing.{AtOperator, Write, writes}
 use Rattle.ledger.proofs.Record as T
 use Rattle.ledger.proofs.Record.Laws as T′
 use Rattle.ledger.proofs.Ledger as L
 use Rattle.ledger.proofs.Ledger.Laws as L′
-use Rattle.ledger.proofs.records.Loaded as D
-use Rattle.ledger.proofs.records.Loaded.Laws as D′
+use Rattle.ledger.proofs.test.Tested as D
+use Rattle.ledger.proofs.test.Tested.Laws as D′
 use Rattle.ledger.proofs.holding.Holding as S
 use Rattle.ledger.proofs.holding.Holding.Laws as S′
 use Rattle.ledger.proofs.holding.Appending as N
 use Rattle.ledger.proofs.holding.Appending.Laws as N′
-use Rattle.ledger.proofs.records.load.Symbol as ld-def
-use Rattle.ledger.proofs.records.load.Symbol.{name as #load}
-use Rattle.ledger.proofs.records.load.Met as ld-thm
+use Rattle.ledger.proofs.test.test.Symbol as ts-def
+use Rattle.ledger.proofs.test.test.Symbol.{name as #test}
+use Rattle.ledger.proofs.test.test.Met as ts-thm
 use Rattle.ledger.proofs.holding.decide as dc
 use Rattle.ledger.proofs.holding.decide.Symbol as dc-def
 use Rattle.ledger.proofs.holding.decide.Symbol.{name as #decide}
@@ -120,20 +120,24 @@ module _ {M : Type 1} (𝓤 : URA M) (H : Heap 𝓤) (A : Atoms 𝓤) (W : Given
       split ! $ move ! (0 ∷ 2 ∷ []) $ join ! $ frame ! $ drop ! $ nothing ! $ nothing ! $ fjoin ! $ nothing ! $ fjoin ! $ move ! (1 ∷ 0 ∷ []) $ fjoin ! $ nothing ! $ fjoin ! $ frame ! $ done !
 
   -- ---- `decide`, over values and the sheet
-  abbrev to-decide : Loaded → Val → Decide 𝓤 H A at-mem run .Ghost
+  abbrev to-decide : Tested → Val → Decide 𝓤 H A at-mem run .Ghost
   to-decide h w = (((κ′, tt), (q′, tt), tt, (ledger, (h, (n, (sheet, tt)))), (ml ∷ [], (w ∷ [], (vint w32 n ∷ [], (s′ ∷ [], tt))))), tt)
 
-  goes-decide : (h : Loaded) (w : Val) → ent 𝓤 (⋆ 𝓤 H A (Lasting ∷ ‵ (fsep (L.the-row .own ledger (ml ∷ [])) (fsep (D.the-row .own h (w ∷ [])) Asked)) ∷ [])) (Decide 𝓤 H A at-mem run .pre (to-decide h w))
-  goes-decide h w = qed W (Lasting ∷ ‵ (fsep (L.the-row .own ledger (ml ∷ [])) (fsep (D.the-row .own h (w ∷ [])) Asked)) ∷ []) ∵ join ! $ frame ! $ done !
+  enters-decide : (h : Tested) (w : Val) → ent 𝓤 (⋆ 𝓤 H A (Lasting ∷ ‵ (fsep (L.the-row .own ledger (ml ∷ [])) (fsep (D.the-row .own h (w ∷ [])) Asked)) ∷ []))
+      (onEntry 𝓤 H A dc.signature (κ′, tt) (q′, tt) (ledger, (h, (n, (sheet, tt)))) (ml ∷ [], (w ∷ [], (vint w32 n ∷ [], (s′ ∷ [], tt)))))
+  enters-decide h w = qed W (Lasting ∷ ‵ (fsep (L.the-row .own ledger (ml ∷ [])) (fsep (D.the-row .own h (w ∷ [])) Asked)) ∷ []) ∵ join ! $ done !
 
-  decided : (h : Loaded) (r : Appending) → ent 𝓤 (ensured 𝓤 H A dc.ended (dc.clauses 𝓤 H A at-mem run) (κ′, tt) (ledger, (h, (n, (sheet, tt)))) tt r) (fact 𝓤 (r ≡ appendingOf ledger (loadedRecords h) n (sheet .now)))
-  decided h r = exE 𝓤 _ (λ ws. snd∗ 𝓤 (sem 𝓤 H A (lasts dc.ended (κ′, tt) (ledger, (h, (n, (sheet, tt)))) ws)) (fact 𝓤 (r ≡ appendingOf ledger (loadedRecords h) n (sheet .now))))
+  goes-decide : (h : Tested) (w : Val) → h ≡ testedOf ledger ys n → ent 𝓤 (⋆ 𝓤 H A (Lasting ∷ ‵ (fsep (L.the-row .own ledger (ml ∷ [])) (fsep (D.the-row .own h (w ∷ [])) Asked)) ∷ [])) (Decide 𝓤 H A at-mem run .pre (to-decide h w))
+  goes-decide h w e = qed W (Lasting ∷ ‵ (fsep (L.the-row .own ledger (ml ∷ [])) (fsep (D.the-row .own h (w ∷ [])) Asked)) ∷ []) ∵ says ! (ys, e) $ by ! (enters-decide h w)
 
-  -- what is decided, from the lent records
-  appends : (h : Loaded) (r : Appending) → h ≡ loadedOf ys → r ≡ appendingOf ledger (loadedRecords h) n (sheet .now) → Appends ledger ys n (sheet .now) r
-  appends h r e₁ e₂ = holds ledger ys n (sheet .now) r (e₂ ∙ ap (λ (k : Loaded). appendingOf ledger (loadedRecords k) n (sheet .now)) e₁)
+  -- what it answers, of the records that were tested
+  abbrev Decides : Tested → Appending → Type 0
+  Decides h r = (records : List Record) → h ≡ testedOf ledger records n → r ≡ appendingOf ledger records n (sheet .now)
 
-  module _ (C : Calls 𝓤 H) (Λ : Loops 𝓤 H) (fm : FmC 𝓤 H (W .laws) C) (known-load : Triple 𝓤 (C #load) (Load 𝓤 H A at-mem run)) (known-decide : Triple 𝓤 (C #decide) (Decide 𝓤 H A at-mem run)) (known-append : Triple 𝓤 (C #append) (Write AtOperator appended 𝓤 H A)) where
+  decided : (h : Tested) (r : Appending) → ent 𝓤 (ensured 𝓤 H A dc.ended (dc.clauses 𝓤 H A at-mem run) (κ′, tt) (ledger, (h, (n, (sheet, tt)))) tt r) (fact 𝓤 (Decides h r))
+  decided h r = exE 𝓤 _ (λ ws. snd∗ 𝓤 (sem 𝓤 H A (lasts dc.ended (κ′, tt) (ledger, (h, (n, (sheet, tt)))) ws)) (fact 𝓤 (Decides h r)))
+
+  module _ (C : Calls 𝓤 H) (Λ : Loops 𝓤 H) (fm : FmC 𝓤 H (W .laws) C) (known-test : Triple 𝓤 (C #test) (Test 𝓤 H A at-mem run)) (known-decide : Triple 𝓤 (C #decide) (Decide 𝓤 H A at-mem run)) (known-append : Triple 𝓤 (C #append) (Write AtOperator appended 𝓤 H A)) where
     walk : Is L.the-row ledger (ml ∷ []) → Room T.the-row (length ys) → Is u32 n (vint w32 n ∷ []) → Room u8 (length (sheet .now))
         → ent 𝓤 (onEntry 𝓤 H A f.signature (κ, (κ′, tt)) (q, (q′, tt)) a vals) (WpFn 𝓤 H C Λ code.function (ml ∷ s ∷ vint w32 n ∷ s′ ∷ []) Post)
     walk ledger-is room number-is room′ =
@@ -146,14 +150,14 @@ module _ {M : Type 1} (𝓤 : URA M) (H : Heap 𝓤) (A : Atoms 𝓤) (W : Given
         assigns ! (agg ! (and-then ! (load ! (from ! (stop !)) (look ! 8 refl)) (and-then ! (load ! (from ! (fld ! refl (stop !))) (look-in ! 22 (sub ! 1 refl (whole !)))) (no-more !)))) (from ! (stop !)) (init ! 6 refl (tt, (tt, (record { fits = room .0 }, tt)))) $
         move ! (29 ∷ []) $ fsplit ! $ move ! (1 ∷ []) $ fsplit ! $ move ! (31 ∷ []) $ split ! $ move ! (0 ∷ 2 ∷ []) $
         -- [the records' token; the records; the sheet's token (2); what number and sheet own (3); what the ledger owns (4); _13 (5); …; _10 (11); …]
-        loads-lent 𝓤 H A W at-mem run b o ys fm known-load κ q γ (λ ν δ. and-then ! (load ! (from ! (stop !)) (look ! 11 refl)) (no-more !)) (λ w h e₁.
+        tests-lent 𝓤 H A W at-mem run b o ys ledger n fm known-test ledger-is number-is κ q γ (λ ν δ. and-then ! (load ! (from ! (stop !)) (look ! 29 refl)) (and-then ! (load ! (from ! (stop !)) (look ! 11 refl)) (and-then ! (load ! (from ! (stop !)) (look ! 25 refl)) (no-more !)))) (λ w h e₁.
         peeks ! D.the-row (Is D.the-row) (shows 𝓤 H A D.the-row) h (w ∷ []) (λ ih. land ! (from ! (stop !)) (init ! 22 refl (LL.lawful D.the-type D′.the-laws 𝓤 H A W .typed h _ ih .0)) $
         -- [what the value owns; the records; their token; the sheet's token (3); what number and sheet own (4); what the ledger owns (5); _13 (6); …]
-        move ! (0 ∷ 4 ∷ []) $ fjoin ! $ move ! (4 ∷ 0 ∷ []) $ fjoin ! $ move ! (3 ∷ 0 ∷ []) $ use2 W (raw (Decide 𝓤 H A at-mem run .pre (to-decide h w))) (goes-decide h w) $
+        move ! (0 ∷ 4 ∷ []) $ fjoin ! $ move ! (4 ∷ 0 ∷ []) $ fjoin ! $ move ! (3 ∷ 0 ∷ []) $ use2 W (raw (Decide 𝓤 H A at-mem run .pre (to-decide h w))) (goes-decide h w e₁) $
         calls-at ! fm (Decide 𝓤 H A at-mem run) known-decide (to-decide h w) (and-then ! (load ! (from ! (stop !)) (look ! 27 refl)) (and-then ! (load ! (from ! (stop !)) (look ! 19 refl)) (and-then ! (load ! (from ! (stop !)) (look ! 23 refl)) (and-then ! (load ! (from ! (stop !)) (look ! 21 refl)) (no-more !))))) (λ w′.
         use1 W (later (some (λ (r : Appending). (Lasting ⊛ ‵ (N.the-row .own r (w′ ∷ []))) ⊛ raw (ensured 𝓤 H A dc.ended (dc.clauses 𝓤 H A at-mem run) (κ′, tt) (ledger, (h, (n, (sheet, tt)))) tt r)))) (id⊢ 𝓤 _) $ await ! tt $ pick ! (λ r.
-        split ! $ move ! (1 ∷ []) $ use1 W (raw (fact 𝓤 (r ≡ appendingOf ledger (loadedRecords h) n (sheet .now)))) (decided h r) $ heard ! (r ≡ appendingOf ledger (loadedRecords h) n (sheet .now)) (λ e₂. split ! $ move ! (1 ∷ []) $
-        peeks ! N.the-row (Is N.the-row) (shows 𝓤 H A N.the-row) r (w′ ∷ []) (λ ir. let parts = LL.owed N.the-type N′.the-laws r _ ir in let e = appends h r e₁ e₂ in
+        split ! $ move ! (1 ∷ []) $ use1 W (raw (fact 𝓤 (Decides h r))) (decided h r) $ heard ! (Decides h r) (λ e₂. split ! $ move ! (1 ∷ []) $
+        peeks ! N.the-row (Is N.the-row) (shows 𝓤 H A N.the-row) r (w′ ∷ []) (λ ir. let parts = LL.owed N.the-type N′.the-laws r _ ir in let e = holds ledger ys n (sheet .now) r (e₂ ys e₁) in
         land ! (from ! (stop !)) (init ! 18 refl (LL.lawful N.the-type N′.the-laws 𝓤 H A W .typed r _ ir .0)) $
         rewrite ! 18 (λ (u : Val). ‵ (fat fullShare N′.mir l₆ 0 u)) (ap only (LL.tells N.the-type N′.the-laws r (w′ ∷ []) ir)) refl $ drop ! $
         -- [the sheet's token; the records; their token; _13 (3); …; _6 (17); …; _2 (25); …]
@@ -172,7 +176,7 @@ module _ {M : Type 1} (𝓤 : URA M) (H : Heap 𝓤) (A : Atoms 𝓤) (W : Given
         by ! (exits (r .holding) _ zs (e .0, e₃ ∙ e .1 .1) l))))))))))))))))))))))
 
 module _ {M : Type 1} (𝓤 : URA M) (H : Heap 𝓤) (A : Atoms 𝓤) (W : Given 𝓤 H A) (at-mem : Memory → SProp 𝓤) (run : Routine → Fun 𝓤) (C : Calls 𝓤 H) (Λ : Loops 𝓤 H) where
-  walks : FmC 𝓤 H (W .laws) C → Triple 𝓤 (C #load) (Load 𝓤 H A at-mem run) → Triple 𝓤 (C #decide) (Decide 𝓤 H A at-mem run) → Triple 𝓤 (C #append) (Write AtOperator appended 𝓤 H A) → Walks 𝓤 H A f.ended stayed (WpFn 𝓤 H C Λ code.function) (f.clauses 𝓤 H A at-mem run)
+  walks : FmC 𝓤 H (W .laws) C → Triple 𝓤 (C #test) (Test 𝓤 H A at-mem run) → Triple 𝓤 (C #decide) (Decide 𝓤 H A at-mem run) → Triple 𝓤 (C #append) (Write AtOperator appended 𝓤 H A) → Walks 𝓤 H A f.ended stayed (WpFn 𝓤 H C Λ code.function) (f.clauses 𝓤 H A at-mem run)
   walks fm k₁ k₂ k₃ = walked 𝓤 H A f.ended stayed (f.clauses 𝓤 H A at-mem run) (WpFn 𝓤 H C Λ code.function)
       (λ κs. (LL.vals L.the-type L′.the-laws, (slice-vals, (uint-vals w32, (slice-vals, tt)))))
       (λ κs. (LL.tells L.the-type L′.the-laws, (mut-slice-tells (named 0) (κs .0) T.the-row, (uint-tells w32, (shr-slice-tells (named 1) (κs .1 .0) u8, tt)))))
@@ -180,7 +184,7 @@ module _ {M : Type 1} (𝓤 : URA M) (H : Heap 𝓤) (A : Atoms 𝓤) (W : Given
       (walk 𝓤 H A W at-mem run (κs .0) (κs .1 .0) (qs .0) (qs .1 .0) (a .1 .0 .ptr .0) (a .1 .0 .ptr .1) (a .1 .0 .name) (a .1 .0 .now) (a .0) (a .1 .1 .0) (a .1 .1 .1 .0) C Λ fm k₁ k₂ k₃ (are .0) (are .1 .0 .0 .1) (are .1 .1 .0) (are .1 .1 .1 .0 .0 .1)))
 
 meets : {M : Type 1} (𝓤 : URA M) (H : Heap 𝓤) (A : Atoms 𝓤) → Given 𝓤 H A → (at-mem : Memory → SProp 𝓤) (run : Routine → Fun 𝓤) (𝓣 : Tables 𝓤 H)
-    → Triple 𝓤 (𝓣 .C #load) (Load 𝓤 H A at-mem run) → Triple 𝓤 (𝓣 .C #decide) (Decide 𝓤 H A at-mem run) → Triple 𝓤 (𝓣 .C #append) (Write AtOperator appended 𝓤 H A)
+    → Triple 𝓤 (𝓣 .C #test) (Test 𝓤 H A at-mem run) → Triple 𝓤 (𝓣 .C #decide) (Decide 𝓤 H A at-mem run) → Triple 𝓤 (𝓣 .C #append) (Write AtOperator appended 𝓤 H A)
     → Meets 𝓤 H A f.signature (WpFn 𝓤 H (𝓣 .C) (𝓣 .Λ) code.function) (f.spec 𝓤 H A at-mem run)
 meets 𝓤 H A W at-mem run 𝓣 k₁ k₂ k₃ =
     walk-meets 𝓤 H A f.ended stayed W (
@@ -198,6 +202,6 @@ hold-spec 𝓤 H 𝓜 𝓖 𝓡 =
     entered 𝓤 H (tripleOf 𝓤 H (𝓖 .A) f.signature (f.spec 𝓤 H (𝓖 .A) (𝓜 .mem) (𝓡 .run)))
     (tables 𝓤 H 𝓜 𝓡 code.env .C) (tables 𝓤 H 𝓜 𝓡 code.env .Λ) #hold code.function (code.unfolded 𝓤 H 𝓜 𝓡)
     (meets 𝓤 H (𝓖 .A) (givenOf 𝓤 H 𝓜 𝓖) (𝓜 .mem) (𝓡 .run) (tablesOf 𝓤 H 𝓜 (tables 𝓤 H 𝓜 𝓡 code.env))
-    (cited 𝓤 H (Load 𝓤 H (𝓖 .A) (𝓜 .mem) (𝓡 .run)) 𝓜 𝓡 code.env #load ld-def.routine code.calls-ledger·records·load (ld-thm.met 𝓤 H 𝓜 𝓖 𝓡))
+    (cited 𝓤 H (Test 𝓤 H (𝓖 .A) (𝓜 .mem) (𝓡 .run)) 𝓜 𝓡 code.env #test ts-def.routine code.calls-ledger·test·test (ts-thm.met 𝓤 H 𝓜 𝓖 𝓡))
     (cited 𝓤 H (Decide 𝓤 H (𝓖 .A) (𝓜 .mem) (𝓡 .run)) 𝓜 𝓡 code.env #decide dc-def.routine code.calls-ledger·holding·decide (dc-thm.met 𝓤 H 𝓜 𝓖 𝓡))
     (cited 𝓤 H (Write AtOperator appended 𝓤 H (𝓖 .A)) 𝓜 𝓡 code.env #append ad-def.routine code.calls-ledger·records·append (ad-thm.met 𝓤 H 𝓜 𝓖 𝓡)))
