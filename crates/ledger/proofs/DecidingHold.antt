@@ -23,7 +23,7 @@ use Rattle.quantity.specs.declared.refusal.Refusal.the-variants.{Unusable, Path
 use Rattle.quantity.proofs.Laws.{pick-true, pick-false, le-largest}
 use Rattle.quantity.proofs.Quantities.{rates-sum}
 use Rattle.quantity.proofs.Refusals.{firstOf-map, firstOf-append}
-use Rattle.quantity.proofs.Sums.{both-true, getD-listOf, total-same, every-same}
+use Rattle.quantity.proofs.Sums.{both-true, total-same, every-same}
 use Rattle.operator.specs.Operators.{numberInRange}
 use Rattle.sheet.specs.Bodies.{operatorInRange}
 use Rattle.sheet.specs.declared.Form.{Form}
@@ -43,13 +43,13 @@ use Rattle.figures.proofs.Promise.{accepted-figures, accepted-none}
 use Rattle.ledger.specs.declared.Record.{Record}
 use Rattle.ledger.specs.declared.Ledger.{Ledger}
 use Rattle.ledger.specs.declared.holding.Appending.{Appending}
-use Rattle.ledger.specs.Records.{markHeld, numberAt, share, stands, placeAmong}
+use Rattle.ledger.specs.Records.{markHeld, numberAt, hasLink, share, stands, placeAmong}
 use Rattle.ledger.specs.Ledgers.{linkCount, recordCount, capacityOf, totalOf, ledgerUnusable}
 use Rattle.ledger.specs.Holding.{rateOf, namesLink, rateOn, linksOf, recordOf, ledgerFull, linkShort, standingCases, bitsOf}
-use Rattle.ledger.specs.Steps.{rateAt, charged, namedBy, shortOf, Decidable, refusedAppending, acceptedAppending, appendingOf}
+use Rattle.ledger.specs.Steps.{rateAt, charged, shortOf, Decidable, refusedAppending, acceptedAppending, appendingOf}
 use Rattle.ledger.proofs.Deciding.{count-few, total-le, capacity-le, stands-below}
 use Rattle.ledger.proofs.Reserving.{share-at-most, listOf-same}
-use Rattle.ledger.proofs.Links.{share-named}
+use Rattle.ledger.proofs.Links.{has-named, share-named}
 
 -- The path of a sheet, whose numbers are in their ranges.
 
@@ -129,20 +129,19 @@ module _ (path : Path) (value : PathValue) (same : value ≡ valueOfPath (value 
   unfolding rateOf
   reserved-rate rounded = ap (λ (n : ℕ). record { 0 = n }) (rw declaration-is at rounded)
 
-  module _ (few : value .count ≤ 16) {named : List Bool} (noted : named ≡ namedBy value) where
-    named-link : (link : ℕ) → link < linkCount → getD named link false ≡ namesLink path link
-    unfolding namedBy
-    named-link link less =
+  module _ (few : value .count ≤ 16) {links : ℕ} (noted : links ≡ linksOf (inFull value)) where
+    pub named-bits : links ≡ linksOf path
+    unfolding linksOf bitsOf
+    named-bits =
         let stood : inFull value .operators ≡ path .operators = ap (λ (p : PathValue). inFull p .operators) same ∙ operators-full (value .form) path (rw (← count-is) few) in
-        ap (λ (links : List Bool). getD links link false) noted ∙ getD-listOf false (namesLink (inFull value)) linkCount link less ∙ names-operators (inFull value) path link stood
+        noted ∙ total-same _ _ linkCount (λ link less. ap (λ (t : Bool). pick t (2 ^ link) 0) (names-operators (inFull value) path link stood))
 
-    pub named-bits : bitsOf (λ link. getD named link false) linkCount ≡ linksOf path
-    unfolding bitsOf linksOf
-    named-bits = total-same _ _ linkCount (λ link less. ap (λ (t : Bool). pick t (2 ^ link) 0) (named-link link less))
+    named-link : (link : ℕ) → link < linkCount → hasLink links link ≡ namesLink path link
+    named-link link less = ap (λ (bits : ℕ). hasLink bits link) named-bits ∙ has-named path link less
 
     pub named-short : (ledger : Ledger) (records : List Record) → ledgerUnusable ledger records ≡ false
         → pathInRange path ≡ true → {rate : Rate} → rate ≡ record { 0 = rateOf path }
-        → shortOf (ledger .capacities) (ledger .totals) (λ link. getD named link false) rate ≡ linkShort ledger path
+        → shortOf (ledger .capacities) (ledger .totals) (hasLink links) rate ≡ linkShort ledger path
     unfolding shortOf linkShort
     named-short ledger records usable inside {rate} is =
         ap not

@@ -1,105 +1,130 @@
--- The links that a path names: link by link as its places are passed, as sixteen bits, and short of capacity where one is.
-use mathlib.Core.Path.{_≡_, refl, ap, sym, _∙_}
+-- The links that a path names: as sixteen bits, joined as its places are passed, and short of capacity where one is.
+use mathlib.Core.Path.{_≡_, refl, ap, ap₂, sym, _∙_}
 use mathlib.Core.Bool.{Bool, true, false, not}
 use mathlib.Core.List.{List}
-use Prim.Native.Nat.{ℕ, zero, suc, _+_, _^_, _≤_, _<_}
-use native.Mathlib.Nat.{pow-suc, pow-zero}
-use native.Mathlib.Numerals.{add-one}
+use mathlib.Core.Logic.{⊎-elim}
+use Prim.Native.Nat.{ℕ, zero, suc, _+_, _*_, _^_, _≤_, _<_}
+use native.Mathlib.Nat.{pow-suc, pow-zero, le-of-suc-le-suc, eq-or-lt-of-le, not-suc-le-zero}
 use native.Mathlib.Omega.{arith}
-use lib.ListN.{length, getD, set, replicate, take, length-set, length-replicate, getD-replicate}
-use lib.Seq.{getD-set-same, getD-set-other, getD-take, length-take-le}
+use lib.Bits.{bitOr, or-self, or-zero-l, or-zero-r, or-block}
+use lib.Pow.{pow-lt}
+use lib.ListN.{length, getD, take}
+use lib.Seq.{getD-take, length-take-le}
 use lib.Dec.{ltb, eqb}
-use borrow.Author.Tests.{eqb-true, eqb-false}
+use borrow.Author.Tests.{eq-eqb, ne-eqb}
 use Rattle.quantity.specs.Choice.{pick, both, either}
 use Rattle.quantity.specs.Quantities.{ratesSum}
 use Rattle.quantity.specs.Sums.{every}
 use Rattle.quantity.specs.declared.Rate.{Rate}
 use Rattle.quantity.specs.declared.LinkCapacity.{LinkCapacity}
-use Rattle.quantity.proofs.Laws.{pick-true, pick-false, either-second}
-use Rattle.quantity.proofs.Sums.{total-zero, total-next, every-next, listOf-ext, every-same}
+use Rattle.quantity.proofs.Laws.{either-second}
+use Rattle.quantity.proofs.Sums.{total-zero, total-suc, total-rest, total-same, every-next, every-same}
 use Rattle.sheet.specs.Paths.{noLinkedOperator}
 use Rattle.sheet.specs.Forms.{inFull}
 use Rattle.sheet.specs.declared.LinkedOperator.{LinkedOperator}
 use Rattle.sheet.specs.declared.PathValue.{PathValue}
 use Rattle.ledger.specs.Ledgers.{linkCount}
-use Rattle.ledger.specs.Holding.{namesLink, bitsOf}
-use Rattle.ledger.specs.Steps.{namedBy, rateAt, shortOf}
+use Rattle.ledger.specs.Holding.{namesLink, bitsOf, linksOf}
+use Rattle.ledger.specs.Steps.{rateAt, shortOf}
 
 -- The bits of the links below one, which are below its own bit.
 
 module _ (named : ℕ → Bool) where
-  pub bits-none : bitsOf named 0 ≡ 0
+  bits-suc : (link : ℕ) → bitsOf named (suc link) ≡ bitsOf named link + pick (named link) (2 ^ link) 0
   unfolding bitsOf
-  bits-none = total-zero _
+  bits-suc link = total-suc _ link
 
-  bits-next : (link : ℕ) → bitsOf named (link + 1) ≡ bitsOf named link + pick (named link) (2 ^ link) 0
-  unfolding bitsOf
-  bits-next link = total-next _ link
-
-  pub bits-with : (link : ℕ) → named link ≡ true → bitsOf named (link + 1) ≡ bitsOf named link + 2 ^ link
-  bits-with link e = bits-next link ∙ ap (λ (n : ℕ). bitsOf named link + n) (pick-true (named link) _ _ e)
-
-  pub bits-without : (link : ℕ) → named link ≡ false → bitsOf named (link + 1) ≡ bitsOf named link
-  bits-without link e = let next = bits-next link ∙ ap (λ (n : ℕ). bitsOf named link + n) (pick-false (named link) (2 ^ link) 0 e) in omega arith
+  -- so the link's own bit stands before them
+  bits-block : (link : ℕ) → bitsOf named (suc link) ≡ pick (named link) 1 0 * 2 ^ link + bitsOf named link
+  bits-block link = bits-suc link ∙ by-test (named link) (bitsOf named link) (2 ^ link)
+    where
+      by-test : (t : Bool) (low power : ℕ) → low + pick t power 0 ≡ pick t 1 0 * power + low
+      by-test true low power = omega arith
+      by-test false low power = omega arith
 
   pub bits-below : (links : ℕ) → bitsOf named links < 2 ^ links
-  bits-below zero = rw (bits-none, pow-zero) (omega arith)
-  bits-below (suc link) = by-test (named link) refl (bits-below link)
+  unfolding bitsOf
+  bits-below zero = rw (total-zero (λ link. pick (named link) (2 ^ link) 0), pow-zero) (omega arith)
+  bits-below (suc link) = by-test (named link) (bitsOf named link) (bits-suc link) (bits-below link)
     where
-      by-test : (t : Bool) → named link ≡ t → bitsOf named link < 2 ^ link → bitsOf named (suc link) < 2 ^ suc link
-      by-test true e below = omega (arith, rw add-one at (bits-with link e), pow-suc 2 link)
-      by-test false e below = omega (arith, rw add-one at (bits-without link e), pow-suc 2 link)
+      by-test : (t : Bool) (low : ℕ) → bitsOf named (suc link) ≡ low + pick t (2 ^ link) 0 → low < 2 ^ link → bitsOf named (suc link) < 2 ^ suc link
+      by-test true low is below = omega (arith, is, below, pow-suc 2 link)
+      by-test false low is below = omega (arith, is, below, pow-suc 2 link)
 
--- The links named by the first places.
+-- One more link's bit, joined by "or".
 
 either-last : (t : Bool) → either t false ≡ t
 either-last true = refl
 either-last false = refl
 
+module _ (named : ℕ → Bool) (link : ℕ) where
+  abbrev withLink : ℕ → Bool
+  withLink k = either (named k) (eqb link k)
+
+  with-here : (k : ℕ) → link ≡ k → withLink k ≡ true
+  with-here k same = either-second (named k) (eqb link k) (eq-eqb link k same)
+
+  with-other : (k : ℕ) → (link ≡ k → ⊥) → withLink k ≡ named k
+  with-other k other = ap (either (named k)) (ne-eqb link k other) ∙ either-last (named k)
+
+  one-joined : (t : Bool) → bitOr (pick t 1 0) 1 ≡ 1
+  one-joined true = or-self 1
+  one-joined false = or-zero-l 1
+
+  bits-joined : (n : ℕ) → link < n → bitOr (bitsOf named n) (2 ^ link) ≡ bitsOf withLink n
+  unfolding bitsOf
+  bits-joined zero less = absurd (not-suc-le-zero less)
+  bits-joined (suc n) less =
+      ⊎-elim
+      (λ same.
+      let own : 2 ^ link ≡ 1 * 2 ^ n + 0 = omega (arith, ap (λ (k : ℕ). 2 ^ k) same) in
+      let below : bitsOf named n ≡ bitsOf withLink n = total-same _ _ n (λ k before. ap (λ (t : Bool). pick t (2 ^ k) 0) (sym (with-other k (λ here. omega (arith, same, here, before))))) in
+      ap₂ bitOr (bits-block named n) own ∙ or-block n (pick (named n) 1 0) 1 (bitsOf named n) 0 (bits-below named n) (omega (arith, bits-below named n))
+      ∙ ap₂ (λ (a b : ℕ). a * 2 ^ n + b) (one-joined (named n)) (or-zero-r (bitsOf named n) ∙ below)
+      ∙ ap (λ (t : Bool). pick t 1 0 * 2 ^ n + bitsOf withLink n) (sym (with-here n same)) ∙ sym (bits-block withLink n))
+      (λ before.
+      let own : 2 ^ link ≡ 0 * 2 ^ n + 2 ^ link = omega arith in
+      ap₂ bitOr (bits-block named n) own ∙ or-block n (pick (named n) 1 0) 0 (bitsOf named n) (2 ^ link) (bits-below named n) (pow-lt {i = link} {j = n} before)
+      ∙ ap₂ (λ (a b : ℕ). a * 2 ^ n + b) (or-zero-r (pick (named n) 1 0)) (bits-joined n before)
+      ∙ ap (λ (t : Bool). pick t 1 0 * 2 ^ n + bitsOf withLink n) (sym (with-other n (λ here. omega (arith, here, before)))) ∙ sym (bits-block withLink n))
+      (eq-or-lt-of-le (le-of-suc-le-suc less))
+
+-- The links named by the first places.
+
 -- one of the first k places is on the link
-abbrev pub namedBefore : List LinkedOperator → ℕ → ℕ → Bool
+abbrev namedBefore : List LinkedOperator → ℕ → ℕ → Bool
 namedBefore operators k link = not (every (λ j. not (eqb (getD operators j noLinkedOperator .link .0) link)) k)
 
+abbrev pub bitsBefore : List LinkedOperator → ℕ → ℕ
+bitsBefore operators k = bitsOf (namedBefore operators k) linkCount
+
 module _ (operators : List LinkedOperator) where
-  -- what is noted of the first k places
-  pub record Noted (named : List Bool) (k : ℕ) : Type 0 where
-    pub sized : length named ≡ linkCount
-    pub each : (link : ℕ) → link < linkCount → getD named link false ≡ namedBefore operators k link
+  pub named-first : bitsBefore operators 0 ≡ 0
+  unfolding bitsOf every
+  named-first = total-rest _ 0 linkCount (λ j past. refl) ∙ total-zero _
 
-  pub noted-first : Noted (replicate linkCount false) 0
-  unfolding every
-  noted-first = record { sized = length-replicate linkCount false; each = λ link less. getD-replicate linkCount link false false less }
-
-  named-next : (k link : ℕ) → namedBefore operators (k + 1) link ≡ either (namedBefore operators k link) (eqb (getD operators k noLinkedOperator .link .0) link)
-  named-next k link = ap not (every-next _ k) ∙ not-both (every (λ j. not (eqb (getD operators j noLinkedOperator .link .0) link)) k) (eqb (getD operators k noLinkedOperator .link .0) link)
+  one-more : (k link : ℕ) → namedBefore operators (k + 1) link ≡ either (namedBefore operators k link) (eqb (getD operators k noLinkedOperator .link .0) link)
+  one-more k link = ap not (every-next _ k) ∙ not-both (every (λ j. not (eqb (getD operators j noLinkedOperator .link .0) link)) k) (eqb (getD operators k noLinkedOperator .link .0) link)
     where
       not-both : (a b : Bool) → not (both a (not b)) ≡ either (not a) b
       not-both true true = refl
       not-both true false = refl
       not-both false b = refl
 
-  pub noted-next : {named : List Bool} {k : ℕ} → Noted named k → getD operators k noLinkedOperator .link .0 < linkCount → Noted (set named (getD operators k noLinkedOperator .link .0) true) (k + 1)
-  noted-next {named} {k} noted inside =
-      record { sized = length-set named here true ∙ noted .sized; each = λ link less. rw (named-next k link) (by-test link less (eqb here link) refl) }
-    where
-      here : ℕ
-      here = getD operators k noLinkedOperator .link .0
+  pub named-next : (k : ℕ) → getD operators k noLinkedOperator .link .0 < linkCount → bitOr (bitsBefore operators k) (2 ^ getD operators k noLinkedOperator .link .0) ≡ bitsBefore operators (k + 1)
+  unfolding bitsOf
+  named-next k inside =
+      bits-joined (namedBefore operators k) (getD operators k noLinkedOperator .link .0) linkCount inside
+      ∙ total-same _ _ linkCount (λ link less. ap (λ (t : Bool). pick t (2 ^ link) 0) (sym (one-more k link)))
 
-      by-test : (link : ℕ) → link < linkCount → (t : Bool) → eqb here link ≡ t → getD (set named here true) link false ≡ either (namedBefore operators k link) t
-      by-test link less true e =
-          rw (← eqb-true here link e) (getD-set-same named here true false (rw (noted .sized) inside) ∙ sym (either-second (namedBefore operators k here) true refl))
-      by-test link less false e =
-          getD-set-other named here link true false (λ same. eqb-false here link e (sym same)) ∙ noted .each link less ∙ sym (either-last (namedBefore operators k link))
-
--- a path's links, once all its places are noted
-pub noted-all : (value : PathValue) → value .count ≤ length (value .operators) → {named : List Bool} → Noted (value .operators) named (value .count) → named ≡ namedBy value
-unfolding namedBy namesLink inFull
-noted-all value whole {named} noted =
+-- a path's links, once all its places are passed
+pub named-all : (value : PathValue) → value .count ≤ length (value .operators) → bitsBefore (value .operators) (value .count) ≡ linksOf (inFull value)
+unfolding bitsOf linksOf namesLink inFull
+named-all value whole =
     let sized : length (take (value .count) (value .operators)) ≡ value .count = length-take-le (value .count) (value .operators) whole in
-    listOf-ext false (namesLink (inFull value)) linkCount named (noted .sized)
+    total-same _ _ linkCount
     (λ link less.
-    noted .each link less
-    ∙ ap not
+    ap (λ (t : Bool). pick (not t) (2 ^ link) 0)
     (sym
     (ap (every (λ j. not (eqb (getD (take (value .count) (value .operators)) j noLinkedOperator .link .0) link))) sized
     ∙ every-same _ _ (value .count) (λ j before. ap (λ (place : LinkedOperator). not (eqb (place .link .0) link)) (getD-take (value .count) (value .operators) j noLinkedOperator before)))))

@@ -16,7 +16,6 @@ use Rattle.quantity.specs.declared.Rate.{Rate}
 use Rattle.quantity.specs.declared.LinkCapacity.{LinkCapacity}
 use Rattle.flow.specs.Declarations.{declarationInRange}
 use Rattle.sheet.specs.Paths.{Path, noLinkedOperator}
-use Rattle.sheet.specs.Forms.{inFull}
 use Rattle.sheet.specs.Sheets.{pathIn}
 use Rattle.sheet.specs.declared.PathValue.{PathValue}
 use Rattle.sheet.specs.declared.read.Verdict.{Verdict}
@@ -32,7 +31,7 @@ use Rattle.ledger.specs.declared.spare.Spares.{Spares}
 use Rattle.ledger.specs.Records.{markHeld, noRecord, recordAt, numberAt, markAt, hasLink, share, among, placeAmong}
 use Rattle.ledger.specs.Ledgers.{recordCount, linkCount, capacityOf, totalOf, capacitiesFit, ledgerUnusable}
 use Rattle.ledger.specs.Opening.{askedFor, openCases, newLedger, noLedger, refusedOpening}
-use Rattle.ledger.specs.Holding.{namesLink, recordOf, holdingCases, refusedHolding, acceptedHolding}
+use Rattle.ledger.specs.Holding.{recordOf, holdingCases, refusedHolding, acceptedHolding}
 use Rattle.ledger.specs.Release.{releaseCases, refusedRelease, acceptedRelease, recordOfNumber}
 use Rattle.ledger.specs.Confirming.{confirmCases, refusedConfirming, confirmedAt}
 use Rattle.ledger.specs.Spare.{linksUnusable}
@@ -150,10 +149,7 @@ clearingOf capacities records =
     firstOf (openCases capacities records) refusedClearing
     (record { opened = record { verdict = Verdict.Accepted; ledger = newLedger capacities }; count = recordCount; none = noRecord })
 
--- the links of a path's operators, and whether a named link is short
-unfoldable pub namedBy : PathValue → List Bool
-namedBy value = listOf (namesLink (inFull value)) linkCount
-
+-- whether a named link is short
 unfoldable pub shortOf : List LinkCapacity → List Rate → (ℕ → Bool) → Rate → Bool
 shortOf capacities reserved named rate =
     not (every (λ link. not (both (named link) (ltb (getD capacities link (record { 0 = 0 }) .0) (ratesSum (rateAt reserved link) rate .0)))) linkCount)

@@ -27,13 +27,14 @@ ghost use Rattle.quantity.specs.Rounding.{roundUp};
 ghost use Rattle.quantity.specs.Refusals.{firstOf};
 ghost use Rattle.flow.specs.Declarations.{lastRow, declarationInRange};
 ghost use Rattle.sheet.specs.Paths.{Path, noLinkedOperator};
-ghost use Rattle.sheet.specs.Forms.{valueOfPath};
+ghost use Rattle.sheet.specs.Forms.{valueOfPath, inFull};
 ghost use Rattle.sheet.specs.Sheets.{pathInRange};
 ghost use Rattle.figures.specs.Answers.{pathDelay};
 ghost use Rattle.ledger.specs.declared.Record.{Record};
+ghost use Rattle.ledger.specs.Records.{hasLink};
 ghost use Rattle.ledger.specs.Ledgers.{linkCount, ledgerUnusable};
-ghost use Rattle.ledger.specs.Holding.{standingCases, holdingOf, recordsHeld, bitsOf};
-ghost use Rattle.ledger.specs.Steps.{testedOf, FromTest, namedBy, shortOf, Decidable, refusedAppending, acceptedAppending, appendingOf};
+ghost use Rattle.ledger.specs.Holding.{linksOf, standingCases, holdingOf, recordsHeld};
+ghost use Rattle.ledger.specs.Steps.{testedOf, FromTest, shortOf, Decidable, refusedAppending, acceptedAppending, appendingOf};
 
 // What the path reserves, its delay, and the ledger with it. Beside a refusal they are 0, and the ledger is as it was.
 pub struct Holding {
@@ -106,16 +107,16 @@ fn decide_standing(
     }
     let declaration = path.declaration;
     let rate = reserved_by(declaration);
-    let named = links_named(path);
+    let links = links_named(path);
     let capacities = ledger.capacities;
     let totals = ledger.totals;
-    if link_short(capacities, totals, named, rate) {
+    if link_short(capacities, totals, links, rate) {
         return refused(ledger, Refusal::LinkShort);
     }
     let entry = Record {
         number,
         rate,
-        links: bits_of(named),
+        links,
         mark: crate::HELD,
     };
     let charged = charge(totals, entry);
@@ -147,48 +148,26 @@ fn reserved_by(declaration: Declaration) -> Rate
     Rate((quota.0 + (interval.0 - 1)) / interval.0)
 }
 
-// The links that a path's operators are on.
-fn links_named(path: PathValue) -> [bool; 16]
+// The links that a path's operators are on, as 16 bits, bit i for link i.
+fn links_named(path: PathValue) -> u32
     requires { ⌜ (path .count ≤ 16) × ((k : ℕ) → k < 16 → getD (path .operators) k noLinkedOperator .link .0 < linkCount) ⌝ }
-    ensures { λ r. ⌜ r ≡ namedBy path ⌝ }
+    ensures { λ r. ⌜ r ≡ linksOf (inFull path) ⌝ }
 {
     let operators = path.operators;
-    let mut named = [false; 16];
+    let mut links: u32 = 0;
     let mut k = 0;
     while k < path.count {
         let linked = operators[k];
         let link = linked.link;
-        named[link.0 as usize] = true;
+        links = links | (1 << link.0);
         k += 1;
     }
-    named
-}
-
-// Links as 16 bits, bit i for link i.
-fn bits_of(named: [bool; 16]) -> u32
-    ensures { λ r. ⌜ r ≡ bitsOf (λ link. getD named link false) linkCount ⌝ }
-{
-    let mut bits = 0;
-    let mut bit = 1;
-    let mut link = 0;
-    while link < crate::LINKS {
-        if named[link] {
-            bits += bit;
-        }
-        bit *= 2;
-        link += 1;
-    }
-    bits
+    links
 }
 
 // Whether a named link's capacity is below its total with the rate. All links are tested, so that the loop has no branch.
-fn link_short(
-    capacities: [LinkCapacity; 16],
-    totals: [Rate; 16],
-    named: [bool; 16],
-    rate: Rate,
-) -> bool
-    ensures { λ r. ⌜ r ≡ shortOf capacities totals (λ link. getD named link false) rate ⌝ }
+fn link_short(capacities: [LinkCapacity; 16], totals: [Rate; 16], links: u32, rate: Rate) -> bool
+    ensures { λ r. ⌜ r ≡ shortOf capacities totals (hasLink links) rate ⌝ }
 {
     let mut room = true;
     let mut link = 0;
@@ -196,7 +175,8 @@ fn link_short(
         let capacity = capacities[link];
         let sum = totals[link];
         let with = sum.plus(rate);
-        let short = and(named[link], capacity.0 < with.0);
+        let named = (links >> link) % 2 == 1;
+        let short = and(named, capacity.0 < with.0);
         room = and(room, !short);
         link += 1;
     }

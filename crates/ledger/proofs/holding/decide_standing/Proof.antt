@@ -84,19 +84,16 @@ returns-3 c records path usable found inside same delayed =
     ∙ standing-short (args .ledger) records (args .number .0) path (place at records usable found) (roomy tested .before .if1 .left) (roomy tested .if2 .left)
     (sym (short tested records path usable inside same) ∙ c .before .if3 .taken)
 
-bits-of-requires : tie.Need-bits-of-requires
-bits-of-requires c κs = search needs
-
 charge-requires : tie.Need-charge-requires
 charge-requires c κs = search needs
 
-add-t22 : tie.Need-add-t22
-add-t22 c = omega (arith, required (start (roomy (c .before .before .before))) .0)
+add-t21 : tie.Need-add-t21
+add-t21 c = omega (arith, required (start (roomy (c .before .before))) .0)
 
 returns-4 : tie.Need-returns-4
 unfolding acceptedAppending acceptedHolding recordOf
 returns-4 c records path usable found inside same delayed =
-    let tested = c .before .before .before in
+    let tested = c .before .before in
     let at = start (roomy tested) in
     let args = at .args in
     let named = tested .before .before .before in
@@ -104,11 +101,11 @@ returns-4 c records path usable found inside same delayed =
       c .charge .ensures,
       reserved-rate path (args .path) same (named .before .reserved-by .ensures),
       delayed,
-      c .before .bits-of .ensures ∙ named-bits path (args .path) same (required at .2) (named .links-named .ensures),
+      named-bits path (args .path) same (required at .2) (named .links-named .ensures),
       charged-path (args .ledger) records usable path inside (args .number .0),
     )
     (standing-accepted (args .ledger) records (args .number .0) path (place at records usable found) (roomy tested .before .if1 .left) (roomy tested .if2 .left)
-    (sym (short tested records path usable inside same) ∙ c .before .before .if3 .left))
+    (sym (short tested records path usable inside same) ∙ c .before .if3 .left))
 
 pub decide-standing-spec : {M : Type 1} → statement M
 decide-standing-spec =
@@ -123,7 +120,6 @@ decide-standing-spec =
     link-short-requires
     refused-requires-3
     returns-3
-    bits-of-requires
     charge-requires
-    add-t22
+    add-t21
     returns-4)

@@ -1,19 +1,22 @@
--- The invariant: each link is named as one of the operators passed is on it.
-use mathlib.Core.Path.{_≡_, sym, _∙_}
-use Prim.Native.Nat.{_-_, _≤_, _<_}
+-- The invariant: the bits of the links that the operators passed are on.
+use mathlib.Core.Path.{_≡_, ap, ap₂, sym, _∙_}
+use Prim.Native.Nat.{ℕ, _-_, _*_, _%_, _^_, _≤_, _<_}
+use native.Mathlib.Nat.{mod-eq-of-lt}
 use native.Mathlib.Omega.{arith}
+use lib.Bits.{bitOr}
 use lib.ListN.{length, getD, length-map}
+use lib.Pow.{pow-lt}
 use Rattle.sheet.specs.Paths.{noLinkedOperator}
 use Rattle.ledger.specs.Ledgers.{linkCount}
-use Rattle.ledger.proofs.Naming.{Noted, noted-first, noted-next, noted-all}
+use Rattle.ledger.proofs.Naming.{bitsBefore, named-first, named-next, named-all}
 use Rattle.ledger.proofs.holding.links_named.Statement.{statement}
 use Rattle.ledger.proofs.holding.links_named.Tie as tie
 
 abbrev Inv-loop : tie.InvT-loop
-Inv-loop value operators named₀ k₀ named k = (k ≤ value .count) × Noted operators named k
+Inv-loop value operators links₀ k₀ links k = (k ≤ value .count) × (links ≡ bitsBefore operators k)
 
 abbrev μ-loop : tie.MeasureT-loop
-μ-loop value operators named₀ k₀ named k = value .count - k
+μ-loop value operators links₀ k₀ links k = value .count - k
 
 -- the value has sixteen operators
 full : (c : tie.Start Inv-loop μ-loop) → length (c .args .path .operators) ≡ 16
@@ -24,8 +27,12 @@ inside : (c : tie.After-struct-known2 Inv-loop μ-loop) → let at = c .before .
     getD (at .before .before .args .path .operators) (at .loop .k) noLinkedOperator .link .0 < linkCount
 inside c = let at = c .before .before .before .before .before in at .before .before .pre .1 (at .loop .k) (omega arith)
 
+-- its bit
+bit : (link : ℕ) → link < linkCount → 1 * 2 ^ link % 2 ^ 32 ≡ 2 ^ link
+bit link less = let small = pow-lt {i = link} {j = 32} (omega (arith, less)) in mod-eq-of-lt (omega (arith, small)) ∙ omega arith
+
 loop-holds : tie.Need-loop-holds Inv-loop μ-loop
-loop-holds c = (omega arith, noted-first (c .before .args .path .operators))
+loop-holds c = (omega arith, sym (named-first (c .before .args .path .operators)))
 
 mul-linked : tie.Need-mul-linked Inv-loop μ-loop
 mul-linked c = omega arith
@@ -33,11 +40,8 @@ mul-linked c = omega arith
 array-copy-out-linked : tie.Need-array-copy-out-linked Inv-loop μ-loop
 array-copy-out-linked c = omega arith
 
-cast-named : tie.Need-cast-named Inv-loop μ-loop
-cast-named c = omega (arith, inside c)
-
-array-write-named : tie.Need-array-write-named Inv-loop μ-loop
-array-write-named c = inside c
+shl-links : tie.Need-shl-links Inv-loop μ-loop
+shl-links c = omega (arith, inside c)
 
 add-k : tie.Need-add-k Inv-loop μ-loop
 add-k c = omega arith
@@ -48,14 +52,15 @@ loop-less c = omega arith
 loop-again : tie.Need-loop-again Inv-loop μ-loop
 loop-again c =
     let at = c .before .before .before .before .before in
-    (omega arith, noted-next (at .before .before .args .path .operators) (at .loop .inv .1) (inside c))
+    let operators = at .before .before .args .path .operators in
+    (omega arith, ap₂ bitOr (at .loop .inv .1) (bit _ (inside c)) ∙ named-next operators (at .loop .k) (inside c))
 
 returns : tie.Need-returns Inv-loop μ-loop
 returns c =
     let at = c .before .before in
     let value = at .before .before .args .path in
     let ends : at .loop .k ≡ value .count = omega arith in
-    noted-all value (omega (arith, full (at .before .before))) (rw ends at (at .loop .inv .1))
+    at .loop .inv .1 ∙ ap (bitsBefore (value .operators)) ends ∙ named-all value (omega (arith, full (at .before .before)))
 
 pub links-named-spec : {M : Type 1} → statement M
 links-named-spec =
@@ -66,8 +71,7 @@ links-named-spec =
     loop-holds
     mul-linked
     array-copy-out-linked
-    cast-named
-    array-write-named
+    shl-links
     add-k
     loop-less
     loop-again
