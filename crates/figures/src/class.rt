@@ -133,6 +133,14 @@ fn entry(bound: &[u32], n: u32) -> u32
     if n == 0 { 0 } else { bound[(n - 1) as usize] }
 }
 
+// How many blocks of an interval begin in so many slots: their quotient is worked out in the slots' own width.
+fn blocks_begun(slots: u32, interval: u32) -> u64
+    requires { ⌜ (1 ≤ interval) × (slots + interval ≤ 4_294_967_295) ⌝ }
+    ensures { λ r. ⌜ r ≡ roundUp slots interval ⌝ }
+{
+    wide((slots + (interval - 1)) / interval)
+}
+
 // The most that delayers of n slots in all hold before any filter; of a uniform class and of rows that is the most in n slots.
 pub(crate) fn most_delayed(
     class: FlowClass,
@@ -146,11 +154,11 @@ pub(crate) fn most_delayed(
     let kind = class.kind;
     match kind {
         Kind::Smooth => {
-            let blocks = round_up(wide(n.0), wide(class.interval.0));
+            let blocks = blocks_begun(n.0, class.interval.0);
             Units((blocks + 1) * class.quota.0)
         }
         Kind::Uniform => {
-            let blocks = round_up(wide(n.0), wide(class.interval.0));
+            let blocks = blocks_begun(n.0, class.interval.0);
             Units(blocks * class.quota.0)
         }
         Kind::Rows => Units(wide(entry(bound, n.0))),
@@ -170,11 +178,11 @@ pub(crate) fn most_late(
     let kind = class.kind;
     match kind {
         Kind::Smooth => {
-            let blocks = round_up(wide(late.0), wide(class.interval.0));
+            let blocks = blocks_begun(late.0, class.interval.0);
             Units((blocks + 1) * class.quota.0)
         }
         Kind::Uniform => {
-            let blocks = round_up(wide(late.0) + 1, wide(class.interval.0));
+            let blocks = blocks_begun(late.0 + 1, class.interval.0);
             Units(blocks * class.quota.0)
         }
         Kind::Rows => Units(wide(bound[late.0 as usize])),

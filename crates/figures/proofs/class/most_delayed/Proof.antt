@@ -21,46 +21,38 @@ smooth-pair c = let s = c .before .before .before in smooth-within (s .args .dec
 uniform-pair : (c : tie.After-enum-told2) → let class = c .before .before .before .args .class in PairWithin (class .interval .0) (class .quota .0)
 uniform-pair c = let s = c .before .before .before in uniform-within (s .args .declared) (s .args .class) (c .enum-told2 .given .1) (s .pre .0)
 
-wide-requires : tie.Need-wide-requires
-wide-requires c κs = search needs
-
-wide-requires-2 : tie.Need-wide-requires-2
-wide-requires-2 c κs = search needs
-
-round-up-requires : tie.Need-round-up-requires
-round-up-requires c κs = let pair = smooth-pair (c .before .before) in omega arith
+blocks-begun-requires : tie.Need-blocks-begun-requires
+blocks-begun-requires c κs = let pair = smooth-pair c in let short = c .before .before .before .pre .2 in omega arith
 
 -- no more blocks than slots
-smooth-blocks : (c : tie.After-round-up) → c .round-up .result ≤ 1_024
-smooth-blocks c = let pair = smooth-pair (c .before .before .before) in omega (arith, round-up-at-most (c .before .before .wide .result) (c .before .wide2 .result) (omega arith))
+smooth-blocks : (c : tie.After-blocks-begun) → c .blocks-begun .result ≤ 1_024
+smooth-blocks c =
+    let s = c .before .before .before .before in
+    omega (arith, c .blocks-begun .ensures, s .pre .2, round-up-at-most (s .args .n .0) (s .args .class .interval .0) (smooth-pair (c .before) .least))
 
 add-t9 : tie.Need-add-t9
 add-t9 c = omega (arith, smooth-blocks c)
 
 mul-t10 : tie.Need-mul-t10
 mul-t10 c =
-    let pair = smooth-pair (c .before .before .before .before) in
-    let blocks : c .before .round-up .result + 1 ≤ 1_025 = omega (arith, smooth-blocks (c .before)) in
+    let pair = smooth-pair (c .before .before) in
+    let blocks : c .before .blocks-begun .result + 1 ≤ 1_025 = omega (arith, smooth-blocks (c .before)) in
     omega (arith, mul-le-mul blocks (pair .quota))
 
 enum-told-2 : tie.Need-enum-told-2
 enum-told-2 c = search needs
 
-wide-requires-3 : tie.Need-wide-requires-3
-wide-requires-3 c κs = search needs
+blocks-begun-requires-2 : tie.Need-blocks-begun-requires-2
+blocks-begun-requires-2 c κs = let pair = uniform-pair c in let short = c .before .before .before .pre .2 in omega arith
 
-wide-requires-4 : tie.Need-wide-requires-4
-wide-requires-4 c κs = search needs
-
-round-up-requires-2 : tie.Need-round-up-requires-2
-round-up-requires-2 c κs = let pair = uniform-pair (c .before .before) in omega arith
-
-uniform-blocks : (c : tie.After-round-up2) → c .round-up2 .result ≤ 1_024
-uniform-blocks c = let pair = uniform-pair (c .before .before .before) in omega (arith, round-up-at-most (c .before .before .wide3 .result) (c .before .wide4 .result) (omega arith))
+uniform-blocks : (c : tie.After-blocks-begun2) → c .blocks-begun2 .result ≤ 1_024
+uniform-blocks c =
+    let s = c .before .before .before .before in
+    omega (arith, c .blocks-begun2 .ensures, s .pre .2, round-up-at-most (s .args .n .0) (s .args .class .interval .0) (uniform-pair (c .before) .least))
 
 mul-t11 : tie.Need-mul-t11
 mul-t11 c =
-    let pair = uniform-pair (c .before .before .before .before) in
+    let pair = uniform-pair (c .before .before) in
     omega (arith, mul-le-mul (uniform-blocks (c .before)) (pair .quota))
 
 enum-told-3 : tie.Need-enum-told-3
@@ -72,20 +64,16 @@ entry-requires c κs =
     let lent = lent-rows (s .args .declared) (s .args .class) (s .args .bound .now) (c .enum-told3 .given .1) (s .pre .1) in
     omega (arith, s .pre .2, lent .long)
 
-wide-requires-5 : tie.Need-wide-requires-5
-wide-requires-5 c κs = search needs
+wide-requires : tie.Need-wide-requires
+wide-requires c κs = search needs
 
 returns : tie.Need-returns
 unfolding mostDelayed
-returns c =
-    let rounded = c .before .round-up .ensures in
-    rw (c .before .before .before .before .enum-told .given .1, rounded, c .before .before .wide2 .ensures, c .before .before .before .wide .ensures)
+returns c = rw (c .before .before .enum-told .given .1, c .before .blocks-begun .ensures)
 
 returns-2 : tie.Need-returns-2
 unfolding mostDelayed
-returns-2 c =
-    let rounded = c .before .round-up2 .ensures in
-    rw (c .before .before .before .before .enum-told2 .given .1, rounded, c .before .before .wide4 .ensures, c .before .before .before .wide3 .ensures)
+returns-2 c = rw (c .before .before .enum-told2 .given .1, c .before .blocks-begun2 .ensures)
 
 returns-3 : tie.Need-returns-3
 unfolding mostDelayed
@@ -94,26 +82,22 @@ returns-3 c =
     let s = told .before .before .before in
     let kind = told .enum-told3 .given .1 in
     let lent = lent-rows (s .args .declared) (s .args .class) (s .args .bound .now) kind (s .pre .1) in
-    rw kind (c .wide5 .ensures ∙ c .before .entry .ensures ∙ lent-at (s .args .declared) (s .args .bound .now) lent (s .args .n .0) (s .pre .2))
+    rw kind (c .wide .ensures ∙ c .before .entry .ensures ∙ lent-at (s .args .declared) (s .args .bound .now) lent (s .args .n .0) (s .pre .2))
 
 pub most-delayed-spec : {M : Type 1} → statement M
 most-delayed-spec =
     tie.close
     (tie.spec
     enum-told
-    wide-requires
-    wide-requires-2
-    round-up-requires
+    blocks-begun-requires
     add-t9
     mul-t10
     enum-told-2
-    wide-requires-3
-    wide-requires-4
-    round-up-requires-2
+    blocks-begun-requires-2
     mul-t11
     enum-told-3
     entry-requires
-    wide-requires-5
+    wide-requires
     returns
     returns-2
     returns-3)

@@ -27,27 +27,21 @@ smooth-pair c = let s = c .before .before .before in smooth-within (s .args .dec
 uniform-pair : (c : tie.After-enum-told2) → let class = c .before .before .before .args .class in PairWithin (class .interval .0) (class .quota .0)
 uniform-pair c = let s = c .before .before .before in uniform-within (s .args .declared) (s .args .class) (c .enum-told2 .given .1) (s .pre .0)
 
-wide-requires : tie.Need-wide-requires
-wide-requires c κs = search needs
-
-wide-requires-2 : tie.Need-wide-requires-2
-wide-requires-2 c κs = search needs
-
-round-up-requires : tie.Need-round-up-requires
-round-up-requires c κs = let pair = smooth-pair (c .before .before) in let late = c .before .before .before .before .before .pre .3 in omega arith
+blocks-begun-requires : tie.Need-blocks-begun-requires
+blocks-begun-requires c κs = let pair = smooth-pair c in let late = c .before .before .before .pre .3 in omega arith
 
 -- no more blocks than slots
-smooth-blocks : (c : tie.After-round-up) → c .round-up .result + 1 ≤ 134_218_751
+smooth-blocks : (c : tie.After-blocks-begun) → c .blocks-begun .result + 1 ≤ 134_218_751
 smooth-blocks c =
-    let pair = smooth-pair (c .before .before .before) in
-    let late = c .before .before .before .before .before .before .pre .3 in
-    omega (arith, round-up-at-most (c .before .before .wide .result) (c .before .wide2 .result) (omega arith))
+    let s = c .before .before .before .before in
+    let pair = smooth-pair (c .before) in
+    omega (arith, c .blocks-begun .ensures, s .pre .3, round-up-at-most (s .args .late .0) (s .args .class .interval .0) (pair .least))
 
 add-t9 : tie.Need-add-t9
 add-t9 c = omega (arith, smooth-blocks c)
 
-smooth-units : (c : tie.After-round-up) → let class = c .before .before .before .before .before .before .args .class in (c .round-up .result + 1) * class .quota .0 ≤ 134_218_751 * 67_108_863
-smooth-units c = mul-le-mul (smooth-blocks c) (smooth-pair (c .before .before .before) .quota)
+smooth-units : (c : tie.After-blocks-begun) → let class = c .before .before .before .before .args .class in (c .blocks-begun .result + 1) * class .quota .0 ≤ 134_218_751 * 67_108_863
+smooth-units c = mul-le-mul (smooth-blocks c) (smooth-pair (c .before) .quota)
 
 mul-t10 : tie.Need-mul-t10
 mul-t10 c = omega (arith, smooth-units (c .before))
@@ -55,29 +49,23 @@ mul-t10 c = omega (arith, smooth-units (c .before))
 enum-told-2 : tie.Need-enum-told-2
 enum-told-2 c = search needs
 
-wide-requires-3 : tie.Need-wide-requires-3
-wide-requires-3 c κs = search needs
+add-blocks-begun : tie.Need-add-blocks-begun
+add-blocks-begun c = omega (arith, c .before .before .before .before .pre .3)
 
-add-round-up : tie.Need-add-round-up
-add-round-up c = search needs
+blocks-begun-requires-2 : tie.Need-blocks-begun-requires-2
+blocks-begun-requires-2 c κs = let pair = uniform-pair (c .before) in let late = c .before .before .before .before .pre .3 in omega arith
 
-wide-requires-4 : tie.Need-wide-requires-4
-wide-requires-4 c κs = search needs
-
-round-up-requires-2 : tie.Need-round-up-requires-2
-round-up-requires-2 c κs = let pair = uniform-pair (c .before .before) in let late = c .before .before .before .before .before .pre .3 in omega arith
-
-uniform-blocks : (c : tie.After-round-up2) → c .round-up2 .result ≤ 134_218_751
+uniform-blocks : (c : tie.After-blocks-begun2) → c .blocks-begun2 .result ≤ 134_218_751
 uniform-blocks c =
-    let pair = uniform-pair (c .before .before .before) in
-    let late = c .before .before .before .before .before .before .pre .3 in
-    omega (arith, round-up-at-most (c .before .before .wide3 .result + 1) (c .before .wide4 .result) (omega arith))
+    let s = c .before .before .before .before .before in
+    let pair = uniform-pair (c .before .before) in
+    omega (arith, c .blocks-begun2 .ensures, s .pre .3, round-up-at-most (s .args .late .0 + 1) (s .args .class .interval .0) (pair .least))
 
-uniform-units : (c : tie.After-round-up2) → let class = c .before .before .before .before .before .before .args .class in c .round-up2 .result * class .quota .0 ≤ 134_218_751 * 67_108_863
-uniform-units c = mul-le-mul (uniform-blocks c) (uniform-pair (c .before .before .before) .quota)
+uniform-units : (c : tie.After-blocks-begun2) → let class = c .before .before .before .before .before .args .class in c .blocks-begun2 .result * class .quota .0 ≤ 134_218_751 * 67_108_863
+uniform-units c = mul-le-mul (uniform-blocks c) (uniform-pair (c .before .before) .quota)
 
-mul-t11 : tie.Need-mul-t11
-mul-t11 c = omega (arith, uniform-units (c .before))
+mul-t12 : tie.Need-mul-t12
+mul-t12 c = omega (arith, uniform-units (c .before))
 
 enum-told-3 : tie.Need-enum-told-3
 enum-told-3 c = search needs
@@ -101,20 +89,20 @@ mul-wide c = search needs
 shared-slice-read-wide : tie.Need-shared-slice-read-wide
 shared-slice-read-wide c = rows-reached (c .before .before)
 
-wide-requires-5 : tie.Need-wide-requires-5
-wide-requires-5 c κs = search needs
+wide-requires : tie.Need-wide-requires
+wide-requires c κs = search needs
 
 returns : tie.Need-returns
 unfolding mostIn
 returns c =
     let made = c .before in
-    (rw (made .before .before .before .enum-told .given .1, made .round-up .ensures, made .before .wide2 .ensures, made .before .before .wide .ensures), smooth-units made)
+    (rw (made .before .enum-told .given .1, made .blocks-begun .ensures), smooth-units made)
 
 returns-2 : tie.Need-returns-2
 unfolding mostIn
 returns-2 c =
     let made = c .before in
-    (rw (made .before .before .before .enum-told2 .given .1, made .round-up2 .ensures, made .before .wide4 .ensures, made .before .before .wide3 .ensures, add-one), uniform-units made)
+    (rw (made .before .before .enum-told2 .given .1, made .blocks-begun2 .ensures, add-one), uniform-units made)
 
 returns-3 : tie.Need-returns-3
 unfolding mostIn
@@ -123,7 +111,7 @@ returns-3 c =
     let s = told .before .before .before in
     let n = suc (s .args .late .0) in
     let inside = rows-inside told in
-    let entry : c .wide5 .result ≡ rowsMost (severalAt (s .args .declared)) (s .args .declared .count) n = c .wide5 .ensures ∙ rows-lent told .entries n (rows-reached told) in
+    let entry : c .wide .result ≡ rowsMost (severalAt (s .args .declared)) (s .args .declared .count) n = c .wide .ensures ∙ rows-lent told .entries n (rows-reached told) in
     let few = rows-at-most (severalAt (s .args .declared)) (s .args .declared .count) 65_535 (inside .0) (λ i less. (inside .2 i less .large, inside .2 i less .few)) n in
     let short : n ≤ 134_218_751 = let late = s .pre .3 in omega arith in
     (rw (told .enum-told3 .given .1) entry, omega (arith, entry, few, mul-le-mul {n₁ = n} {m₁ = 65_535} {n₂ = 134_218_751} {m₂ = 65_535} short (le-refl 65_535)))
@@ -133,22 +121,18 @@ most-late-spec =
     tie.close
     (tie.spec
     enum-told
-    wide-requires
-    wide-requires-2
-    round-up-requires
+    blocks-begun-requires
     add-t9
     mul-t10
     enum-told-2
-    wide-requires-3
-    add-round-up
-    wide-requires-4
-    round-up-requires-2
-    mul-t11
+    add-blocks-begun
+    blocks-begun-requires-2
+    mul-t12
     enum-told-3
     cast-wide
     mul-wide
     shared-slice-read-wide
-    wide-requires-5
+    wide-requires
     returns
     returns-2
     returns-3)
