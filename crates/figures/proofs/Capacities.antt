@@ -1,6 +1,6 @@
 -- The capacity of document 02, item 9, of an operator that refusals 5 to 8 let pass is at most twice the largest amount: its held figure is within refusal 7's limit, and so is what arrives in one slot.
 -- Behind a filter, and before a limiter or a filter, a rate that carries the class bounds what arrives; a delayer's held figure covers it; and before the filter part it is the most in one slot.
-use mathlib.Core.Path.{_≡_, refl, sym}
+use mathlib.Core.Path.{_≡_, refl}
 use mathlib.Core.Bool.{Bool, true, false, true≢false}
 use Prim.Native.Nat.{ℕ, suc, _+_, _*_, _≤_}
 use native.Mathlib.Nat.{le-refl, add-mul, suc-mul, mul-le-mul, mul-le-mul-right}
@@ -8,6 +8,7 @@ use native.Mathlib.Omega.{arith}
 use lib.Dec.{ltb}
 use borrow.Author.Tests.{ltb-false, not-false}
 use Rattle.quantity.specs.Limits.{largestAmount}
+use Rattle.quantity.specs.Choice.{pick}
 use Rattle.quantity.specs.Ranges.{rateRange, delayRange}
 use Rattle.quantity.specs.Rounding.{roundUp}
 use Rattle.quantity.proofs.Laws.{either-false}
@@ -128,18 +129,10 @@ module _ (p : Progress) (op : Operator) where
     capacity-le = omega (arith, capacity-le-sum p op, held-passed sized, arriving-le)
 
 -- an expander's capacity is its held figure, and any other operator's has what arrives besides
-pub capacity-held : (p : Progress) (op : Operator) → isExpander op ≡ true → capacity p op ≡ heldFigure p op
+pub capacity-made : (p : Progress) (op : Operator) → pick (isExpander op) (heldFigure p op) (heldFigure p op + mostArriving p) ≡ capacity p op
 unfolding capacity
-capacity-held p (Limiter R) e = absurd (true≢false (sym e))
-capacity-held p (Compactor n) e = absurd (true≢false (sym e))
-capacity-held p (Expander n) e = refl
-capacity-held p (Filter R) e = absurd (true≢false (sym e))
-capacity-held p (Delayer d) e = absurd (true≢false (sym e))
-
-pub capacity-with-arriving : (p : Progress) (op : Operator) → isExpander op ≡ false → capacity p op ≡ heldFigure p op + mostArriving p
-unfolding capacity
-capacity-with-arriving p (Limiter R) e = refl
-capacity-with-arriving p (Compactor n) e = refl
-capacity-with-arriving p (Expander n) e = absurd (true≢false e)
-capacity-with-arriving p (Filter R) e = refl
-capacity-with-arriving p (Delayer d) e = refl
+capacity-made p (Limiter R) = refl
+capacity-made p (Compactor n) = refl
+capacity-made p (Expander n) = refl
+capacity-made p (Filter R) = refl
+capacity-made p (Delayer d) = refl

@@ -39,11 +39,11 @@ use Rattle.figures.specs.declared.Figure.{Figure}
 use Rattle.figures.specs.declared.PathFigures.{PathFigures}
 use Rattle.figures.specs.declared.carried.Carried.{Carried}
 use Rattle.figures.specs.Progress.{Progress, start, behind, progressAt}
-use Rattle.figures.specs.Figures.{heldFigure, capacity, pairs, quotaBehind, figureTooLarge, largestChangedQuota}
+use Rattle.figures.specs.Figures.{heldFigure, mostArriving, capacity, pairs, quotaBehind, figureTooLarge, largestChangedQuota}
 use Rattle.figures.specs.Answers.{operatorAt, before, pairedAt, heldAt, capacityAt, delayAt, operatorCases, operatorsCases, pathCases, figureAt, noFigure, figureIn, pathDelay, refusedFigures, acceptedFigures}
 use Rattle.figures.specs.declared.carried.LeastRate.the-variants.{NoFilter}
-use Rattle.figures.specs.Carried.{classIn, progressIn, Within, Lent, BurstKept, Ready, mostBefore, slotsOf, slotsBefore, Outcome, hasFigure, hasRefusal, plannedOf, PathWithin, figuresOfValue}
-use Rattle.figures.proofs.Capacities.{held-passed}
+use Rattle.figures.specs.Carried.{isExpander, classIn, progressIn, Within, Lent, BurstKept, Ready, mostBefore, slotsOf, slotsBefore, Outcome, hasFigure, hasRefusal, plannedOf, PathWithin, figuresOfValue}
+use Rattle.figures.proofs.Capacities.{held-passed, capacity-made}
 use Rattle.figures.proofs.Bounds.{in-range, within-le, behind-within, own-delay-bound}
 
 -- the figure at each place, once the first k operators are done
@@ -234,7 +234,13 @@ module _ {declared : Declaration} {bound : List ℕ} {path : Path} {k : ℕ} {ca
       let own : held .capacity .0 ≡ heldAt path k = ap (λ (f : Figure). f .capacity .0) (fits-figure path k planned) in
       (own ∙ ap₂ heldFigure (sym (walked .carries)) (sym e), omega (arith, own, held-passed (before path k) (operatorAt path k) (fits-passed path k planned .1 .0)))
 
-  -- and with what arrives it is the figure
+  -- with what arrives it is the capacity
+  pub walked-capacity : {op : Operator} {held : Figure} {arriving full : ℕ} → op ≡ operatorAt path k → hasFigure held ≡ plannedAt path k → arriving ≡ mostArriving (progressIn declared carried)
+      → full ≡ pick (isExpander op) (held .capacity .0) (held .capacity .0 + arriving) → full ≡ capacity (progressIn declared carried) op
+  walked-capacity {op} e planned arrives made =
+      made ∙ ap₂ (λ (held arriving : ℕ). pick (isExpander op) held (held + arriving)) (walked-held e planned .0) arrives ∙ capacity-made (progressIn declared carried) op
+
+  -- and so the figure
   full-figure : {op : Operator} {full : Figure} → op ≡ operatorAt path k → full .capacity .0 ≡ capacity (progressIn declared carried) op → full .delay ≡ record { 0 = delayAt path k } → full ≡ figureAt path k
   unfolding figureAt capacityAt
   full-figure e most own =

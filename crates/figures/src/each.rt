@@ -6,7 +6,6 @@ use crate::carried::LeastRate;
 use crate::carried::behind_delayer;
 use crate::carried::behind_filter;
 use crate::carried::framed;
-use crate::carried::most_arriving;
 use crate::carried::part_held;
 use crate::carried::sending;
 use crate::class::burst_at;
@@ -25,14 +24,14 @@ use quantity::Units;
 use quantity::refusal::Refusal;
 ghost use mathlib.Core.Path.{_≡_};
 ghost use mathlib.Core.Bool.{true, false};
-ghost use Prim.Native.Nat.{_-_, _≤_};
+ghost use Prim.Native.Nat.{_+_, _-_, _*_, _≤_};
 ghost use Rattle.quantity.specs.Choice.{pick};
 ghost use Rattle.quantity.specs.Limits.{largestAmount};
 ghost use Rattle.operator.specs.Operators.{numberInRange};
 ghost use Rattle.operator.specs.declared.Operator.the-variants.{Limiter, Expander, Filter, Delayer};
 ghost use Rattle.figures.specs.Progress.{start};
-ghost use Rattle.figures.specs.Figures.{heldFigure, capacity, pairs};
-ghost use Rattle.figures.specs.Carried.{isExpander, progressIn, Lent, ReachesPast, slotsKept, Ready, mostBefore, changedClass, outcome, plannedOf, CarriedOn, PlannedAs};
+ghost use Rattle.figures.specs.Figures.{pairs};
+ghost use Rattle.figures.specs.Carried.{isExpander, progressIn, Lent, slotsKept, Ready, mostBefore, changedClass, outcome, plannedOf, CarriedOn, PlannedAs};
 
 // Section 7, 7: the largest changed quota.
 const LARGEST_CHANGED_QUOTA: u64 = 67_108_863;
@@ -217,27 +216,15 @@ fn is_expander(operator: Operator) -> bool
     }
 }
 
-// An operator's figure: its capacity is for the fullest moment, before it sends, when it has what it held and what arrives. What an expander holds at the most has both already.
-pub(crate) fn fullest(
-    carried: Carried,
-    declared: Declaration,
-    bound: &[u32],
-    operator: Operator,
-    held: Figure,
-) -> Figure
-    requires { ⌜ Ready mostBefore declared (now bound) carried × (held .capacity .0 ≡ heldFigure (progressIn declared carried) operator) × (held .capacity .0 ≤ largestAmount) × ReachesPast (carried .class .kind) declared (now bound) (carried .e .0) ⌝ }
-    ensures { λ r. ⌜ (r .capacity .0 ≡ capacity (progressIn declared carried) operator) × (r .delay ≡ held .delay) ⌝ }
+// An operator's capacity is for the fullest moment, before it sends, when it has what it held and what arrives. What an expander holds at the most has both already.
+pub(crate) fn fullest(operator: Operator, held: Units, arriving: Units) -> Units
+    requires { ⌜ (held .0 ≤ largestAmount) × (arriving .0 ≤ 134_218_751 * 67_108_863) ⌝ }
+    ensures { λ r. ⌜ r .0 ≡ pick (isExpander operator) (held .0) (held .0 + arriving .0) ⌝ }
 {
     if is_expander(operator) {
         return held;
     }
-    let arriving = most_arriving(carried, declared, bound);
-    let most = held.capacity;
-    let delay = held.delay;
-    Figure {
-        capacity: most.plus(arriving),
-        delay,
-    }
+    held.plus(arriving)
 }
 
 // The held figure and own delay of operator k, and what is carried behind it; `paired` is whether the next operator is a compactor of its interval.

@@ -2,6 +2,7 @@
 
 use crate::camera::MOST;
 use crate::camera::is_camera;
+use crate::carried::most_arriving;
 use crate::carried::start;
 use crate::each::Planned;
 use crate::each::fullest;
@@ -169,6 +170,7 @@ fn figures_read(answer: ReadSheet, bound: &[u32]) -> PathFigures
     let mut delay = Slots(0);
     let mut k = 0;
     while k < count {
+        let arriving = most_arriving(carried, declaration, bound);
         let linked = path.operators[k];
         let operator = linked.operator;
         let following = path.operators[next_operator(k)];
@@ -187,8 +189,14 @@ fn figures_read(answer: ReadSheet, bound: &[u32]) -> PathFigures
                 return planned;
             }
             Planned::Fits(held, behind) => {
-                planned.figures[k] = fullest(carried, declaration, bound, operator, held);
-                delay = delay.plus(held.delay);
+                let most = held.capacity;
+                let own = held.delay;
+                let capacity = fullest(operator, most, arriving);
+                planned.figures[k] = Figure {
+                    capacity,
+                    delay: own,
+                };
+                delay = delay.plus(own);
                 carried = behind;
             }
         }

@@ -12,9 +12,9 @@ use Rattle.sheet.specs.Forms.{inFull}
 use Rattle.sheet.specs.declared.read.Verdict.{Verdict}
 use Rattle.figures.specs.Progress.{start}
 use Rattle.figures.specs.Answers.{refusedFigures}
-use Rattle.figures.specs.Carried.{Lent, outcome, CarriedOn, Readable, PathWithin, figuresOfValue, figuresOfRead}
+use Rattle.figures.specs.Carried.{Lent, hasFigure, outcome, CarriedOn, Readable, PathWithin, figuresOfValue, figuresOfRead}
 use Rattle.figures.proofs.ClassLaws.{reaches-here}
-use Rattle.figures.proofs.EachOperator.{Walked, plannedAt, walked-start, walked-planned, walked-held, walked-next, path-operator, slots-here, operator-ready, paired-here, delay-counted, refused-path, late-path, accepted-path}
+use Rattle.figures.proofs.EachOperator.{Walked, plannedAt, walked-start, walked-planned, walked-held, walked-capacity, walked-next, path-operator, slots-here, operator-ready, paired-here, delay-counted, refused-path, late-path, accepted-path}
 use Rattle.figures.proofs.figures_read.Statement.{statement}
 use Rattle.figures.proofs.figures_read.Tie as tie
 
@@ -39,10 +39,10 @@ figures-read c =
     sym (ap (λ (verdict : Verdict). figuresOfRead verdict (s .args .answer .path)) (c .before .before .enum-told2 .given .1))
 
 -- what was planned of operator k
-planned-at : (c : tie.After-plan Inv-loop μ-loop) → outcome (c .plan .result) ≡ plannedAt (inFull (c .before .before .before .before .before .before .before .before .before .before .before .before .before .before .args .answer .path)) (c .before .before .before .before .before .before .loop .k)
+planned-at : (c : tie.After-plan Inv-loop μ-loop) → outcome (c .plan .result) ≡ plannedAt (inFull (c .before .before .before .before .before .before .before .before .before .before .before .before .before .before .before .args .answer .path)) (c .before .before .before .before .before .before .before .loop .k)
 planned-at c =
-    let (inside, within, verdict, read, walked) = c .before .before .before .before .before .before .loop .inv in
-    let here = c .before .before .before .before .before .loop-test .taken in
+    let (inside, within, verdict, read, walked) = c .before .before .before .before .before .before .before .loop .inv in
+    let here = c .before .before .before .before .before .before .loop-test .taken in
     walked-planned walked (sym (path-operator _ _ here)) (paired-here within walked here (c .before .before .before .next-operator .ensures .1) (c .before .paired .ensures)) (c .plan .ensures .answered)
 
 -- behind the last operator
@@ -90,14 +90,21 @@ loop-holds c =
           (subst (λ (k : Kind). Lent k (value .declaration) (s .args .bound .now)) (sym kind) lent) unfiltered (c .before .before .before .before .no-figure .ensures),
     )
 
+most-arriving-requires : tie.Need-most-arriving-requires Inv-loop μ-loop
+most-arriving-requires c κs =
+    let (inside, within, verdict, read, walked) = c .before .loop .inv in
+    let args = c .before .before .before .before .before .before .before .before .before .args in
+    let far = reaches-here (c .before .loop .carried .class .kind) (args .answer .path .declaration) (args .bound .now) (walked .lent) (readable (c .before .before) .2) (slots-here within walked (c .loop-test .taken)) in
+    (operator-ready within walked (c .loop-test .taken) .0, far)
+
 mul-linked : tie.Need-mul-linked Inv-loop μ-loop
-mul-linked c = omega (arith, c .before .loop .inv .1 .few)
+mul-linked c = omega (arith, c .before .before .loop .inv .1 .few)
 
 element-copy-out-linked : tie.Need-element-copy-out-linked Inv-loop μ-loop
-element-copy-out-linked c = omega (arith, c .before .loop .inv .1 .few)
+element-copy-out-linked c = omega (arith, c .before .before .loop .inv .1 .few)
 
 next-operator-requires : tie.Need-next-operator-requires Inv-loop μ-loop
-next-operator-requires c κs = omega (arith, c .before .before .loop .inv .1 .few)
+next-operator-requires c κs = omega (arith, c .before .before .before .loop .inv .1 .few)
 
 mul-following : tie.Need-mul-following Inv-loop μ-loop
 mul-following c = search needs
@@ -106,13 +113,13 @@ element-copy-out-following : tie.Need-element-copy-out-following Inv-loop μ-loo
 element-copy-out-following c = search needs
 
 add-next : tie.Need-add-next Inv-loop μ-loop
-add-next c = omega (arith, c .before .before .before .before .loop .inv .1 .few)
+add-next c = omega (arith, c .before .before .before .before .before .loop .inv .1 .few)
 
 paired-requires : tie.Need-paired-requires Inv-loop μ-loop
 paired-requires c κs = search needs
 
 plan-requires : tie.Need-plan-requires Inv-loop μ-loop
-plan-requires c κs = let (inside, within, verdict, read, walked) = c .before .before .before .before .before .loop .inv in operator-ready within walked (c .before .before .before .before .loop-test .taken)
+plan-requires c κs = let (inside, within, verdict, read, walked) = c .before .before .before .before .before .before .loop .inv in operator-ready within walked (c .before .before .before .before .before .loop-test .taken)
 
 enum-known-why : tie.Need-enum-known-why Inv-loop μ-loop
 enum-known-why c = search needs
@@ -122,53 +129,53 @@ refused-requires c κs = search needs
 
 returns-2 : tie.Need-returns-2 Inv-loop μ-loop
 returns-2 c =
-    let (inside, within, verdict, read, walked) = c .before .before .before .before .before .before .before .before .before .before .loop .inv in
-    c .refused .ensures ∙ refused-path within walked (c .before .before .before .before .before .before .before .before .before .loop-test .taken) (sym (ap outcome (c .before .before .why .given .1)) ∙ planned-at (c .before .before .before .before)) ∙ figures-read (c .before .before .before .before .before .before .before .before .before .before .before)
+    let (inside, within, verdict, read, walked) = c .before .before .before .before .before .before .before .before .before .before .before .loop .inv in
+    c .refused .ensures ∙ refused-path within walked (c .before .before .before .before .before .before .before .before .before .before .loop-test .taken) (sym (ap outcome (c .before .before .why .given .1)) ∙ planned-at (c .before .before .before .before)) ∙ figures-read (c .before .before .before .before .before .before .before .before .before .before .before .before)
 
 enum-known-held : tie.Need-enum-known-held Inv-loop μ-loop
 enum-known-held c = search needs
 
+-- the operator's held figure and own delay
+held-planned : (c : tie.After-own Inv-loop μ-loop) → let turn = c .before .before .before .before .before .before .before .before .before .before .before .before in hasFigure (c .before .before .before .held .given .0 .0) ≡ plannedAt (inFull (turn .before .before .before .before .before .before .before .before .args .answer .path)) (turn .loop .k)
+held-planned c = sym (ap outcome (c .before .before .before .held .given .1)) ∙ planned-at (c .before .before .before .before .before)
+
 fullest-requires : tie.Need-fullest-requires Inv-loop μ-loop
 fullest-requires c κs =
-    let (inside, within, verdict, read, walked) = c .before .before .before .before .before .before .before .before .before .loop .inv in
-    let here = c .before .before .before .before .before .before .before .before .loop-test .taken in
-    let planned = sym (ap outcome (c .before .held .given .1)) ∙ planned-at (c .before .before .before) in
-    let (same, few) = walked-held walked (sym (path-operator _ _ here)) planned in
-    let at = c .before .before .before .before .before .before .before .before .before in
-    let args = at .before .before .before .before .before .before .before .before .args in
-    let far = reaches-here (at .loop .carried .class .kind) (args .answer .path .declaration) (args .bound .now) (walked .lent) (readable (at .before) .2) (slots-here within walked here) in
-    (operator-ready within walked here .0, same, few, far)
+    let (inside, within, verdict, read, walked) = c .before .before .before .before .before .before .before .before .before .before .before .before .loop .inv in
+    (walked-held walked (sym (path-operator _ _ (c .before .before .before .before .before .before .before .before .before .before .before .loop-test .taken))) (held-planned c) .1, c .before .before .before .before .before .before .before .before .before .before .most-arriving .ensures .1)
 
-mul-t35 : tie.Need-mul-t35 Inv-loop μ-loop
-mul-t35 c = omega (arith, c .before .before .before .before .before .before .before .before .before .loop-test .taken, c .before .before .before .before .before .before .before .before .before .before .loop .inv .1 .few)
+mul-t39 : tie.Need-mul-t39 Inv-loop μ-loop
+mul-t39 c = omega (arith, c .before .before .before .before .before .before .before .before .before .before .before .before .loop-test .taken, c .before .before .before .before .before .before .before .before .before .before .before .before .before .loop .inv .1 .few)
 
 element-set-from-planned : tie.Need-element-set-from-planned Inv-loop μ-loop
-element-set-from-planned c = omega (arith, c .before .before .before .before .before .before .before .before .before .loop-test .taken, c .before .before .before .before .before .before .before .before .before .before .loop .inv .1 .few)
+element-set-from-planned c = omega (arith, c .before .before .before .before .before .before .before .before .before .before .before .before .loop-test .taken, c .before .before .before .before .before .before .before .before .before .before .before .before .before .loop .inv .1 .few)
 
 plus-requires : tie.Need-plus-requires Inv-loop μ-loop
 plus-requires c κs = search needs
 
 add-k : tie.Need-add-k Inv-loop μ-loop
-add-k c = omega (arith, c .before .before .before .before .before .before .before .before .before .before .loop-test .taken, c .before .before .before .before .before .before .before .before .before .before .before .loop .inv .1 .few)
+add-k c = omega (arith, c .before .before .before .before .before .before .before .before .before .before .before .before .before .loop-test .taken, c .before .before .before .before .before .before .before .before .before .before .before .before .before .before .loop .inv .1 .few)
 
 loop-less : tie.Need-loop-less Inv-loop μ-loop
 loop-less c = omega arith
 
 loop-again : tie.Need-loop-again Inv-loop μ-loop
 loop-again c =
-    let s = c .before .before .before .before .before .before .before .before .before .before .before .before .before .before .before .before .before .before .before in
-    let (inside, within, verdict, read, walked) = c .before .before .before .before .before .before .before .before .before .before .before .loop .inv in
-    let here = c .before .before .before .before .before .before .before .before .before .before .loop-test .taken in
+    let made = c .before .before in
+    let turn = made .before .before .before .before .before .before .before .before .before .before .before .before in
+    let s = turn .before .before .before .before .before .before .before .before in
+    let (inside, within, verdict, read, walked) = turn .loop .inv in
+    let here = made .before .before .before .before .before .before .before .before .before .before .before .loop-test .taken in
     let few = within .few in
-    let answer = c .before .before .before .held .given .1 in
-    let planned = sym (ap outcome answer) ∙ planned-at (c .before .before .before .before .before) in
-    let (full, same) = c .before .fullest .ensures in
-    let (carries, lent, burst) = subst (CarriedOn (s .args .answer .path .declaration) (s .args .bound .now) _) answer (c .before .before .before .before .before .plan .ensures .carried) in (
+    let same = sym (path-operator _ _ here) in
+    let planned = held-planned made in
+    let full = walked-capacity walked same planned (made .before .before .before .before .before .before .before .before .before .before .most-arriving .ensures .0) (c .before .fullest .ensures) in
+    let (carries, lent, burst) = subst (CarriedOn (s .args .answer .path .declaration) (s .args .bound .now) _) (made .before .before .before .held .given .1) (made .before .before .before .before .before .plan .ensures .carried) in (
       omega (arith, here),
       within,
       verdict,
       read,
-      walked-next walked (omega (arith, here, few)) (sym (path-operator _ _ here)) planned full same carries lent burst (delay-counted within walked here planned (c .plus .ensures)),
+      walked-next walked (omega (arith, here, few)) same planned full refl carries lent burst (delay-counted within walked here planned (c .plus .ensures)),
     )
 
 refused-requires-2 : tie.Need-refused-requires-2 Inv-loop μ-loop
@@ -192,6 +199,7 @@ figures-read-spec =
     enum-told-2
     start-requires
     loop-holds
+    most-arriving-requires
     mul-linked
     element-copy-out-linked
     next-operator-requires
@@ -205,7 +213,7 @@ figures-read-spec =
     returns-2
     enum-known-held
     fullest-requires
-    mul-t35
+    mul-t39
     element-set-from-planned
     plus-requires
     add-k
