@@ -344,10 +344,10 @@ module _ {value : PathValue} (within : PathWithin value) where
     )
 
     -- it is paired with the operator at the next place, if one follows
-    pub paired-here : {next : ℕ} {paired : Bool} → (k + 1 < 16 → next ≡ k + 1)
-        → paired ≡ pick (ltb (k + 1) (value .count)) (pairs (getD (value .operators) k noLinkedOperator .operator) (getD (value .operators) next noLinkedOperator .operator)) false → paired ≡ pairedAt (inFull value) k
+    pub paired-here : {next : ℕ} → (k + 1 < 16 → next ≡ k + 1)
+        → pick (ltb (k + 1) (value .count)) (pairs (getD (value .operators) k noLinkedOperator .operator) (getD (value .operators) next noLinkedOperator .operator)) false ≡ pairedAt (inFull value) k
     unfolding pairedAt
-    paired-here {next} found tested = tested ∙ by-test (ltb (k + 1) (value .count)) refl ∙ ap (λ (n : ℕ). pick (ltb (k + 1) n) (pairs (operatorAt (inFull value) k) (operatorAt (inFull value) (k + 1))) false) (sym path-size)
+    paired-here {next} found = by-test (ltb (k + 1) (value .count)) refl ∙ ap (λ (n : ℕ). pick (ltb (k + 1) n) (pairs (operatorAt (inFull value) k) (operatorAt (inFull value) (k + 1))) false) (sym path-size)
       where
         by-test : (t : Bool) → ltb (k + 1) (value .count) ≡ t
             → pick t (pairs (getD (value .operators) k noLinkedOperator .operator) (getD (value .operators) next noLinkedOperator .operator)) false ≡ pick t (pairs (operatorAt (inFull value) k) (operatorAt (inFull value) (k + 1))) false

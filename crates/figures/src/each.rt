@@ -55,22 +55,14 @@ fn is_compactor(operator: Operator, n: Interval) -> bool
     }
 }
 
-// Whether an operator is an expander n and the next one, if one follows, a compactor n.
-pub(crate) fn paired(operator: Operator, follower: Operator, follows: bool) -> bool
-    ensures { λ r. ⌜ r ≡ pick follows (pairs operator follower) false ⌝ }
+// Whether a compactor n follows an expander n.
+fn paired(n: Interval, follower: Operator, follows: bool) -> bool
+    ensures { λ r. ⌜ r ≡ pick follows (pairs (Expander n) follower) false ⌝ }
 {
-    match operator {
-        Operator::Expander(n) => {
-            if follows {
-                is_compactor(follower, n)
-            } else {
-                false
-            }
-        }
-        Operator::Limiter(_) => false,
-        Operator::Compactor(_) => false,
-        Operator::Filter(_) => false,
-        Operator::Delayer(_) => false,
+    if follows {
+        is_compactor(follower, n)
+    } else {
+        false
     }
 }
 
@@ -227,17 +219,18 @@ pub(crate) fn fullest(operator: Operator, held: Units, arriving: Units) -> Units
     held.plus(arriving)
 }
 
-// The held figure and own delay of operator k, and what is carried behind it; `paired` is whether the next operator is a compactor of its interval.
+// The held figure and own delay of operator k, and what is carried behind it. `follower` is the next operator, if one follows: only an expander asks for it.
 pub(crate) fn plan(
     carried: Carried,
     declared: Declaration,
     bound: &[u32],
     operator: Operator,
-    paired: bool,
+    follower: Operator,
+    follows: bool,
     k: usize,
 ) -> Planned
     requires { ⌜ Ready mostBefore declared (now bound) carried × (numberInRange operator ≡ true) ⌝ }
-    ensures { λ r. ⌜ PlannedAs declared (now (bound .entry)) (progressIn declared carried) operator paired k r ⌝ }
+    ensures { λ r. ⌜ PlannedAs declared (now (bound .entry)) (progressIn declared carried) operator (pick follows (pairs operator follower) false) k r ⌝ }
 {
     match operator {
         Operator::Limiter(rate) => plan_limiter(carried, declared, bound, rate, k),
@@ -245,7 +238,8 @@ pub(crate) fn plan(
             plan_frame(carried, declared, bound, Kind::Uniform, n, false, k)
         }
         Operator::Expander(n) => {
-            plan_frame(carried, declared, bound, Kind::Smooth, n, paired, k)
+            let pair = paired(n, follower, follows);
+            plan_frame(carried, declared, bound, Kind::Smooth, n, pair, k)
         }
         Operator::Filter(rate) => plan_filter(carried, declared, bound, rate, k),
         Operator::Delayer(delay) => plan_delayer(carried, declared, bound, delay, k),

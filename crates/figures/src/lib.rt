@@ -6,7 +6,6 @@ use crate::carried::most_arriving;
 use crate::carried::start;
 use crate::each::Planned;
 use crate::each::fullest;
-use crate::each::paired;
 use crate::each::plan;
 use flow::bound::LENGTH;
 use flow::bound::SHORTEST;
@@ -181,7 +180,8 @@ fn figures_read(answer: ReadSheet, bound: &[u32]) -> PathFigures
             declaration,
             bound,
             operator,
-            paired(operator, follower, next < count),
+            follower,
+            next < count,
             k,
         ) {
             Planned::Refused(why) => {

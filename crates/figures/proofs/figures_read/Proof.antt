@@ -39,11 +39,11 @@ figures-read c =
     sym (ap (λ (verdict : Verdict). figuresOfRead verdict (s .args .answer .path)) (c .before .before .enum-told2 .given .1))
 
 -- what was planned of operator k
-planned-at : (c : tie.After-plan Inv-loop μ-loop) → outcome (c .plan .result) ≡ plannedAt (inFull (c .before .before .before .before .before .before .before .before .before .before .before .before .before .before .before .args .answer .path)) (c .before .before .before .before .before .before .before .loop .k)
+planned-at : (c : tie.After-plan Inv-loop μ-loop) → outcome (c .plan .result) ≡ plannedAt (inFull (c .before .before .before .before .before .before .before .before .before .before .before .before .before .before .args .answer .path)) (c .before .before .before .before .before .before .loop .k)
 planned-at c =
-    let (inside, within, verdict, read, walked) = c .before .before .before .before .before .before .before .loop .inv in
-    let here = c .before .before .before .before .before .before .loop-test .taken in
-    walked-planned walked (sym (path-operator _ _ here)) (paired-here within walked here (c .before .before .before .next-operator .ensures .1) (c .before .paired .ensures)) (c .plan .ensures .answered)
+    let (inside, within, verdict, read, walked) = c .before .before .before .before .before .before .loop .inv in
+    let here = c .before .before .before .before .before .loop-test .taken in
+    walked-planned walked (sym (path-operator _ _ here)) (paired-here within walked here (c .before .before .next-operator .ensures .1)) (c .plan .ensures .answered)
 
 -- behind the last operator
 walked-through : (c : tie.After-loop Inv-loop μ-loop) →
@@ -115,11 +115,8 @@ element-copy-out-following c = search needs
 add-next : tie.Need-add-next Inv-loop μ-loop
 add-next c = omega (arith, c .before .before .before .before .before .loop .inv .1 .few)
 
-paired-requires : tie.Need-paired-requires Inv-loop μ-loop
-paired-requires c κs = search needs
-
 plan-requires : tie.Need-plan-requires Inv-loop μ-loop
-plan-requires c κs = let (inside, within, verdict, read, walked) = c .before .before .before .before .before .before .loop .inv in operator-ready within walked (c .before .before .before .before .before .loop-test .taken)
+plan-requires c κs = let (inside, within, verdict, read, walked) = c .before .before .before .before .before .loop .inv in operator-ready within walked (c .before .before .before .before .loop-test .taken)
 
 enum-known-why : tie.Need-enum-known-why Inv-loop μ-loop
 enum-known-why c = search needs
@@ -129,32 +126,32 @@ refused-requires c κs = search needs
 
 returns-2 : tie.Need-returns-2 Inv-loop μ-loop
 returns-2 c =
-    let (inside, within, verdict, read, walked) = c .before .before .before .before .before .before .before .before .before .before .before .loop .inv in
-    c .refused .ensures ∙ refused-path within walked (c .before .before .before .before .before .before .before .before .before .before .loop-test .taken) (sym (ap outcome (c .before .before .why .given .1)) ∙ planned-at (c .before .before .before .before)) ∙ figures-read (c .before .before .before .before .before .before .before .before .before .before .before .before)
+    let (inside, within, verdict, read, walked) = c .before .before .before .before .before .before .before .before .before .before .loop .inv in
+    c .refused .ensures ∙ refused-path within walked (c .before .before .before .before .before .before .before .before .before .loop-test .taken) (sym (ap outcome (c .before .before .why .given .1)) ∙ planned-at (c .before .before .before .before)) ∙ figures-read (c .before .before .before .before .before .before .before .before .before .before .before)
 
 enum-known-held : tie.Need-enum-known-held Inv-loop μ-loop
 enum-known-held c = search needs
 
 -- the operator's held figure and own delay
-held-planned : (c : tie.After-own Inv-loop μ-loop) → let turn = c .before .before .before .before .before .before .before .before .before .before .before .before in hasFigure (c .before .before .before .held .given .0 .0) ≡ plannedAt (inFull (turn .before .before .before .before .before .before .before .before .args .answer .path)) (turn .loop .k)
+held-planned : (c : tie.After-own Inv-loop μ-loop) → let turn = c .before .before .before .before .before .before .before .before .before .before .before in hasFigure (c .before .before .before .held .given .0 .0) ≡ plannedAt (inFull (turn .before .before .before .before .before .before .before .before .args .answer .path)) (turn .loop .k)
 held-planned c = sym (ap outcome (c .before .before .before .held .given .1)) ∙ planned-at (c .before .before .before .before .before)
 
 fullest-requires : tie.Need-fullest-requires Inv-loop μ-loop
 fullest-requires c κs =
-    let (inside, within, verdict, read, walked) = c .before .before .before .before .before .before .before .before .before .before .before .before .loop .inv in
-    (walked-held walked (sym (path-operator _ _ (c .before .before .before .before .before .before .before .before .before .before .before .loop-test .taken))) (held-planned c) .1, c .before .before .before .before .before .before .before .before .before .before .most-arriving .ensures .1)
+    let (inside, within, verdict, read, walked) = c .before .before .before .before .before .before .before .before .before .before .before .loop .inv in
+    (walked-held walked (sym (path-operator _ _ (c .before .before .before .before .before .before .before .before .before .before .loop-test .taken))) (held-planned c) .1, c .before .before .before .before .before .before .before .before .before .most-arriving .ensures .1)
 
-mul-t39 : tie.Need-mul-t39 Inv-loop μ-loop
-mul-t39 c = omega (arith, c .before .before .before .before .before .before .before .before .before .before .before .before .loop-test .taken, c .before .before .before .before .before .before .before .before .before .before .before .before .before .loop .inv .1 .few)
+mul-t38 : tie.Need-mul-t38 Inv-loop μ-loop
+mul-t38 c = omega (arith, c .before .before .before .before .before .before .before .before .before .before .before .loop-test .taken, c .before .before .before .before .before .before .before .before .before .before .before .before .loop .inv .1 .few)
 
 element-set-from-planned : tie.Need-element-set-from-planned Inv-loop μ-loop
-element-set-from-planned c = omega (arith, c .before .before .before .before .before .before .before .before .before .before .before .before .loop-test .taken, c .before .before .before .before .before .before .before .before .before .before .before .before .before .loop .inv .1 .few)
+element-set-from-planned c = omega (arith, c .before .before .before .before .before .before .before .before .before .before .before .loop-test .taken, c .before .before .before .before .before .before .before .before .before .before .before .before .loop .inv .1 .few)
 
 plus-requires : tie.Need-plus-requires Inv-loop μ-loop
 plus-requires c κs = search needs
 
 add-k : tie.Need-add-k Inv-loop μ-loop
-add-k c = omega (arith, c .before .before .before .before .before .before .before .before .before .before .before .before .before .loop-test .taken, c .before .before .before .before .before .before .before .before .before .before .before .before .before .before .loop .inv .1 .few)
+add-k c = omega (arith, c .before .before .before .before .before .before .before .before .before .before .before .before .loop-test .taken, c .before .before .before .before .before .before .before .before .before .before .before .before .before .loop .inv .1 .few)
 
 loop-less : tie.Need-loop-less Inv-loop μ-loop
 loop-less c = omega arith
@@ -162,14 +159,14 @@ loop-less c = omega arith
 loop-again : tie.Need-loop-again Inv-loop μ-loop
 loop-again c =
     let made = c .before .before in
-    let turn = made .before .before .before .before .before .before .before .before .before .before .before .before in
+    let turn = made .before .before .before .before .before .before .before .before .before .before .before in
     let s = turn .before .before .before .before .before .before .before .before in
     let (inside, within, verdict, read, walked) = turn .loop .inv in
-    let here = made .before .before .before .before .before .before .before .before .before .before .before .loop-test .taken in
+    let here = made .before .before .before .before .before .before .before .before .before .before .loop-test .taken in
     let few = within .few in
     let same = sym (path-operator _ _ here) in
     let planned = held-planned made in
-    let full = walked-capacity walked same planned (made .before .before .before .before .before .before .before .before .before .before .most-arriving .ensures .0) (c .before .fullest .ensures) in
+    let full = walked-capacity walked same planned (made .before .before .before .before .before .before .before .before .before .most-arriving .ensures .0) (c .before .fullest .ensures) in
     let (carries, lent, burst) = subst (CarriedOn (s .args .answer .path .declaration) (s .args .bound .now) _) (made .before .before .before .held .given .1) (made .before .before .before .before .before .plan .ensures .carried) in (
       omega (arith, here),
       within,
@@ -206,14 +203,13 @@ figures-read-spec =
     mul-following
     element-copy-out-following
     add-next
-    paired-requires
     plan-requires
     enum-known-why
     refused-requires
     returns-2
     enum-known-held
     fullest-requires
-    mul-t39
+    mul-t38
     element-set-from-planned
     plus-requires
     add-k

@@ -24,8 +24,11 @@ plan-frame-requires c κs = let s = c .before .before .before .before in (s .pre
 enum-known-operator-3 : tie.Need-enum-known-operator-3
 enum-known-operator-3 c = search needs
 
+paired-requires : tie.Need-paired-requires
+paired-requires c κs = search needs
+
 plan-frame-requires-2 : tie.Need-plan-frame-requires-2
-plan-frame-requires-2 c κs = let s = c .before .before .before .before in (s .pre .0, inside-of (c .before .operator3 .given .1) (s .pre .1), tt)
+plan-frame-requires-2 c κs = let s = c .before .before .before .before .before in (s .pre .0, inside-of (c .before .before .operator3 .given .1) (s .pre .1), tt)
 
 enum-known-operator-4 : tie.Need-enum-known-operator-4
 enum-known-operator-4 c = search needs
@@ -49,7 +52,9 @@ returns-2 c = rw (c .before .before .operator2 .given .1) (record { answered = c
 
 returns-3 : tie.Need-returns-3
 unfolding behind
-returns-3 c = rw (c .before .before .operator3 .given .1) (record { answered = c .plan-frame2 .ensures .0; carried = c .plan-frame2 .ensures .1 })
+returns-3 c =
+    rw (c .before .before .before .operator3 .given .1, ← c .before .paired .ensures)
+    (record { answered = c .plan-frame2 .ensures .0; carried = c .plan-frame2 .ensures .1 })
 
 returns-4 : tie.Need-returns-4
 unfolding plannedOf ownDelay
@@ -68,6 +73,7 @@ plan-spec =
     enum-known-operator-2
     plan-frame-requires
     enum-known-operator-3
+    paired-requires
     plan-frame-requires-2
     enum-known-operator-4
     plan-filter-requires
