@@ -27,6 +27,7 @@ use Rattle.sheet.specs.Sheets.{pathInRange}
 use Rattle.sheet.specs.declared.PathValue.{PathValue}
 use Rattle.sheet.specs.declared.read.Verdict.{Verdict}
 use Rattle.figures.specs.declared.PathFigures.{PathFigures}
+use Rattle.figures.specs.declared.PlannedPath.{PlannedPath}
 use Rattle.figures.specs.Answers.{pathCases, refusedFigures, acceptedFigures}
 use Rattle.figures.specs.declared.Figure.{Figure}
 use Rattle.figures.specs.declared.class.FlowClass.{FlowClass}
@@ -175,6 +176,14 @@ WasRead (Verdict.Refused why) value = value ≡ noPath
 abbrev pub Readable : Verdict → PathValue → List ℕ → Type 0
 Readable Verdict.Accepted value bound = PathWithin value × Lent (value .declaration .kind) (value .declaration) bound × ReachesPast (value .declaration .kind) (value .declaration) bound (slotsBefore value)
 Readable (Verdict.Refused why) value bound = value ≡ noPath
+
+-- the answer of a path value by what planning it came to: beside a refusal the path is the empty one
+abbrev pub pathBeside : Verdict → PathValue → PathValue
+pathBeside Verdict.Accepted value = value
+pathBeside (Verdict.Refused why) value = noPath
+
+abbrev pub figuresWith : PathValue → PlannedPath → PathFigures
+figuresWith value planned = record { verdict = planned .verdict; path = pathBeside (planned .verdict) value; figures = planned .figures; delay = planned .delay }
 
 -- the figures of a path value: 6 to 9 of the path that it has written out
 unfoldable pub figuresOfValue : PathValue → PathFigures

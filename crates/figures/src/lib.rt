@@ -24,9 +24,9 @@ ghost use mathlib.Core.Bool.{true};
 ghost use Prim.Native.Nat.{ℕ, _+_, _≤_, _<_};
 ghost use lib.ListN.{getD};
 ghost use Rattle.flow.specs.Declarations.{hasRows};
-ghost use Rattle.figures.specs.Answers.{noFigure, refusedFigures, figuresOf};
+ghost use Rattle.figures.specs.Answers.{noFigure, figuresOf};
 ghost use Rattle.sheet.specs.Paths.{noLinkedOperator};
-ghost use Rattle.figures.specs.Carried.{slotsOf, slotsBefore, mostBefore, WasRead, Readable, figuresOfRead};
+ghost use Rattle.figures.specs.Carried.{slotsOf, slotsBefore, mostBefore, WasRead, Readable, figuresOfRead, figuresWith};
 ghost use Rattle.figures.specs.Cameras.{isCamera};
 
 mod camera;
@@ -48,24 +48,18 @@ pub struct PathFigures {
     pub delay: Slots,
 }
 
+// What planning a path comes to. Beside a refusal the figures and the delay are 0.
+struct PlannedPath {
+    verdict: Verdict,
+    figures: [Figure; 16],
+    delay: Slots,
+}
+
 fn no_figure() -> Figure
     ensures { λ r. ⌜ r ≡ noFigure ⌝ }
 {
     Figure {
         capacity: Units(0),
-        delay: Slots(0),
-    }
-}
-
-fn refused(why: Refusal) -> PathFigures
-    ensures { λ r. ⌜ r ≡ refusedFigures why ⌝ }
-{
-    let none = no_figure();
-    let figures = [none; 16];
-    PathFigures {
-        verdict: Verdict::Refused(why),
-        path: no_path(),
-        figures,
         delay: Slots(0),
     }
 }
@@ -78,24 +72,39 @@ fn next_operator(k: usize) -> usize
     if k < 15 { k + 1 } else { k }
 }
 
-// The figures of a sheet's path, or the first refusal of 2 to 9.
+// The figures of a sheet's path, or the first refusal of 2 to 9. The path stays where it was read until it is answered, since copies take time.
 pub fn figures(sheet: &[u8]) -> PathFigures
     ensures { λ r. ⌜ r ≡ figuresOf (now (sheet .entry)) ⌝ }
 {
-    let answer = read(sheet);
+    let mut answer = read(sheet);
     let declaration = answer.path.declaration;
     let kind = declaration.kind;
-    if kind.has_rows() {
-        return figures_of_rows(answer);
-    }
     let unread = [0; 1];
-    figures_read(answer, &unread)
+    let planned = if kind.has_rows() {
+        figures_of_rows(answer)
+    } else {
+        figures_read(answer, &unread)
+    };
+    let verdict = planned.verdict;
+    if let Verdict::Refused(_) = verdict {
+        let none = no_path();
+        answer.path = none;
+    }
+    let path = answer.path;
+    let figures = planned.figures;
+    let delay = planned.delay;
+    PathFigures {
+        verdict,
+        path,
+        figures,
+        delay,
+    }
 }
 
 // Where the declaration has rows their bound is worked out first, once for the whole path; the standard camera's is the constant table. Each table is in a function of its own, since a table in memory takes time wherever it is not read.
-fn figures_of_rows(answer: ReadSheet) -> PathFigures
+fn figures_of_rows(answer: ReadSheet) -> PlannedPath
     requires { ⌜ WasRead (answer .verdict) (answer .path) × (hasRows (answer .path .declaration .kind) ≡ true) ⌝ }
-    ensures { λ r. ⌜ r ≡ figuresOfRead (answer .verdict) (answer .path) ⌝ }
+    ensures { λ r. ⌜ figuresWith (answer .path) r ≡ figuresOfRead (answer .verdict) (answer .path) ⌝ }
 {
     let declaration = answer.path.declaration;
     if is_camera(declaration) {
@@ -138,30 +147,29 @@ fn slots_before(path: PathValue) -> usize
     slots
 }
 
-fn figures_of_camera(answer: ReadSheet) -> PathFigures
+fn figures_of_camera(answer: ReadSheet) -> PlannedPath
     requires { ⌜ WasRead (answer .verdict) (answer .path) × (hasRows (answer .path .declaration .kind) ≡ true) × (isCamera (answer .path .declaration) ≡ true) ⌝ }
-    ensures { λ r. ⌜ r ≡ figuresOfRead (answer .verdict) (answer .path) ⌝ }
+    ensures { λ r. ⌜ figuresWith (answer .path) r ≡ figuresOfRead (answer .verdict) (answer .path) ⌝ }
 {
     figures_read(answer, &MOST)
 }
 
-// The figures of the path that was read, operator by operator from the left. The answer stands in one place from the start, since copies of it take time.
-fn figures_read(answer: ReadSheet, bound: &[u32]) -> PathFigures
+// The figures of the path that was read, operator by operator from the left. A refusal clears them in the one place that they stand in: were they made anew there, each way out would copy them number by number.
+fn figures_read(answer: ReadSheet, bound: &[u32]) -> PlannedPath
     requires { ⌜ Readable (answer .verdict) (answer .path) (now bound) ⌝ }
-    ensures { λ r. ⌜ r ≡ figuresOfRead (answer .verdict) (answer .path) ⌝ }
+    ensures { λ r. ⌜ figuresWith (answer .path) r ≡ figuresOfRead (answer .verdict) (answer .path) ⌝ }
 {
     let verdict = answer.verdict;
     let path = answer.path;
+    let operators = path.operators;
     let none = no_figure();
-    let figures = [none; 16];
-    let mut planned = PathFigures {
-        verdict,
-        path,
-        figures,
-        delay: Slots(0),
-    };
-    if let Verdict::Refused(_) = verdict {
-        return planned;
+    let mut figures = [none; 16];
+    if let Verdict::Refused(why) = verdict {
+        return PlannedPath {
+            verdict: Verdict::Refused(why),
+            figures,
+            delay: Slots(0),
+        };
     }
     let declaration = path.declaration;
     let count = path.count;
@@ -170,9 +178,9 @@ fn figures_read(answer: ReadSheet, bound: &[u32]) -> PathFigures
     let mut k = 0;
     while k < count {
         let arriving = most_arriving(carried, declaration, bound);
-        let linked = path.operators[k];
+        let linked = operators[k];
         let operator = linked.operator;
-        let following = path.operators[next_operator(k)];
+        let following = operators[next_operator(k)];
         let follower = following.operator;
         let next = k + 1;
         match plan(
@@ -185,14 +193,18 @@ fn figures_read(answer: ReadSheet, bound: &[u32]) -> PathFigures
             k,
         ) {
             Planned::Refused(why) => {
-                planned = refused(why);
-                return planned;
+                figures = [none; 16];
+                return PlannedPath {
+                    verdict: Verdict::Refused(why),
+                    figures,
+                    delay: Slots(0),
+                };
             }
             Planned::Fits(held, behind) => {
                 let most = held.capacity;
                 let own = held.delay;
                 let capacity = fullest(operator, most, arriving);
-                planned.figures[k] = Figure {
+                figures[k] = Figure {
                     capacity,
                     delay: own,
                 };
@@ -202,10 +214,17 @@ fn figures_read(answer: ReadSheet, bound: &[u32]) -> PathFigures
         }
         k += 1;
     }
-    planned.delay = delay;
     if path.wanted.0 < delay.0 {
-        planned = refused(Refusal::DelayAboveWanted);
-        return planned;
+        figures = [none; 16];
+        return PlannedPath {
+            verdict: Verdict::Refused(Refusal::DelayAboveWanted),
+            figures,
+            delay: Slots(0),
+        };
     }
-    planned
+    PlannedPath {
+        verdict: Verdict::Accepted,
+        figures,
+        delay,
+    }
 }
