@@ -1,15 +1,16 @@
 -- A class by its kind, and the lent table: what the code reads there is what section 4 and document 02, item 6 say of the class.
 use Prim.Native.Nat.{ℕ, zero, suc, _+_, _-_, _*_, _≤_, _<_, max}
 use mathlib.Core.Path.{_≡_, refl, sym, ap, ap₂, subst, subst⁻¹}
-use mathlib.Core.Bool.{true, false}
+use mathlib.Core.Bool.{true, false, true≢false}
 use mathlib.Core.List.{List, _∷_}
 use mathlib.Core.Logic.{⊎-elim}
 use native.Mathlib.Nat.{not-suc-le-zero, le-of-suc-le-suc, eq-or-lt-of-le, le-trans}
 use native.Mathlib.Numerals.{add-one}
 use native.Mathlib.Omega.{arith}
+use lib.Dec.{leb}
 use lib.ListN.{length, getD}
 use Rattle.flow.specs.Rows.{Row, rowsMost, rowCarried, rowsCarried, reach, greatestOf, rowsBurst}
-use Rattle.flow.specs.Classes.{rows}
+use Rattle.flow.specs.Classes.{rows, carries}
 use Rattle.flow.specs.Declarations.{hasRows, severalAt}
 use Rattle.flow.specs.Bounds.{PairWithin, ClassWithin}
 use Rattle.flow.specs.declared.Kind.{Kind}
@@ -39,6 +40,16 @@ reach-first-of given i R before here (suc k) less =
 
 pub reach-first : (given : ℕ → Row) (i R k : ℕ) → rowsCarried given i R ≡ false → rowCarried (given i) R ≡ true → i < k → reach given k R ≡ given i .interval
 reach-first given i R k before here less = reach-first-of given i R before here k less .1
+
+-- of one row, the rate makes its quota in its interval
+pub one-carried : (declared : Declaration) (class : FlowClass) (R : ℕ) → hasRows (class .kind) ≡ false → carries (classIn declared class) R ≡ leb (class .quota .0) (class .interval .0 * R)
+unfolding carries
+one-carried declared class R = by-kind (class .kind)
+  where
+    by-kind : (kind : Kind) → hasRows kind ≡ false → carries (classIn declared (record { kind = kind; interval = class .interval; quota = class .quota })) R ≡ leb (class .quota .0) (class .interval .0 * R)
+    by-kind Kind.Smooth e = refl
+    by-kind Kind.Uniform e = refl
+    by-kind Kind.Rows e = absurd (true≢false e)
 
 -- The lent table.
 

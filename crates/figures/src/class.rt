@@ -70,14 +70,11 @@ pub(crate) fn carried_by(class: FlowClass, declared: Declaration, rate: Rate) ->
     ensures { λ r. ⌜ r ≡ carries (classIn declared class) (rate .0) ⌝ }
 {
     let kind = class.kind;
-    match kind {
-        Kind::Smooth => class.quota.0 <= rate.over(Slots(class.interval.0)).0,
-        Kind::Uniform => class.quota.0 <= rate.over(Slots(class.interval.0)).0,
-        Kind::Rows => {
-            let rows = declared.rows;
-            0 < reach(rows, declared.count, rate)
-        }
+    if kind.has_rows() {
+        let rows = declared.rows;
+        return 0 < reach(rows, declared.count, rate);
     }
+    class.quota.0 <= rate.over(Slots(class.interval.0)).0
 }
 
 // Numbers below 2^31 have the same order as signed ones, which plain x86-64 compares four at once.
