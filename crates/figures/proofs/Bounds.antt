@@ -10,6 +10,7 @@ use borrow.Author.Tests.{leb-true}
 use Rattle.quantity.specs.Ranges.{Range, inRange, intervalRange, rateRange, delayRange}
 use Rattle.quantity.specs.Rounding.{roundUp}
 use Rattle.quantity.specs.Choice.{pick}
+use Rattle.quantity.specs.Limits.{largestAmount}
 use Rattle.quantity.specs.Quantities.{unitsSum, unitsOver}
 use Rattle.quantity.specs.declared.Slots.{Slots}
 use Rattle.quantity.specs.declared.Units.{Units}
@@ -67,6 +68,10 @@ pub part-units : (burst over : Units) (rate : Rate) (e : Slots) → over ≡ uni
 part-units burst over rate e made small short slow =
     let product : over .0 ≡ e .0 * rate .0 = ap (λ (units : Units). units .0) made ∙ units-over rate e ∙ mul-comm (rate .0) (e .0) in
     units-sum burst over (omega (arith, mul-le-mul short slow)) ∙ ap (λ (n : ℕ). burst .0 + n) product
+
+-- what is held and what arrives, as units added to units
+pub full-units : {full : Units} (held arriving : Units) → full ≡ unitsSum held arriving → held .0 ≤ largestAmount → arriving .0 ≤ 134_218_751 * 67_108_863 → full .0 ≡ held .0 + arriving .0
+full-units held arriving made few small = ap (λ (units : Units). units .0) made ∙ units-sum held arriving (omega (arith, few, small))
 
 slower-within : (P : Slowest) (R : ℕ) → RateWithin P → inRange rateRange R ≡ true → RateWithin (slower P R)
 unfolding slower

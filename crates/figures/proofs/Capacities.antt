@@ -8,7 +8,6 @@ use native.Mathlib.Omega.{arith}
 use lib.Dec.{ltb}
 use borrow.Author.Tests.{ltb-false, not-false}
 use Rattle.quantity.specs.Limits.{largestAmount}
-use Rattle.quantity.specs.Choice.{pick}
 use Rattle.quantity.specs.Ranges.{rateRange, delayRange}
 use Rattle.quantity.specs.Rounding.{roundUp}
 use Rattle.quantity.proofs.Laws.{either-false}
@@ -23,7 +22,7 @@ use Rattle.operator.specs.declared.Operator.{Operator}
 use Rattle.operator.specs.declared.Operator.the-variants.{Limiter, Compactor, Expander, Filter, Delayer}
 use Rattle.figures.specs.Progress.{Progress, start, behind}
 use Rattle.figures.specs.Figures.{partHeld, partDelay, heldFigure, mostArriving, capacity, isFramed, framedAfterFilter, quotaBehind, largestChangedQuota, figureTooLarge, rateTooLow}
-use Rattle.figures.specs.Carried.{Within, mostBefore, isExpander}
+use Rattle.figures.specs.Carried.{Within, mostBefore}
 use Rattle.figures.proofs.Part.{Carries, slower-carries}
 use Rattle.figures.proofs.Steps.{Passed, not-in-part}
 use Rattle.figures.proofs.Bounds.{in-range, round-up-times}
@@ -127,12 +126,3 @@ module _ (p : Progress) (op : Operator) where
 
     pub capacity-le : capacity p op ≤ 2 * largestAmount
     capacity-le = omega (arith, capacity-le-sum p op, held-passed sized, arriving-le)
-
--- an expander's capacity is its held figure, and any other operator's has what arrives besides
-pub capacity-made : (p : Progress) (op : Operator) → pick (isExpander op) (heldFigure p op) (heldFigure p op + mostArriving p) ≡ capacity p op
-unfolding capacity
-capacity-made p (Limiter R) = refl
-capacity-made p (Compactor n) = refl
-capacity-made p (Expander n) = refl
-capacity-made p (Filter R) = refl
-capacity-made p (Delayer d) = refl

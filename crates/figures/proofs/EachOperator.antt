@@ -10,7 +10,7 @@ use borrow.Author.Tests.{ltb-true, ltb-false, lt-ltb, le-ltb, eqb-true, eqb-fals
 use lib.Dec.{ltb, eqb}
 use lib.ListN.{length, getD, set, replicate, length-set, getD-replicate}
 use lib.Seq.{getD-take, length-take-le, getD-set-same, getD-set-other}
-use Rattle.quantity.specs.Limits.{largest32, largestAmount}
+use Rattle.quantity.specs.Limits.{largest32}
 use Rattle.quantity.specs.Choice.{pick, both, either}
 use Rattle.quantity.specs.Ranges.{inRange, delayRange, wantedDelayRange}
 use Rattle.quantity.specs.Quantities.{slotsSum}
@@ -39,11 +39,10 @@ use Rattle.figures.specs.declared.Figure.{Figure}
 use Rattle.figures.specs.declared.PathFigures.{PathFigures}
 use Rattle.figures.specs.declared.carried.Carried.{Carried}
 use Rattle.figures.specs.Progress.{Progress, start, behind, progressAt}
-use Rattle.figures.specs.Figures.{heldFigure, mostArriving, capacity, pairs, quotaBehind, figureTooLarge, largestChangedQuota}
-use Rattle.figures.specs.Answers.{operatorAt, before, pairedAt, heldAt, capacityAt, delayAt, operatorCases, operatorsCases, pathCases, figureAt, noFigure, figureIn, pathDelay, refusedFigures, acceptedFigures}
+use Rattle.figures.specs.Figures.{pairs, quotaBehind, figureTooLarge, largestChangedQuota}
+use Rattle.figures.specs.Answers.{operatorAt, before, pairedAt, capacityAt, delayAt, operatorCases, operatorsCases, pathCases, figureAt, noFigure, figureIn, pathDelay, refusedFigures, acceptedFigures}
 use Rattle.figures.specs.declared.carried.LeastRate.the-variants.{NoFilter}
-use Rattle.figures.specs.Carried.{isExpander, classIn, progressIn, Within, Lent, BurstKept, Ready, mostBefore, slotsOf, slotsBefore, Outcome, hasFigure, hasRefusal, plannedOf, PathWithin, figuresOfValue}
-use Rattle.figures.proofs.Capacities.{held-passed, capacity-made}
+use Rattle.figures.specs.Carried.{classIn, progressIn, Within, Lent, BurstKept, Ready, mostBefore, slotsOf, slotsBefore, Outcome, hasFigure, hasRefusal, plannedOf, PathWithin, figuresOfValue}
 use Rattle.figures.proofs.Bounds.{in-range, within-le, behind-within, own-delay-bound}
 
 -- the figure at each place, once the first k operators are done
@@ -175,12 +174,8 @@ module _ (path : Path) (k : ℕ) where
   unfolding plannedOf
   fits-passed planned = none-where-result hasRefusal (hasFigure _) HasFigure (λ why h. h) (operatorCases path k) (subst HasFigure planned tt)
 
-  -- its held figure and own delay
-  abbrev pub heldFigureAt : Figure
-  heldFigureAt = record { capacity = record { 0 = heldAt path k }; delay = record { 0 = delayAt path k } }
-
-  pub fits-figure : {figure : Figure} → hasFigure figure ≡ plannedAt → figure ≡ heldFigureAt
-  unfolding plannedOf heldAt delayAt
+  pub fits-figure : {figure : Figure} → hasFigure figure ≡ plannedAt → figure ≡ figureAt path k
+  unfolding plannedOf figureAt capacityAt delayAt
   fits-figure planned = let e = planned ∙ firstOf-none hasRefusal (hasFigure _) (operatorCases path k) (fits-passed planned) in (cc)
 
   -- operator k is refused
@@ -226,27 +221,6 @@ module _ {declared : Declaration} {bound : List ℕ} {path : Path} {k : ℕ} {ca
       ∙ ap (λ (p : Progress). plannedOf p op paired k) (walked .carries)
       ∙ ap₂ (λ (op : Operator) (paired : Bool). plannedOf (before path k) op paired k) e f
 
-  -- its held figure is that of what is carried, and refusal 7 lets it pass
-  pub walked-held : {op : Operator} {held : Figure} → op ≡ operatorAt path k → hasFigure held ≡ plannedAt path k
-      → (held .capacity .0 ≡ heldFigure (progressIn declared carried) op) × (held .capacity .0 ≤ largestAmount)
-  unfolding heldAt
-  walked-held {held = held} e planned =
-      let own : held .capacity .0 ≡ heldAt path k = ap (λ (f : Figure). f .capacity .0) (fits-figure path k planned) in
-      (own ∙ ap₂ heldFigure (sym (walked .carries)) (sym e), omega (arith, own, held-passed (before path k) (operatorAt path k) (fits-passed path k planned .1 .0)))
-
-  -- with what arrives it is the capacity
-  pub walked-capacity : {op : Operator} {held : Figure} {arriving full : ℕ} → op ≡ operatorAt path k → hasFigure held ≡ plannedAt path k → arriving ≡ mostArriving (progressIn declared carried)
-      → full ≡ pick (isExpander op) (held .capacity .0) (held .capacity .0 + arriving) → full ≡ capacity (progressIn declared carried) op
-  walked-capacity {op} e planned arrives made =
-      made ∙ ap₂ (λ (held arriving : ℕ). pick (isExpander op) held (held + arriving)) (walked-held e planned .0) arrives ∙ capacity-made (progressIn declared carried) op
-
-  -- and so the figure
-  full-figure : {op : Operator} {full : Figure} → op ≡ operatorAt path k → full .capacity .0 ≡ capacity (progressIn declared carried) op → full .delay ≡ record { 0 = delayAt path k } → full ≡ figureAt path k
-  unfolding figureAt capacityAt
-  full-figure e most own =
-      let whole = most ∙ ap₂ capacity (walked .carries) e in
-      λ i. record { capacity = record { 0 = whole i }; delay = own i }
-
   figure-next : {figure : Figure} → figure ≡ figureAt path k → k < 16 → (j : ℕ) → j < 16 → (t : Bool) → eqb j k ≡ t → getD (set figures k figure) j noFigure ≡ figureUpTo path (k + 1) j
   unfolding figureUpTo
   figure-next {figure} e inside j h true same =
@@ -258,20 +232,19 @@ module _ {declared : Declaration} {bound : List ℕ} {path : Path} {k : ℕ} {ca
       ∙ ap (λ (t : Bool). pick t (figureAt path j) noFigure) (ltb-next j k (ltb j k) refl (eqb-false j k other))
 
   -- one operator on
-  pub walked-next : {held full : Figure} {next : Carried} {op : Operator} {later : Slots} → k < 16 → op ≡ operatorAt path k → hasFigure held ≡ plannedAt path k
-      → full .capacity .0 ≡ capacity (progressIn declared carried) op → full .delay ≡ held .delay
+  pub walked-next : {figure : Figure} {next : Carried} {op : Operator} {later : Slots} → k < 16 → op ≡ operatorAt path k → hasFigure figure ≡ plannedAt path k
       → progressIn declared next ≡ behind (progressIn declared carried) op → Lent (next .class .kind) declared bound → BurstKept (classIn declared (next .class)) (next .slowest)
-      → later .0 ≡ delay .0 + held .delay .0 → Walked declared bound path (k + 1) next (set figures k full) later
-  walked-next {held} {full} inside e planned whole same f lent burst counted =
+      → later .0 ≡ delay .0 + figure .delay .0 → Walked declared bound path (k + 1) next (set figures k figure) later
+  unfolding figureAt
+  walked-next {figure} inside e planned f lent burst counted =
       let own = fits-figure path k planned in
-      let made = full-figure e whole (same ∙ ap (λ (f : Figure). f .delay) own) in
       record {
         carries = f ∙ ap₂ behind (walked .carries) e ∙ sym (before-next path k);
         lent = lent;
         burst = burst;
         passed = passed-next path k (walked .passed) (fits-passed path k planned);
-        long = length-set figures k full ∙ walked .long;
-        written = λ j h. figure-next made inside j h (eqb j k) refl;
+        long = length-set figures k figure ∙ walked .long;
+        written = λ j h. figure-next own inside j h (eqb j k) refl;
         summed = counted ∙ ap₂ _+_ (walked .summed) (ap (λ (f : Figure). f .delay .0) own) ∙ sym (total-next (delayAt path) k);
       }
 

@@ -1,14 +1,15 @@
 -- Serves the private contracts of the figures, and need not be believed: no public call cites it.
 -- What the code carries along a path stands for a progress of section 4; and the bounds within which its numbers fit their words.
-use Prim.Native.Nat.{ℕ, _+_, _-_, _≤_, _<_}
+use Prim.Native.Nat.{ℕ, _+_, _-_, _*_, _≤_, _<_}
 use mathlib.Core.Path.{_≡_}
-use mathlib.Core.Bool.{Bool, true, false}
+use mathlib.Core.Bool.{Bool, true}
 use mathlib.Core.List.{List, [], _∷_}
 use lib.ListN.{length, getD}
 use Rattle.quantity.specs.Limits.{mostOperators}
 use Rattle.quantity.specs.Rounding.{roundUp}
 use Rattle.quantity.specs.Sums.{total}
 use Rattle.quantity.specs.Refusals.{Case, _⇒_, firstOf}
+use Rattle.quantity.specs.declared.Units.{Units}
 use Rattle.quantity.specs.declared.Interval.{Interval}
 use Rattle.quantity.specs.declared.refusal.Refusal.{Refusal}
 use Rattle.quantity.specs.declared.refusal.Refusal.the-variants.{FramedAfterFilter, FigureTooLarge, RateTooLow}
@@ -36,7 +37,7 @@ use Rattle.figures.specs.declared.carried.LeastRate.the-variants.{NoFilt
 use Rattle.figures.specs.declared.carried.Carried.{Carried}
 use Rattle.figures.specs.declared.each.Planned.{Planned}
 use Rattle.figures.specs.Progress.{Progress, behind}
-use Rattle.figures.specs.Figures.{heldFigure, ownDelay, framedAfterFilter, figureTooLarge, rateTooLow}
+use Rattle.figures.specs.Figures.{mostArriving, capacity, ownDelay, framedAfterFilter, figureTooLarge, rateTooLow}
 
 -- the class: where it is of rows, those of the declaration
 abbrev pub classIn : Declaration → FlowClass → Class
@@ -117,21 +118,13 @@ pub record Ready (longest : ℕ) (declared : Declaration) (bound : List ℕ) (c 
   pub lent : Lent (c .class .kind) declared bound
   pub burst : BurstKept (classIn declared (c .class)) (c .slowest)
 
+-- so much arrives at an operator in one slot, which is no more than fits
+abbrev pub Arriving : Progress → Units → Type 0
+Arriving p arriving = (arriving .0 ≡ mostArriving p) × (arriving .0 ≤ 134_218_751 * 67_108_863)
+
 -- what an operator behind a progress goes through, as 6 to 8 of a path's operator k
 abbrev pub casesOf : Progress → Operator → ℕ → List Case
 casesOf p op k = (framedAfterFilter p op ⇒ FramedAfterFilter k) ∷ (figureTooLarge p op ⇒ FigureTooLarge k) ∷ (rateTooLow p op ⇒ RateTooLow k) ∷ []
-
--- an expander, whose held figure covers what arrives
-abbrev pub isExpander : Operator → Bool
-isExpander (Limiter R) = false
-isExpander (Compactor n) = false
-isExpander (Expander n) = true
-isExpander (Filter R) = false
-isExpander (Delayer d) = false
-
--- its held figure and its own delay, of which its figure is made
-abbrev pub figureOf : Progress → Operator → Bool → Figure
-figureOf p op paired = record { capacity = record { 0 = heldFigure p op }; delay = record { 0 = ownDelay p op paired } }
 
 -- what is said of an operator: a figure, or a refusal
 pub data Outcome : Type 0 where
@@ -139,12 +132,15 @@ pub data Outcome : Type 0 where
   hasRefusal : Refusal → Outcome
 
 abbrev pub outcome : Planned → Outcome
-outcome (Planned.Fits figure after) = hasFigure figure
+outcome (Planned.Fits after figure) = hasFigure figure
 outcome (Planned.Refused why) = hasRefusal why
 
--- the figure, or the first of 6 to 8 that stands
+-- the figure of so much capacity, or the first of 6 to 8 that stands
+abbrev pub plannedWith : Progress → Operator → Bool → ℕ → ℕ → Outcome
+plannedWith p op paired most k = firstOf (casesOf p op k) hasRefusal (hasFigure (record { capacity = record { 0 = most }; delay = record { 0 = ownDelay p op paired } }))
+
 unfoldable pub plannedOf : Progress → Operator → Bool → ℕ → Outcome
-plannedOf p op paired k = firstOf (casesOf p op k) hasRefusal (hasFigure (figureOf p op paired))
+plannedOf p op paired k = plannedWith p op paired (capacity p op) k
 
 -- the class behind a change of interval
 abbrev pub changedClass : Declaration → FlowClass → Kind → Interval → Class
@@ -152,7 +148,7 @@ changedClass declared c output n = classIn declared (record { kind = output; int
 
 -- what is carried on where there is a figure stands for this progress, with the table that is lent and the burst
 abbrev pub CarriedOn : Declaration → List ℕ → Progress → Planned → Type 0
-CarriedOn declared bound p (Planned.Fits figure after) = (progressIn declared after ≡ p) × Lent (after .class .kind) declared bound × BurstKept (classIn declared (after .class)) (after .slowest)
+CarriedOn declared bound p (Planned.Fits after figure) = (progressIn declared after ≡ p) × Lent (after .class .kind) declared bound × BurstKept (classIn declared (after .class)) (after .slowest)
 CarriedOn declared bound p (Planned.Refused why) = Unit {0}
 
 -- an operator behind a progress is answered right, and what is carried on is what stands behind it

@@ -15,7 +15,7 @@ use quantity::Slots;
 use quantity::Units;
 ghost use mathlib.Core.Path.{_≡_};
 ghost use mathlib.Core.Bool.{true, false};
-ghost use Prim.Native.Nat.{_+_, _*_, _≤_};
+ghost use Prim.Native.Nat.{_+_, _≤_};
 ghost use Rattle.quantity.specs.Ranges.{inRange, delayRange};
 ghost use Rattle.operator.specs.FilterPart.{filtered, slower};
 ghost use Rattle.flow.specs.Declarations.{classOf};
@@ -23,8 +23,8 @@ ghost use Rattle.flow.specs.Bounds.{ClassWithin};
 ghost use Rattle.operator.specs.Operators.{numberInRange};
 ghost use Rattle.operator.specs.declared.Operator.the-variants.{Filter};
 ghost use Rattle.figures.specs.Progress.{start, behind};
-ghost use Rattle.figures.specs.Figures.{heldOfPart, mostArriving};
-ghost use Rattle.figures.specs.Carried.{classIn, slowestIn, progressIn, Lent, ReachesPast, BurstKept, slotsKept, Ready, mostBefore, mostWith};
+ghost use Rattle.figures.specs.Figures.{heldOfPart};
+ghost use Rattle.figures.specs.Carried.{classIn, slowestIn, progressIn, Lent, ReachesPast, BurstKept, slotsKept, Ready, mostBefore, mostWith, Arriving};
 ghost use Rattle.figures.specs.declared.carried.LeastRate.the-variants.{NoFilter};
 
 // P, the least filter rate so far, if a filter has come, with the burst at it and the slots in which it sends that burst.
@@ -169,7 +169,7 @@ pub(crate) fn sending(slowest: LeastRate) -> Slots
 // The most that arrives at the next operator in one slot: a filter part makes its flow late.
 pub(crate) fn most_arriving(carried: Carried, declared: Declaration, bound: &[u32]) -> Units
     requires { ⌜ Ready mostBefore declared (now bound) carried × ReachesPast (carried .class .kind) declared (now bound) (carried .e .0) ⌝ }
-    ensures { λ r. ⌜ (r .0 ≡ mostArriving (progressIn declared carried)) × (r .0 ≤ 134_218_751 * 67_108_863) ⌝ }
+    ensures { λ r. ⌜ Arriving (progressIn declared carried) r ⌝ }
 {
     let class = carried.class;
     let slowest = carried.slowest;

@@ -26,19 +26,18 @@ ghost use mathlib.Core.Path.{_≡_};
 ghost use mathlib.Core.Bool.{true, false};
 ghost use Prim.Native.Nat.{_+_, _-_, _*_, _≤_};
 ghost use Rattle.quantity.specs.Choice.{pick};
-ghost use Rattle.quantity.specs.Limits.{largestAmount};
 ghost use Rattle.operator.specs.Operators.{numberInRange};
 ghost use Rattle.operator.specs.declared.Operator.the-variants.{Limiter, Expander, Filter, Delayer};
 ghost use Rattle.figures.specs.Progress.{start};
-ghost use Rattle.figures.specs.Figures.{pairs};
-ghost use Rattle.figures.specs.Carried.{isExpander, progressIn, Lent, slotsKept, Ready, mostBefore, changedClass, outcome, plannedOf, CarriedOn, PlannedAs};
+ghost use Rattle.figures.specs.Figures.{heldFigure, pairs};
+ghost use Rattle.figures.specs.Carried.{progressIn, Lent, slotsKept, Ready, mostBefore, Arriving, changedClass, outcome, plannedWith, CarriedOn, PlannedAs};
 
 // Section 7, 7: the largest changed quota.
 const LARGEST_CHANGED_QUOTA: u64 = 67_108_863;
 
-// What one operator comes to: its held figure and own delay, and what is carried behind it, or why it is refused.
+// What one operator comes to: what is carried behind it and its figure, or why it is refused. Nothing of the figure stands in the place of a refusal: such a number is put together from its parts, which takes time.
 pub enum Planned {
-    Fits(Figure, Carried),
+    Fits(Carried, Figure),
     Refused(Refusal),
 }
 
@@ -70,10 +69,11 @@ fn plan_limiter(
     carried: Carried,
     declared: Declaration,
     bound: &[u32],
+    arriving: Units,
     rate: Rate,
     k: usize,
 ) -> Planned
-    requires { ⌜ Ready mostBefore declared (now bound) carried × (numberInRange (Limiter rate) ≡ true) ⌝ }
+    requires { ⌜ Ready mostBefore declared (now bound) carried × (numberInRange (Limiter rate) ≡ true) × Arriving (progressIn declared carried) arriving ⌝ }
     ensures { λ r. ⌜ PlannedAs declared (now (bound .entry)) (progressIn declared carried) (Limiter rate) false k r ⌝ }
 {
     if carried.filtering {
@@ -89,12 +89,12 @@ fn plan_limiter(
     }
     let own = Slots(round_up(most.0, wide(rate.0)) as u32);
     let figure = Figure {
-        capacity: most,
+        capacity: most.plus(arriving),
         delay: own,
     };
     Planned::Fits(
-        figure,
         framed(Kind::Uniform, Interval(1), Units(wide(rate.0))),
+        figure,
     )
 }
 
@@ -105,18 +105,19 @@ fn expander_delay(n: Interval, paired: bool) -> Slots
     if paired { Slots(0) } else { Slots(n.0) }
 }
 
-// An expander, or a compactor, whose figure is that of an expander that has no pair; its output is of this kind, and of the changed quota. A quota that is not too large is no held figure too large.
+// An expander, or a compactor, whose held figure and delay are those of an expander that has no pair; its output is of this kind, and of the changed quota. A quota that is not too large is no held figure too large. What an expander holds at the most has what arrives already, so that its `arriving` is 0.
 fn plan_frame(
     carried: Carried,
     declared: Declaration,
     bound: &[u32],
+    arriving: Units,
     output: Kind,
     n: Interval,
     paired: bool,
     k: usize,
 ) -> Planned
-    requires { ⌜ Ready mostBefore declared (now bound) carried × (numberInRange (Expander n) ≡ true) × Lent output declared (now bound) ⌝ }
-    ensures { λ r. ⌜ (outcome r ≡ plannedOf (progressIn declared carried) (Expander n) paired k) × CarriedOn declared (now (bound .entry)) (start (changedClass declared (carried .class) output n)) r ⌝ }
+    requires { ⌜ Ready mostBefore declared (now bound) carried × (numberInRange (Expander n) ≡ true) × Lent output declared (now bound) × (arriving .0 ≤ 134_218_751 * 67_108_863) ⌝ }
+    ensures { λ r. ⌜ (outcome r ≡ plannedWith (progressIn declared carried) (Expander n) paired (heldFigure (progressIn declared carried) (Expander n) + arriving .0) k) × CarriedOn declared (now (bound .entry)) (start (changedClass declared (carried .class) output n)) r ⌝ }
 {
     if carried.filtering {
         return Planned::Refused(Refusal::FramedAfterFilter(k));
@@ -128,10 +129,10 @@ fn plan_frame(
     }
     let own = expander_delay(n, paired);
     let figure = Figure {
-        capacity: most,
+        capacity: most.plus(arriving),
         delay: own,
     };
-    Planned::Fits(figure, framed(output, n, most))
+    Planned::Fits(framed(output, n, most), figure)
 }
 
 // What a filter adds to the delay of its part: the slots in which the burst is sent, less those that are counted already.
@@ -149,10 +150,11 @@ fn plan_filter(
     carried: Carried,
     declared: Declaration,
     bound: &[u32],
+    arriving: Units,
     rate: Rate,
     k: usize,
 ) -> Planned
-    requires { ⌜ Ready mostBefore declared (now bound) carried × (numberInRange (Filter rate) ≡ true) ⌝ }
+    requires { ⌜ Ready mostBefore declared (now bound) carried × (numberInRange (Filter rate) ≡ true) × Arriving (progressIn declared carried) arriving ⌝ }
     ensures { λ r. ⌜ PlannedAs declared (now (bound .entry)) (progressIn declared carried) (Filter rate) false k r ⌝ }
 {
     let after = behind_filter(carried, declared, bound, rate);
@@ -168,20 +170,21 @@ fn plan_filter(
     let slowest = after.slowest;
     let own = added(before, slowest);
     let figure = Figure {
-        capacity: most,
+        capacity: most.plus(arriving),
         delay: own,
     };
-    Planned::Fits(figure, after)
+    Planned::Fits(after, figure)
 }
 
 fn plan_delayer(
     carried: Carried,
     declared: Declaration,
     bound: &[u32],
+    arriving: Units,
     delay: Delay,
     k: usize,
 ) -> Planned
-    requires { ⌜ Ready mostBefore declared (now bound) carried × (numberInRange (Delayer delay) ≡ true) ⌝ }
+    requires { ⌜ Ready mostBefore declared (now bound) carried × (numberInRange (Delayer delay) ≡ true) × Arriving (progressIn declared carried) arriving ⌝ }
     ensures { λ r. ⌜ PlannedAs declared (now (bound .entry)) (progressIn declared carried) (Delayer delay) false k r ⌝ }
 {
     let after = behind_delayer(carried, delay);
@@ -190,58 +193,45 @@ fn plan_delayer(
         return Planned::Refused(Refusal::FigureTooLarge(k));
     }
     let figure = Figure {
-        capacity: most,
+        capacity: most.plus(arriving),
         delay: Slots(delay.0),
     };
-    Planned::Fits(figure, after)
+    Planned::Fits(after, figure)
 }
 
-fn is_expander(operator: Operator) -> bool
-    ensures { λ r. ⌜ r ≡ isExpander operator ⌝ }
-{
-    match operator {
-        Operator::Expander(_) => true,
-        Operator::Limiter(_) => false,
-        Operator::Compactor(_) => false,
-        Operator::Filter(_) => false,
-        Operator::Delayer(_) => false,
-    }
-}
-
-// An operator's capacity is for the fullest moment, before it sends, when it has what it held and what arrives. What an expander holds at the most has both already.
-pub(crate) fn fullest(operator: Operator, held: Units, arriving: Units) -> Units
-    requires { ⌜ (held .0 ≤ largestAmount) × (arriving .0 ≤ 134_218_751 * 67_108_863) ⌝ }
-    ensures { λ r. ⌜ r .0 ≡ pick (isExpander operator) (held .0) (held .0 + arriving .0) ⌝ }
-{
-    if is_expander(operator) {
-        return held;
-    }
-    held.plus(arriving)
-}
-
-// The held figure and own delay of operator k, and what is carried behind it. `follower` is the next operator, if one follows: only an expander asks for it.
+// The figure of operator k, and what is carried behind it. Its capacity is for the fullest moment, before it sends, when it has what it held and what arrives. `follower` is the next operator, if one follows: only an expander asks for it.
 pub(crate) fn plan(
     carried: Carried,
     declared: Declaration,
     bound: &[u32],
+    arriving: Units,
     operator: Operator,
     follower: Operator,
     follows: bool,
     k: usize,
 ) -> Planned
-    requires { ⌜ Ready mostBefore declared (now bound) carried × (numberInRange operator ≡ true) ⌝ }
+    requires { ⌜ Ready mostBefore declared (now bound) carried × (numberInRange operator ≡ true) × Arriving (progressIn declared carried) arriving ⌝ }
     ensures { λ r. ⌜ PlannedAs declared (now (bound .entry)) (progressIn declared carried) operator (pick follows (pairs operator follower) false) k r ⌝ }
 {
     match operator {
-        Operator::Limiter(rate) => plan_limiter(carried, declared, bound, rate, k),
+        Operator::Limiter(rate) => plan_limiter(carried, declared, bound, arriving, rate, k),
         Operator::Compactor(n) => {
-            plan_frame(carried, declared, bound, Kind::Uniform, n, false, k)
+            plan_frame(
+                carried,
+                declared,
+                bound,
+                arriving,
+                Kind::Uniform,
+                n,
+                false,
+                k,
+            )
         }
         Operator::Expander(n) => {
             let pair = paired(n, follower, follows);
-            plan_frame(carried, declared, bound, Kind::Smooth, n, pair, k)
+            plan_frame(carried, declared, bound, Units(0), Kind::Smooth, n, pair, k)
         }
-        Operator::Filter(rate) => plan_filter(carried, declared, bound, rate, k),
-        Operator::Delayer(delay) => plan_delayer(carried, declared, bound, delay, k),
+        Operator::Filter(rate) => plan_filter(carried, declared, bound, arriving, rate, k),
+        Operator::Delayer(delay) => plan_delayer(carried, declared, bound, arriving, delay, k),
     }
 }

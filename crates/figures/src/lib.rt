@@ -5,7 +5,6 @@ use crate::camera::is_camera;
 use crate::carried::most_arriving;
 use crate::carried::start;
 use crate::each::Planned;
-use crate::each::fullest;
 use crate::each::plan;
 use flow::bound::LENGTH;
 use flow::bound::SHORTEST;
@@ -187,6 +186,7 @@ fn figures_read(answer: ReadSheet, bound: &[u32]) -> PlannedPath
             carried,
             declaration,
             bound,
+            arriving,
             operator,
             follower,
             next < count,
@@ -200,15 +200,9 @@ fn figures_read(answer: ReadSheet, bound: &[u32]) -> PlannedPath
                     delay: Slots(0),
                 };
             }
-            Planned::Fits(held, behind) => {
-                let most = held.capacity;
-                let own = held.delay;
-                let capacity = fullest(operator, most, arriving);
-                figures[k] = Figure {
-                    capacity,
-                    delay: own,
-                };
-                delay = delay.plus(own);
+            Planned::Fits(behind, figure) => {
+                figures[k] = figure;
+                delay = delay.plus(figure.delay);
                 carried = behind;
             }
         }

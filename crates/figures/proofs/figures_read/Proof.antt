@@ -1,7 +1,7 @@
 -- A refusal of the reader is handed on. In the loop, before operator k none of 6 to 8 has stood, and what is carried, the figures and the sum are those of the definitions.
 -- Behind the last operator only 9 is left.
 use Prim.Native.Nat.{_≤_, _-_}
-use mathlib.Core.Path.{_≡_, refl, sym, ap, subst, _∙_}
+use mathlib.Core.Path.{_≡_, sym, ap, subst, _∙_}
 use native.Mathlib.Omega.{arith}
 use borrow.Author.Needs.{needs}
 use lib.ListN.{replicate}
@@ -14,9 +14,9 @@ use Rattle.sheet.specs.declared.read.Verdict.{Verdict}
 use Rattle.figures.specs.declared.Figure.{Figure}
 use Rattle.figures.specs.Progress.{start}
 use Rattle.figures.specs.Answers.{noFigure, refusedFigures}
-use Rattle.figures.specs.Carried.{Lent, hasFigure, outcome, CarriedOn, Readable, PathWithin, figuresOfValue, figuresOfRead}
+use Rattle.figures.specs.Carried.{Lent, outcome, CarriedOn, Readable, PathWithin, figuresOfValue, figuresOfRead}
 use Rattle.figures.proofs.ClassLaws.{reaches-here}
-use Rattle.figures.proofs.EachOperator.{Walked, plannedAt, walked-start, walked-planned, walked-held, walked-capacity, walked-next, path-operator, slots-here, operator-ready, paired-here, delay-counted, refused-path, late-path, accepted-path}
+use Rattle.figures.proofs.EachOperator.{Walked, plannedAt, walked-start, walked-planned, walked-next, path-operator, slots-here, operator-ready, paired-here, delay-counted, refused-path, late-path, accepted-path}
 use Rattle.figures.proofs.figures_read.Statement.{statement}
 use Rattle.figures.proofs.figures_read.Tie as tie
 
@@ -120,7 +120,10 @@ add-next : tie.Need-add-next Inv-loop μ-loop
 add-next c = omega (arith, c .before .before .before .before .before .loop .inv .1 .few)
 
 plan-requires : tie.Need-plan-requires Inv-loop μ-loop
-plan-requires c κs = let (inside, within, walked) = c .before .before .before .before .before .loop .inv in operator-ready within walked (c .before .before .before .before .loop-test .taken)
+plan-requires c κs =
+    let (inside, within, walked) = c .before .before .before .before .before .loop .inv in
+    let (ready, number) = operator-ready within walked (c .before .before .before .before .loop-test .taken) in
+    (ready, number, c .before .before .before .most-arriving .ensures)
 
 enum-known-why : tie.Need-enum-known-why Inv-loop μ-loop
 enum-known-why c = search needs
@@ -132,48 +135,37 @@ returns-2 c =
     ∙ refused-path within walked (c .before .before .before .before .before .before .before .before .loop-test .taken) (sym (ap outcome (c .before .why .given .1)) ∙ planned-at (c .before .before .before))
     ∙ figures-read (c .before .before .before .before .before .before .before .before .before .before)
 
-enum-known-held : tie.Need-enum-known-held Inv-loop μ-loop
-enum-known-held c = search needs
-
--- the operator's held figure and own delay
-held-planned : (c : tie.After-own Inv-loop μ-loop) → let turn = c .before .before .before .before .before .before .before .before .before .before .before in hasFigure (c .before .before .before .held .given .0 .0) ≡ plannedAt (inFull (turn .before .before .before .before .before .before .before .before .before .args .answer .path)) (turn .loop .k)
-held-planned c = sym (ap outcome (c .before .before .before .held .given .1)) ∙ planned-at (c .before .before .before .before .before)
-
-fullest-requires : tie.Need-fullest-requires Inv-loop μ-loop
-fullest-requires c κs =
-    let (inside, within, walked) = c .before .before .before .before .before .before .before .before .before .before .before .loop .inv in
-    (walked-held walked (sym (path-operator _ _ (c .before .before .before .before .before .before .before .before .before .before .loop-test .taken))) (held-planned c) .1, c .before .before .before .before .before .before .before .before .before .most-arriving .ensures .1)
+enum-known-behind : tie.Need-enum-known-behind Inv-loop μ-loop
+enum-known-behind c = search needs
 
 mul-figures : tie.Need-mul-figures Inv-loop μ-loop
-mul-figures c = omega (arith, c .before .before .before .before .before .before .before .before .before .before .before .loop-test .taken, c .before .before .before .before .before .before .before .before .before .before .before .before .loop .inv .1 .few)
+mul-figures c = omega (arith, c .before .before .before .before .before .before .before .before .loop-test .taken, c .before .before .before .before .before .before .before .before .before .loop .inv .1 .few)
 
 array-set-from-figures : tie.Need-array-set-from-figures Inv-loop μ-loop
-array-set-from-figures c = omega (arith, c .before .before .before .before .before .before .before .before .before .before .before .loop-test .taken, c .before .before .before .before .before .before .before .before .before .before .before .before .loop .inv .1 .few)
+array-set-from-figures c = omega (arith, c .before .before .before .before .before .before .before .before .loop-test .taken, c .before .before .before .before .before .before .before .before .before .loop .inv .1 .few)
 
 plus-requires : tie.Need-plus-requires Inv-loop μ-loop
 plus-requires c κs = search needs
 
 add-k : tie.Need-add-k Inv-loop μ-loop
-add-k c = omega (arith, c .before .before .before .before .before .before .before .before .before .before .before .before .loop-test .taken, c .before .before .before .before .before .before .before .before .before .before .before .before .before .loop .inv .1 .few)
+add-k c = omega (arith, c .before .before .before .before .before .before .before .before .before .loop-test .taken, c .before .before .before .before .before .before .before .before .before .before .loop .inv .1 .few)
 
 loop-less : tie.Need-loop-less Inv-loop μ-loop
 loop-less c = omega arith
 
 loop-again : tie.Need-loop-again Inv-loop μ-loop
 loop-again c =
-    let made = c .before .before in
-    let turn = made .before .before .before .before .before .before .before .before .before .before .before in
+    let turn = c .before .before .before .before .before .before .before .before .before .before in
     let s = turn .before .before .before .before .before .before .before .before .before in
     let (inside, within, walked) = turn .loop .inv in
-    let here = made .before .before .before .before .before .before .before .before .before .before .loop-test .taken in
+    let here = c .before .before .before .before .before .before .before .before .before .loop-test .taken in
     let few = within .few in
-    let same = sym (path-operator _ _ here) in
-    let planned = held-planned made in
-    let full = walked-capacity walked same planned (made .before .before .before .before .before .before .before .before .before .most-arriving .ensures .0) (c .before .fullest .ensures) in
-    let (carries, lent, burst) = subst (CarriedOn (s .args .answer .path .declaration) (s .args .bound .now) _) (made .before .before .before .held .given .1) (made .before .before .before .before .before .plan .ensures .carried) in (
+    let answer = c .before .before .behind .given .1 in
+    let planned = sym (ap outcome answer) ∙ planned-at (c .before .before .before .before) in
+    let (carries, lent, burst) = subst (CarriedOn (s .args .answer .path .declaration) (s .args .bound .now) _) answer (c .before .before .before .before .plan .ensures .carried) in (
       omega (arith, here),
       within,
-      walked-next walked (omega (arith, here, few)) same planned full refl carries lent burst (delay-counted within walked here planned (c .plus .ensures)),
+      walked-next walked (omega (arith, here, few)) (sym (path-operator _ _ here)) planned carries lent burst (delay-counted within walked here planned (c .plus .ensures)),
     )
 
 returns-3 : tie.Need-returns-3 Inv-loop μ-loop
@@ -204,8 +196,7 @@ figures-read-spec =
     plan-requires
     enum-known-why
     returns-2
-    enum-known-held
-    fullest-requires
+    enum-known-behind
     mul-figures
     array-set-from-figures
     plus-requires

@@ -1,4 +1,5 @@
 -- A delayer may follow anything and has no rate; else its figure is the definition's, and it adds its own slots to the delay.
+use borrow.Author.Needs.{needs}
 use borrow.Author.Tests.{lt-ltb, le-ltb}
 use mathlib.Core.Path.{_≡_, refl, ap, _∙_}
 use mathlib.Core.Bool.{false}
@@ -7,9 +8,9 @@ use Rattle.operator.specs.Operators.{numberInRange}
 use Rattle.operator.specs.declared.Operator.the-variants.{Delayer}
 use Rattle.figures.specs.declared.carried.Carried.{Carried}
 use Rattle.figures.specs.Progress.{Progress, behind}
-use Rattle.figures.specs.Figures.{heldOfPart, heldFigure, ownDelay, isFramed, quotaBehind, figureTooLarge, rateTooLow}
+use Rattle.figures.specs.Figures.{heldOfPart, heldFigure, capacity, ownDelay, isFramed, quotaBehind, figureTooLarge, rateTooLow}
 use Rattle.figures.specs.Carried.{progressIn, plannedOf}
-use Rattle.figures.proofs.Bounds.{delayer-ready, delayer-delay}
+use Rattle.figures.proofs.Bounds.{delayer-ready, delayer-delay, full-units}
 use Rattle.figures.proofs.Tests.{placed}
 use Rattle.figures.proofs.each.plan_delayer.Statement.{statement}
 use Rattle.figures.proofs.each.plan_delayer.Tie as tie
@@ -38,16 +39,28 @@ returns : tie.Need-returns
 unfolding plannedOf isFramed figureTooLarge quotaBehind
 returns c = record { answered = rw (placed _ (Delayer _) refl, ← delayer-held (c .before .before), lt-ltb _ _ (c .if1 .taken)); carried = tt }
 
+plus-requires : tie.Need-plus-requires
+plus-requires c κs = search needs
+
 returns-2 : tie.Need-returns-2
-unfolding plannedOf isFramed figureTooLarge quotaBehind rateTooLow behind
+unfolding plannedOf isFramed figureTooLarge quotaBehind rateTooLow capacity behind
 returns-2 c =
-    let made = c .before .before in
-    let ready = made .before .before .before .pre .0 in
+    let tested = c .before in
+    let made = tested .before .before in
+    let s = made .before .before .before in
+    let ready = s .pre .0 in
     record {
-      answered = rw (placed _ (Delayer _) refl, ← delayer-held made, le-ltb _ _ (c .if1 .left), own-slots);
+      answered = rw (
+        placed _ (Delayer _) refl,
+        ← delayer-held made,
+        le-ltb _ _ (tested .if1 .left),
+        own-slots,
+        ← s .pre .2 .0,
+        ← full-units _ _ (c .plus .ensures) (tested .if1 .left) (s .pre .2 .1),
+      );
       carried = rw (made .before .behind-delayer .ensures) (refl, ready .lent, ready .burst);
     }
 
 pub plan-delayer-spec : {M : Type 1} → statement M
 plan-delayer-spec =
-    tie.close (tie.spec behind-delayer-requires part-held-requires returns returns-2)
+    tie.close (tie.spec behind-delayer-requires part-held-requires returns plus-requires returns-2)

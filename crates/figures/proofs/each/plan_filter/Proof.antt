@@ -4,9 +4,9 @@ use borrow.Author.Tests.{not-false, lt-ltb, le-ltb}
 use mathlib.Core.Path.{_≡_, refl, ap, sym, _∙_}
 use mathlib.Core.Bool.{false, not}
 use Rattle.operator.specs.declared.Operator.the-variants.{Filter}
-use Rattle.figures.specs.Figures.{heldOfPart, heldFigure, ownDelay, isFramed, quotaBehind, figureTooLarge, rateTooLow}
+use Rattle.figures.specs.Figures.{heldOfPart, heldFigure, capacity, ownDelay, isFramed, quotaBehind, figureTooLarge, rateTooLow}
 use Rattle.figures.specs.Carried.{progressIn, plannedOf}
-use Rattle.figures.proofs.Bounds.{filter-own, filter-adds}
+use Rattle.figures.proofs.Bounds.{filter-own, filter-adds, full-units}
 use Rattle.figures.proofs.Tests.{placed}
 use Rattle.figures.proofs.each.plan_filter.Statement.{statement}
 use Rattle.figures.proofs.each.plan_filter.Tie as tie
@@ -60,19 +60,26 @@ added-requires c κs =
     let enough = sym (c .before .carried-by .ensures) ∙ not-false _ (c .if2 .left) in
     filter-adds (s .args .carried) (behind .behind-filter .result) (s .args .rate) (s .pre .0) ready same (s .pre .1) enough
 
+plus-requires : tie.Need-plus-requires
+plus-requires c κs = search needs
+
 returns-3 : tie.Need-returns-3
-unfolding plannedOf isFramed figureTooLarge quotaBehind rateTooLow
+unfolding plannedOf isFramed figureTooLarge quotaBehind rateTooLow capacity
 returns-3 c =
-    let left = c .before in
+    let left = c .before .before in
     let tested = left .before .before .before in
-    let (same, ready) = tested .before .before .before .behind-filter .ensures in
+    let behind = tested .before .before .before in
+    let s = behind .before .before in
+    let (same, ready) = behind .behind-filter .ensures in
     record {
       answered = rw (
         placed _ (Filter _) refl,
         ← filter-held (tested .before .before),
         le-ltb _ _ (tested .if1 .left),
         ap not (sym (left .before .carried-by .ensures)) ∙ left .if2 .left,
-        ← filter-delay c,
+        ← filter-delay (c .before),
+        ← s .pre .2 .0,
+        ← full-units _ _ (c .plus .ensures) (tested .if1 .left) (s .pre .2 .1),
       );
       carried = (same, ready .lent, ready .burst);
     }
@@ -87,4 +94,5 @@ plan-filter-spec =
     carried-by-requires
     returns-2
     added-requires
+    plus-requires
     returns-3)

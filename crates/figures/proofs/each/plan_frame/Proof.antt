@@ -8,13 +8,12 @@ use Rattle.quantity.specs.Limits.{largestAmount}
 use Rattle.quantity.specs.Ranges.{intervalRange}
 use Rattle.operator.specs.Operators.{numberInRange}
 use Rattle.figures.specs.Figures.{heldFigure, ownDelay, isFramed, framedAfterFilter, quotaBehind, figureTooLarge, rateTooLow}
-use Rattle.figures.specs.Carried.{plannedOf}
-use Rattle.figures.proofs.Bounds.{in-range}
+use Rattle.figures.proofs.Bounds.{in-range, full-units}
 use Rattle.figures.proofs.each.plan_frame.Statement.{statement}
 use Rattle.figures.proofs.each.plan_frame.Tie as tie
 
 returns : tie.Need-returns
-unfolding plannedOf framedAfterFilter isFramed
+unfolding framedAfterFilter isFramed
 returns c = (rw (c .if1 .taken), tt)
 
 changed-quota-requires : tie.Need-changed-quota-requires
@@ -25,7 +24,7 @@ changed-quota-requires c κs =
     (s .pre .0 .within .class, s .pre .0 .lent, least, most)
 
 returns-2 : tie.Need-returns-2
-unfolding plannedOf framedAfterFilter isFramed figureTooLarge quotaBehind heldFigure
+unfolding framedAfterFilter isFramed figureTooLarge quotaBehind heldFigure
 returns-2 c =
     let changed = c .before .before in
     (rw (changed .before .before .if1 .left, ← changed .changed-quota .ensures, lt-ltb _ _ (c .if2 .taken)), tt)
@@ -34,9 +33,9 @@ expander-delay-requires : tie.Need-expander-delay-requires
 expander-delay-requires c κs = search needs
 
 returns-3 : tie.Need-returns-3
-unfolding plannedOf framedAfterFilter isFramed figureTooLarge quotaBehind heldFigure rateTooLow ownDelay
+unfolding framedAfterFilter isFramed figureTooLarge quotaBehind heldFigure rateTooLow ownDelay
 returns-3 c =
-    let tested = c .before .before in
+    let tested = c .before .before .before in
     let changed = tested .before .before in
     let s = changed .before .before .before .before in
     let small : changed .changed-quota .result .0 ≤ largestAmount = omega (arith, tested .if2 .left) in (
@@ -45,14 +44,18 @@ returns-3 c =
         ← changed .changed-quota .ensures,
         le-ltb _ _ (tested .if2 .left),
         le-ltb _ _ small,
-        ← c .before .expander-delay .ensures,
+        ← c .before .before .expander-delay .ensures,
+        ← full-units _ _ (c .before .plus .ensures) small (s .pre .3),
       ),
       rw (c .framed .ensures, changed .changed-quota .ensures) (refl, s .pre .2, tt),
     )
+
+plus-requires : tie.Need-plus-requires
+plus-requires c κs = search needs
 
 framed-requires : tie.Need-framed-requires
 framed-requires c κs = search needs
 
 pub plan-frame-spec : {M : Type 1} → statement M
 plan-frame-spec =
-    tie.close (tie.spec returns changed-quota-requires returns-2 expander-delay-requires framed-requires returns-3)
+    tie.close (tie.spec returns changed-quota-requires returns-2 expander-delay-requires plus-requires framed-requires returns-3)

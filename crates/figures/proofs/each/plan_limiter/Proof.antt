@@ -8,10 +8,10 @@ use Prim.Native.Nat.{_≤_}
 use Rattle.quantity.specs.Ranges.{rateRange}
 use Rattle.operator.specs.Operators.{numberInRange}
 use Rattle.figures.specs.Progress.{behind}
-use Rattle.figures.specs.Figures.{heldFigure, ownDelay, isFramed, framedAfterFilter, quotaBehind, figureTooLarge, rateTooLow}
+use Rattle.figures.specs.Figures.{heldFigure, capacity, ownDelay, isFramed, framedAfterFilter, quotaBehind, figureTooLarge, rateTooLow}
 use Rattle.figures.specs.Carried.{classIn, plannedOf}
 use Rattle.flow.proofs.ClassBounds.{burst-bound}
-use Rattle.figures.proofs.Bounds.{in-range, round-up-at-most}
+use Rattle.figures.proofs.Bounds.{in-range, round-up-at-most, full-units}
 use Rattle.figures.proofs.each.plan_limiter.Statement.{statement}
 use Rattle.figures.proofs.each.plan_limiter.Tie as tie
 
@@ -57,20 +57,24 @@ returns-3 c =
     }
 
 returns-4 : tie.Need-returns-4
-unfolding plannedOf framedAfterFilter isFramed figureTooLarge quotaBehind heldFigure rateTooLow ownDelay behind
+unfolding plannedOf framedAfterFilter isFramed figureTooLarge quotaBehind heldFigure rateTooLow ownDelay capacity behind
 returns-4 c =
-    let rounded = c .before .before in
+    let full = c .before .before in
+    let rounded = full .before in
     let left = rounded .before .before in
     let tested = left .before .before in
     let made = tested .before .before in
+    let s = made .before .before .before .before in
     record {
       answered = rw (
+        ← s .pre .2 .0,
         made .before .before .if1 .left,
         ← made .burst-at .ensures,
         le-ltb _ _ (tested .if2 .left),
         ap not (sym (left .before .carried-by .ensures)) ∙ left .if3 .left,
         rounded .round-up .ensures,
         rounded .before .wide .ensures,
+        ← full-units _ _ (full .plus .ensures) (tested .if2 .left) (s .pre .2 .1),
       );
       carried = rw (c .framed .ensures, c .before .wide2 .ensures) (refl, tt, tt);
     }
@@ -84,11 +88,14 @@ round-up-requires c κs =
     let (positive, slow) = rate-inside (made .before .before .before .before) in
     omega (arith, limiter-small made)
 
-cast-t17 : tie.Need-cast-t17
-cast-t17 c =
+cast-t18 : tie.Need-cast-t18
+cast-t18 c =
     let made = c .before .before .before .before .before .before in
     let (positive, slow) = rate-inside (made .before .before .before .before) in
     omega (arith, round-up-at-most (made .burst-at .result .0) (c .before .wide .result) (omega arith), limiter-small made)
+
+plus-requires : tie.Need-plus-requires
+plus-requires c κs = search needs
 
 wide-requires-2 : tie.Need-wide-requires-2
 wide-requires-2 c κs = search needs
@@ -107,7 +114,8 @@ plan-limiter-spec =
     returns-3
     wide-requires
     round-up-requires
-    cast-t17
+    cast-t18
+    plus-requires
     wide-requires-2
     framed-requires
     returns-4)
