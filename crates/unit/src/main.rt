@@ -164,13 +164,11 @@ fn command_unit(unit: Unit, lines: u64, command: Command, words: &mut [u32; 1024
     match which {
         Which::Missing => {}
         Which::Alone => {
-            let state = unit.single;
-            let after = single::answer(state, lines, command, words);
+            let after = single::answer(unit.single, lines, command, words);
             next.single = after;
         }
         Which::Metering => {
-            let state = unit.meter;
-            let after = metering::answer(state, lines, command, words);
+            let after = metering::answer(unit.meter, lines, command, words);
             next.meter = after;
         }
     }

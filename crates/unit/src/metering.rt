@@ -8,12 +8,10 @@ use crate::command::SET_WORD;
 use crate::command::STATE;
 use crate::command::TAKE;
 use crate::command::WORDS;
-use crate::setting::is_set;
+use crate::setting::set_slot;
+use crate::setting::set_units;
 use crate::words::list_words;
 use crate::words::set_word;
-use console::numbers::narrow;
-use console::print::end_line;
-use console::print::labelled;
 use console::print::refused;
 use console::words::row;
 use meter::Intake;
@@ -33,9 +31,16 @@ pub(crate) fn answer(
     words: &mut [u32; 1024],
 ) -> SourceMeter {
     let index = command.index;
+    let mut next = state;
     match index {
-        SET_SLOT => return set_slot(state, Slots(narrow(command.first))),
-        SET_BLOCK => return set_block(state, Units(command.first)),
+        SET_SLOT => {
+            let slot = set_slot(command.first);
+            next.slot = slot;
+        }
+        SET_BLOCK => {
+            let block = set_units(b"block ", command.first);
+            next.block = block;
+        }
         TAKE => return take(state, command.first, words),
         ROOM => ask_room(state, words),
         STATE => show(state),
@@ -43,7 +48,7 @@ pub(crate) fn answer(
         WORDS => list_words(lines, command.first, words, COUNT),
         _ => {}
     }
-    state
+    next
 }
 
 // `take INPUT`: where it is refused, the state that is handed back is the one that was given.
@@ -58,12 +63,12 @@ fn take(state: SourceMeter, input: u64, words: &mut [u32; 1024]) -> SourceMeter 
     metered.state
 }
 
+// An input that is taken has room.
 fn taken(slot: Slots, room: Room, input: u64) {
     if let Room::AtMost(most) = room {
-        at_most(slot, most);
+        let numbers = [slot.0 as u64, most.0, input];
+        row(b"slot | room | taken ", &numbers);
     }
-    labelled(b" taken ", input);
-    end_line();
 }
 
 // `room`
@@ -71,29 +76,10 @@ fn ask_room(state: SourceMeter, words: &[u32; 1024]) {
     match room_left(state, words) {
         Room::Refused(why) => refused(why),
         Room::AtMost(most) => {
-            at_most(state.slot, most);
-            end_line();
+            let numbers = [state.slot.0 as u64, most.0];
+            row(b"slot | room ", &numbers);
         }
     }
-}
-
-fn at_most(slot: Slots, most: Units) {
-    labelled(b"slot ", slot.0 as u64);
-    labelled(b" room ", most.0);
-}
-
-fn set_slot(state: SourceMeter, slot: Slots) -> SourceMeter {
-    is_set(b"slot ", slot.0 as u64);
-    let mut next = state;
-    next.slot = slot;
-    next
-}
-
-fn set_block(state: SourceMeter, block: Units) -> SourceMeter {
-    is_set(b"block ", block.0);
-    let mut next = state;
-    next.block = block;
-    next
 }
 
 // `state`

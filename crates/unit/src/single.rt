@@ -9,12 +9,10 @@ use crate::command::SET_WORD;
 use crate::command::STATE;
 use crate::command::STEP;
 use crate::command::WORDS;
-use crate::setting::is_set;
+use crate::setting::set_slot;
+use crate::setting::set_units;
 use crate::words::list_words;
 use crate::words::set_word;
-use console::numbers::narrow;
-use console::print::end_line;
-use console::print::labelled;
 use console::print::refused;
 use console::words::row;
 use operator::SingleOperator;
@@ -39,10 +37,20 @@ pub(crate) fn answer(
     words: &mut [u32; 1024],
 ) -> SingleOperator {
     let index = command.index;
+    let mut next = state;
     match index {
-        SET_SLOT => return set_slot(state, Slots(narrow(command.first))),
-        SET_HELD => return set_held(state, Units(command.first)),
-        SET_BESIDE => return set_beside(state, Units(command.first)),
+        SET_SLOT => {
+            let slot = set_slot(command.first);
+            next.slot = slot;
+        }
+        SET_HELD => {
+            let held = set_units(b"held ", command.first);
+            next.held = held;
+        }
+        SET_BESIDE => {
+            let beside = set_units(b"beside ", command.first);
+            next.beside = beside;
+        }
         STEP => return step(state, command.first, command.second, words),
         BOUNDS => ask_bounds(state, command.first, words),
         STATE => show(state),
@@ -50,7 +58,7 @@ pub(crate) fn answer(
         WORDS => list_words(lines, command.first, words, COUNT),
         _ => {}
     }
-    state
+    next
 }
 
 // `step INPUT CHOICE`: a refused step leaves the state as it was.
@@ -62,19 +70,18 @@ fn step(state: SingleOperator, input: u64, choice: u64, words: &mut [u32; 1024])
             state
         }
         Stepped::Sent { output, next } => {
-            sent(state.slot, bounds, output);
-            labelled(b" held ", held_in(next, words));
-            end_line();
+            sent(state.slot, bounds, output, held_in(next, words));
             next
         }
     }
 }
 
-fn sent(slot: Slots, bounds: Bounds, output: Units) {
+// A step that is sent has bounds.
+fn sent(slot: Slots, bounds: Bounds, output: Units, held: u64) {
     if let Bounds::Outputs { least, greatest } = bounds {
-        between(slot, least, greatest);
+        let numbers = [slot.0 as u64, least.0, greatest.0, output.0, held];
+        row(b"slot | least | greatest | output | held ", &numbers);
     }
-    labelled(b" output ", output.0);
 }
 
 // `bounds INPUT`
@@ -82,16 +89,10 @@ fn ask_bounds(state: SingleOperator, input: u64, words: &[u32; 1024]) {
     match bounds_in(state, words, Units(input)) {
         Bounds::Refused(why) => refused(why),
         Bounds::Outputs { least, greatest } => {
-            between(state.slot, least, greatest);
-            end_line();
+            let numbers = [state.slot.0 as u64, least.0, greatest.0];
+            row(b"slot | least | greatest ", &numbers);
         }
     }
-}
-
-fn between(slot: Slots, least: Units, greatest: Units) {
-    labelled(b"slot ", slot.0 as u64);
-    labelled(b" least ", least.0);
-    labelled(b" greatest ", greatest.0);
 }
 
 // The library's calls on the operator's words.
@@ -116,27 +117,6 @@ fn held_in(state: SingleOperator, words: &[u32; 1024]) -> u64 {
         Stored::Holds(held) => held.0,
         Stored::Unusable => 0,
     }
-}
-
-fn set_slot(state: SingleOperator, slot: Slots) -> SingleOperator {
-    is_set(b"slot ", slot.0 as u64);
-    let mut next = state;
-    next.slot = slot;
-    next
-}
-
-fn set_held(state: SingleOperator, held: Units) -> SingleOperator {
-    is_set(b"held ", held.0);
-    let mut next = state;
-    next.held = held;
-    next
-}
-
-fn set_beside(state: SingleOperator, beside: Units) -> SingleOperator {
-    is_set(b"beside ", beside.0);
-    let mut next = state;
-    next.beside = beside;
-    next
 }
 
 // `state`
