@@ -7,7 +7,6 @@ use crate::line::Line;
 use crate::line::Said;
 use crate::line::UNIFORM;
 use crate::line::count_from;
-use crate::line::without_declaration;
 use console::numbers::narrow;
 use console::rows::rows_of;
 use flow::Declaration;
@@ -18,14 +17,17 @@ ghost use Prim.Native.Nat.{_≤_};
 
 pub(crate) fn read_declaration(word: usize, line: &[u8], from: usize) -> Line {
     let mut numbers = [0u64; 10];
+    let mut count = 0;
     let places = places_of(word);
-    match count_from(line, from, &mut numbers[0..places]) {
-        Count::Wrong(why) => without_declaration(Said::Wrong(why)),
-        Count::Numbers(n) => Line {
-            said: said_of(&numbers, n),
-            declaration: declaration_of(word, n / 2, &numbers),
-        },
-    }
+    let said = match count_from(line, from, &mut numbers[0..places]) {
+        Count::Wrong(why) => Said::Wrong(why),
+        Count::Numbers(n) => {
+            count = n;
+            said_of(&numbers, n)
+        }
+    };
+    let declaration = declaration_of(word, count / 2, &numbers);
+    Line { said, declaration }
 }
 
 // Several rows have room for five, one more than there may be.

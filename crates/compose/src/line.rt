@@ -75,7 +75,7 @@ pub(crate) fn read_line(line: &[u8]) -> Line {
 
 fn read_other(word: usize, line: &[u8], from: usize) -> Said {
     match word {
-        0..=4 => said_linked_by(word, number_and_link(line, from)),
+        0..=4 => said_linked(word, number_and_link(line, from)),
         5 => said_wanted(one_number(line, from)),
         6 => read_profile(line, from),
         _ => Said::Wrong(Fault::UnknownWord),
@@ -102,21 +102,21 @@ fn said_wanted(numbers: Numbers) -> Said {
 }
 
 // `limiter R link k`, and so for each operator
-fn said_linked_by(kind: usize, numbers: Numbers) -> Said {
+fn said_linked(kind: usize, numbers: Numbers) -> Said {
     match numbers {
         Numbers::Wrong(why) => Said::Wrong(why),
-        Numbers::Given { first, second } => said_linked(operator_of(kind, first), Link(second)),
+        Numbers::Given { first, second } => {
+            let operator = operator_of(kind, first);
+            let link = Link(second);
+            if !operator.number_in_range() {
+                return Said::Wrong(number_fault(operator));
+            }
+            if !link.in_range() {
+                return Said::Wrong(Fault::LinkOutOfRange);
+            }
+            Said::LinkedOperator(LinkedOperator { operator, link })
+        }
     }
-}
-
-fn said_linked(operator: Operator, link: Link) -> Said {
-    if !operator.number_in_range() {
-        return Said::Wrong(number_fault(operator));
-    }
-    if !link.in_range() {
-        return Said::Wrong(Fault::LinkOutOfRange);
-    }
-    Said::LinkedOperator(LinkedOperator { operator, link })
 }
 
 fn operator_of(kind: usize, number: u32) -> Operator {
@@ -159,10 +159,7 @@ fn link_behind(number: u32, line: &[u8], end: usize) -> Numbers {
         return Numbers::Wrong(Fault::NotANumber);
     }
     let behind = end + 1;
-    with_link(number, &line[behind..])
-}
-
-fn with_link(number: u32, rest: &[u8]) -> Numbers {
+    let rest = &line[behind..];
     let found = find(b"link", rest);
     if 0 < found.index {
         return Numbers::Wrong(Fault::LinkMissing);

@@ -80,6 +80,7 @@ fn said_in(input: Input, line: &[u8; 1023]) -> Line
 {
     let length = input.length;
     let whole = &line[..];
+    let text = &whole[0..length];
     if input.too_long {
         return without_declaration(Said::Wrong(Fault::LineTooLong));
     }
@@ -87,9 +88,9 @@ fn said_in(input: Input, line: &[u8; 1023]) -> Line
         return without_declaration(Said::Nothing);
     }
     if input.lines == 1 {
-        return read_first(&whole[0..length]);
+        return read_first(text);
     }
-    read_line(&whole[0..length])
+    read_line(text)
 }
 
 fn read_first(line: &[u8]) -> Line {
@@ -101,29 +102,22 @@ fn read_first(line: &[u8]) -> Line {
     read_line(line)
 }
 
-// Behind a wrong line the rest of its path is passed over.
-fn take(draft: Draft, lines: u64, line: Line) -> Draft {
+// What a line says goes to its place in the path, if it is the one that comes next. Behind a wrong line the rest of its path is passed over.
+fn take(mut draft: Draft, lines: u64, line: Line) -> Draft {
     let said = line.said;
-    match said {
-        Said::Nothing => end_path(draft, lines),
-        Said::Hexadecimal => {
-            let mut next = draft;
-            next.many = true;
-            next
-        }
-        _ => if draft.wrong {
-            draft
-        } else {
-            take_part(draft, lines, line)
-        },
+    if let Said::Nothing = said {
+        return end_path(draft, lines);
     }
-}
-
-// What a line says goes to its place in the path, if it is the one that comes next.
-fn take_part(draft: Draft, lines: u64, line: Line) -> Draft {
-    let said = line.said;
-    if let Said::Wrong(why) = said {
-        return fail(draft, lines, why);
+    if draft.wrong {
+        return draft;
+    }
+    match said {
+        Said::Hexadecimal => {
+            draft.many = true;
+            return draft;
+        }
+        Said::Wrong(why) => return fail(draft, lines, why),
+        _ => {}
     }
     let turn = turn_of(said);
     if turn.this == draft.next {
@@ -133,11 +127,10 @@ fn take_part(draft: Draft, lines: u64, line: Line) -> Draft {
 }
 
 // There is no sheet then, and without `hex` the first wrong line is the last that is read.
-fn fail(draft: Draft, lines: u64, why: Fault) -> Draft {
+fn fail(mut draft: Draft, lines: u64, why: Fault) -> Draft {
     say(lines, why);
-    let mut next = draft;
-    next.wrong = true;
-    next
+    draft.wrong = true;
+    draft
 }
 
 // An empty line, where there are many paths: the one so far ends, if there is any, and the next begins.
@@ -149,12 +142,13 @@ fn end_path(draft: Draft, lines: u64) -> Draft {
     if some {
         answer(draft, lines);
     }
+    let answered = draft.answered || some;
     Draft {
         path: no_path(),
         next: FIRST,
         wrong: false,
         many: true,
-        answered: draft.answered || some,
+        answered,
     }
 }
 
@@ -192,40 +186,38 @@ fn order_fault(next: u8, this: u8) -> Fault {
 // Behind sixteen operators comes nothing.
 fn put(draft: Draft, next: u8, line: Line) -> Draft {
     let path = path_with(draft.path, line);
+    let behind = if path.count < 16 { next } else { NOTHING };
     Draft {
         path,
-        next: if path.count < 16 { next } else { NOTHING },
+        next: behind,
         wrong: false,
         many: draft.many,
         answered: draft.answered,
     }
 }
 
-fn path_with(path: PathValue, line: Line) -> PathValue {
-    let mut next = path;
+fn path_with(mut path: PathValue, line: Line) -> PathValue {
     let said = line.said;
     match said {
         Said::Declaration => {
             let declaration = line.declaration;
-            next.declaration = declaration;
+            path.declaration = declaration;
         }
-        Said::Wanted(wanted) => next.wanted = wanted,
-        Said::LinkedOperator(linked) => return with_linked(path, linked),
-        Said::House(house) => return with_form(path, Form::House(house)),
+        Said::Wanted(wanted) => path.wanted = wanted,
+        Said::LinkedOperator(linked) => path = with_linked(path, linked),
+        Said::House(house) => path = with_form(path, Form::House(house)),
         _ => {}
     }
-    next
+    path
 }
 
-fn with_linked(path: PathValue, linked: LinkedOperator) -> PathValue {
+fn with_linked(mut path: PathValue, linked: LinkedOperator) -> PathValue {
     let count = path.count;
-    if 16 <= count {
-        return path;
+    if count < 16 {
+        path.operators[count] = linked;
+        path.count = count + 1;
     }
-    let mut next = path;
-    next.operators[count] = linked;
-    next.count = count + 1;
-    next
+    path
 }
 
 fn with_form(path: PathValue, form: Form) -> PathValue {
@@ -253,9 +245,8 @@ fn answer(draft: Draft, lines: u64) {
     if draft.wrong {
         return;
     }
-    let path = draft.path;
-    if draft.next == NOTHING || 0 < path.count {
-        write_path(path, draft.many);
+    if draft.next == NOTHING || 0 < draft.path.count {
+        write_path(draft.path, draft.many);
     } else {
         say(lines, Fault::LineMissing);
     }

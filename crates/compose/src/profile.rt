@@ -132,20 +132,16 @@ fn said_of(house: House) -> Said {
 
 // The ranges from left to right; what is left then is the length of the delayer.
 fn fault_of(house: House) -> Fault {
-    let hops = house.hops;
-    let wanted = house.wanted;
-    let interval = house.interval;
-    let quota = house.quota;
-    if !hops.in_range() {
+    if !house.hops.in_range() {
         return Fault::HopsOutOfRange;
     }
-    if !wanted.in_range() {
+    if !house.wanted.in_range() {
         return Fault::WantedOutOfRange;
     }
-    if !interval.in_range() {
+    if !house.interval.in_range() {
         return Fault::IntervalOutOfRange;
     }
-    if !quota.in_range() {
+    if !house.quota.in_range() {
         return Fault::QuotaOutOfRange;
     }
     rate_fault(house)
@@ -153,20 +149,16 @@ fn fault_of(house: House) -> Fault {
 
 // Profile 0 uses none of the numbers that are left.
 fn rate_fault(house: House) -> Fault {
-    let rate = house.rate;
-    let own_packet = house.own_packet;
-    let longest_packet = house.longest_packet;
-    let link_rate = house.link_rate;
-    if !rate.in_range() {
+    if !house.rate.in_range() {
         return Fault::RateOutOfRange;
     }
-    if !own_packet.in_range() {
+    if !house.own_packet.in_range() {
         return Fault::PacketOutOfRange;
     }
-    if !longest_packet.in_range() {
+    if !house.longest_packet.in_range() {
         return Fault::PacketOutOfRange;
     }
-    if !link_rate.in_range() {
+    if !house.link_rate.in_range() {
         return Fault::LinkRateOutOfRange;
     }
     Fault::DelayerTooLong
