@@ -158,21 +158,20 @@ fn fault_of(which: Which, command: usize) -> usize {
     }
 }
 
-fn command_unit(unit: Unit, lines: u64, command: Command, words: &mut [u32; 1024]) -> Unit {
-    let mut next = unit;
+fn command_unit(mut unit: Unit, lines: u64, command: Command, words: &mut [u32; 1024]) -> Unit {
     let which = unit.which;
     match which {
         Which::Missing => {}
         Which::Alone => {
             let after = single::answer(unit.single, lines, command, words);
-            next.single = after;
+            unit.single = after;
         }
         Which::Metering => {
             let after = metering::answer(unit.meter, lines, command, words);
-            next.meter = after;
+            unit.meter = after;
         }
     }
-    next
+    unit
 }
 
 fn no_unit() -> Unit {

@@ -25,21 +25,20 @@ use quantity::Units;
 const COUNT: u64 = 1024;
 
 pub(crate) fn answer(
-    state: SourceMeter,
+    mut state: SourceMeter,
     lines: u64,
     command: Command,
     words: &mut [u32; 1024],
 ) -> SourceMeter {
     let index = command.index;
-    let mut next = state;
     match index {
         SET_SLOT => {
             let slot = set_slot(command.first);
-            next.slot = slot;
+            state.slot = slot;
         }
         SET_BLOCK => {
             let block = set_units(b"block ", command.first);
-            next.block = block;
+            state.block = block;
         }
         TAKE => return take(state, command.first, words),
         ROOM => ask_room(state, words),
@@ -48,7 +47,7 @@ pub(crate) fn answer(
         WORDS => list_words(lines, command.first, words, COUNT),
         _ => {}
     }
-    next
+    state
 }
 
 // `take INPUT`: where it is refused, the state that is handed back is the one that was given.

@@ -31,25 +31,24 @@ ghost use lib.ListN.{length};
 const COUNT: u64 = 64;
 
 pub(crate) fn answer(
-    state: SingleOperator,
+    mut state: SingleOperator,
     lines: u64,
     command: Command,
     words: &mut [u32; 1024],
 ) -> SingleOperator {
     let index = command.index;
-    let mut next = state;
     match index {
         SET_SLOT => {
             let slot = set_slot(command.first);
-            next.slot = slot;
+            state.slot = slot;
         }
         SET_HELD => {
             let held = set_units(b"held ", command.first);
-            next.held = held;
+            state.held = held;
         }
         SET_BESIDE => {
             let beside = set_units(b"beside ", command.first);
-            next.beside = beside;
+            state.beside = beside;
         }
         STEP => return step(state, command.first, command.second, words),
         BOUNDS => ask_bounds(state, command.first, words),
@@ -58,7 +57,7 @@ pub(crate) fn answer(
         WORDS => list_words(lines, command.first, words, COUNT),
         _ => {}
     }
-    next
+    state
 }
 
 // `step INPUT CHOICE`: a refused step leaves the state as it was.
@@ -108,12 +107,11 @@ fn step_in(state: SingleOperator, words: &mut [u32], input: Units, choice: Units
 }
 
 // Section 3's b. It does not depend on the slot, and is asked for as in slot 0: behind the last slot the call refuses.
-fn held_in(state: SingleOperator, words: &[u32; 1024]) -> u64 {
-    let mut asked = state;
+fn held_in(mut state: SingleOperator, words: &[u32; 1024]) -> u64 {
     let slot = Slots(0);
-    asked.slot = slot;
+    state.slot = slot;
     let all = &words[..];
-    match stored_in(asked, &all[0..64]) {
+    match stored_in(state, &all[0..64]) {
         Stored::Holds(held) => held.0,
         Stored::Unusable => 0,
     }
