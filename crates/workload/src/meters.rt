@@ -1,6 +1,7 @@
 // Inputs of a meter alone.
 
 use crate::after;
+use crate::input_at;
 use crate::mix;
 use crate::mix_refusal;
 use flow::Declaration;
@@ -27,30 +28,28 @@ pub extern "C" fn workload_metering(
     slot: u32,
     words: &mut [u32],
     inputs: &[u64],
-    turns: u64,
+    mut turns: u64,
 ) -> u64 {
-    let mut sum: u64 = 0;
     if declared.len() != NUMBERS {
-        return sum;
+        return 0;
     }
     if inputs.len() == 0 {
-        return sum;
+        return 0;
     }
-    let declaration = declaration_of(declared);
     let mut state = SourceMeter {
-        declaration,
+        declaration: declaration_of(declared),
         slot: Slots(slot),
         block: Units(0),
     };
+    let mut sum = 0;
     let mut t = 0;
-    let mut left = turns;
-    while 0 < left {
-        let answer = take(state, words, Units(inputs[t]));
+    while 0 < turns {
+        let answer = take(state, words, input_at(inputs, t));
         let intake = answer.intake;
         state = answer.state;
         sum = mix_intake(sum, intake);
         t = after(t, 1, inputs.len());
-        left -= 1;
+        turns -= 1;
     }
     mix(mix(sum, state.slot.0 as u64), state.block.0)
 }
@@ -60,17 +59,16 @@ fn declaration_of(numbers: &[u32]) -> Declaration
 {
     let kind = numbers[0];
     let first = row_of(numbers, 2);
-    if kind == 0 {
-        return Declaration::of_one_row(Kind::Smooth, first.interval, first.quota);
+    match kind {
+        0 => Declaration::of_one_row(Kind::Smooth, first.interval, first.quota),
+        1 => Declaration::of_one_row(Kind::Uniform, first.interval, first.quota),
+        _ => {
+            let second = row_of(numbers, 4);
+            let third = row_of(numbers, 6);
+            let fourth = row_of(numbers, 8);
+            Declaration::of_rows(size(numbers[1]), [first, second, third, fourth])
+        }
     }
-    if kind == 1 {
-        return Declaration::of_one_row(Kind::Uniform, first.interval, first.quota);
-    }
-    let second = row_of(numbers, 4);
-    let third = row_of(numbers, 6);
-    let fourth = row_of(numbers, 8);
-    let rows = [first, second, third, fourth];
-    Declaration::of_rows(size(numbers[1]), rows)
 }
 
 fn size(number: u32) -> usize {

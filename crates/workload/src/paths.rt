@@ -1,8 +1,11 @@
 // Paths held in a ledger, and confirmed there, releases from it and the spare rates of its links. Each turn begins with the same ledger.
 
 use crate::after;
+use crate::least;
 use crate::mix;
+use crate::mix_pair;
 use crate::mix_refusal;
+use crate::sheet_at;
 use book::ConfirmedPath;
 use book::HeldPath;
 use book::ReleasedPath;
@@ -30,28 +33,30 @@ struct Book {
 fn filled(capacity: u32, numbers: &[u32], sheets: &[u8], width: usize) -> Book
     requires { ⌜ width ≤ length (now sheets) ⌝ }
 {
-    let none = no_record();
-    let opened = open_book([capacity; 16], [none; 64]);
-    let records = opened.records;
-    let answer = opened.opened;
-    let ledger = answer.ledger;
-    let mut book = Book { ledger, records };
+    let mut book = opened(capacity);
     let mut at = 0;
     let mut left = numbers.len();
     while 0 < left {
         left -= 1;
-        let ledger = book.ledger;
-        let records = book.records;
-        let end = at + width;
-        let number = numbers[left];
-        book = settled(hold_path(ledger, records, number, &sheets[at..end]), number);
+        book = settled(book, numbers[left], sheet_at(sheets, at, width));
         at = after(at, width, sheets.len());
     }
     book
 }
 
+fn opened(capacity: u32) -> Book {
+    let none = no_record();
+    let answer = open_book([capacity; 16], [none; 64]);
+    let opened = answer.opened;
+    let ledger = opened.ledger;
+    let records = answer.records;
+    Book { ledger, records }
+}
+
 // The book once a path was held and, if that was accepted, confirmed.
-fn settled(answer: HeldPath, number: u32) -> Book {
+fn settled(book: Book, number: u32, sheet: &[u8]) -> Book {
+    let records = book.records;
+    let answer = hold_path(book.ledger, records, number, sheet);
     let holding = answer.holding;
     let ledger = holding.ledger;
     let held = answer.records;
@@ -77,30 +82,23 @@ pub extern "C" fn workload_holdings(
     further: &[u32],
     sheets: &[u8],
     width: usize,
-    turns: u64,
+    mut turns: u64,
 ) -> u64 {
-    let mut sum: u64 = 0;
     if further.len() == 0 {
-        return sum;
+        return 0;
     }
-    if sheets.len() < width {
-        return sum;
-    }
+    let width = least(width, sheets.len());
     let book = filled(capacity, standing, sheets, width);
-    let ledger = book.ledger;
     let records = book.records;
+    let mut sum = 0;
     let mut at = 0;
     let mut j = 0;
-    let mut left = turns;
-    while 0 < left {
-        let end = at + width;
-        sum = mix_held(
-            sum,
-            hold_path(ledger, records, further[j], &sheets[at..end]),
-        );
+    while 0 < turns {
+        let sheet = sheet_at(sheets, at, width);
+        sum = mix_held(sum, hold_path(book.ledger, records, further[j], sheet));
         at = after(at, width, sheets.len());
         j = after(j, 1, further.len());
-        left -= 1;
+        turns -= 1;
     }
     sum
 }
@@ -113,32 +111,24 @@ pub extern "C" fn workload_confirmings(
     further: &[u32],
     sheets: &[u8],
     width: usize,
-    turns: u64,
+    mut turns: u64,
 ) -> u64 {
-    let mut sum: u64 = 0;
     if further.len() == 0 {
-        return sum;
+        return 0;
     }
-    if sheets.len() < width {
-        return sum;
-    }
+    let width = least(width, sheets.len());
     let book = filled(capacity, standing, sheets, width);
-    let ledger = book.ledger;
     let records = book.records;
+    let mut sum = 0;
     let mut at = 0;
     let mut j = 0;
-    let mut left = turns;
-    while 0 < left {
-        let end = at + width;
+    while 0 < turns {
+        let sheet = sheet_at(sheets, at, width);
         let number = further[j];
-        sum = mix_settled(
-            sum,
-            hold_path(ledger, records, number, &sheets[at..end]),
-            number,
-        );
+        sum = mix_settled(sum, hold_path(book.ledger, records, number, sheet), number);
         at = after(at, width, sheets.len());
         j = after(j, 1, further.len());
-        left -= 1;
+        turns -= 1;
     }
     sum
 }
@@ -151,28 +141,24 @@ pub extern "C" fn workload_releases(
     released: &[u32],
     sheets: &[u8],
     width: usize,
-    turns: u64,
+    mut turns: u64,
 ) -> u64 {
-    let mut sum: u64 = 0;
     if released.len() == 0 {
-        return sum;
+        return 0;
     }
-    if sheets.len() < width {
-        return sum;
-    }
+    let width = least(width, sheets.len());
     let book = filled(capacity, standing, sheets, width);
-    let ledger = book.ledger;
     let records = book.records;
+    let mut sum = 0;
     let mut j = 0;
-    let mut left = turns;
-    while 0 < left {
+    while 0 < turns {
         sum = mix_released(
             sum,
-            release_path(ledger, records, released[j]),
-            (left % 64) as usize,
+            release_path(book.ledger, records, released[j]),
+            (turns % 64) as usize,
         );
         j = after(j, 1, released.len());
-        left -= 1;
+        turns -= 1;
     }
     sum
 }
@@ -185,25 +171,22 @@ pub extern "C" fn workload_spare_rates(
     asked: &[u32],
     sheets: &[u8],
     width: usize,
-    turns: u64,
+    mut turns: u64,
 ) -> u64 {
-    let mut sum: u64 = 0;
     if asked.len() == 0 {
-        return sum;
+        return 0;
     }
-    if sheets.len() < width {
-        return sum;
-    }
+    let width = least(width, sheets.len());
     let book = filled(capacity, standing, sheets, width);
     let mut ledger = book.ledger;
+    let mut sum = 0;
     let mut j = 0;
-    let mut left = turns;
-    while 0 < left {
+    while 0 < turns {
         let link = asked[j];
         ledger.capacities[(link % 16) as usize] = LinkCapacity(capacity);
         sum = mix_spare(sum, spare_rate(ledger, link));
         j = after(j, 1, asked.len());
-        left -= 1;
+        turns -= 1;
     }
     sum
 }
@@ -218,15 +201,11 @@ fn mix_spare(sum: u64, answer: Spare) -> u64 {
 
 fn mix_held(sum: u64, answer: HeldPath) -> u64 {
     let holding = answer.holding;
-    let ledger = holding.ledger;
     let verdict = holding.verdict;
-    let next = mix(sum, ledger.count as u64);
+    let next = mix(sum, holding.ledger.count as u64);
     match verdict {
         Verdict::Refused(why) => mix_refusal(next, why),
-        Verdict::Accepted => {
-            let entry = answer.records[63];
-            mix_record(mix(next, holding.delay.0 as u64), entry)
-        }
+        Verdict::Accepted => mix_record(mix(next, holding.delay.0 as u64), answer.records[63]),
     }
 }
 
@@ -238,9 +217,8 @@ fn mix_settled(sum: u64, answer: HeldPath, number: u32) -> u64 {
     match verdict {
         Verdict::Refused(_) => next,
         Verdict::Accepted => {
-            let ledger = holding.ledger;
             let held = answer.records;
-            mix_confirmed(next, confirm_path(ledger, held, number))
+            mix_confirmed(next, confirm_path(holding.ledger, held, number))
         }
     }
 }
@@ -250,10 +228,7 @@ fn mix_confirmed(sum: u64, answer: ConfirmedPath) -> u64 {
     let verdict = confirmed.verdict;
     match verdict {
         Verdict::Refused(why) => mix_refusal(sum, why),
-        Verdict::Accepted => {
-            let entry = answer.records[63];
-            mix_record(sum, entry)
-        }
+        Verdict::Accepted => mix_record(sum, answer.records[63]),
     }
 }
 
@@ -261,10 +236,9 @@ fn mix_released(sum: u64, answer: ReleasedPath, k: usize) -> u64
     requires { ⌜ k < 64 ⌝ }
 {
     let released = answer.released;
-    let ledger = released.ledger;
     let verdict = released.verdict;
     let entry = answer.records[k];
-    let next = mix_record(mix(sum, ledger.count as u64), entry);
+    let next = mix_record(mix(sum, released.ledger.count as u64), entry);
     match verdict {
         Verdict::Refused(why) => mix_refusal(next, why),
         Verdict::Accepted => next,
@@ -272,6 +246,6 @@ fn mix_released(sum: u64, answer: ReleasedPath, k: usize) -> u64
 }
 
 fn mix_record(sum: u64, entry: Record) -> u64 {
-    let path = mix(mix(sum, entry.number.0 as u64), entry.rate.0 as u64);
-    mix(mix(path, entry.links as u64), entry.mark as u64)
+    let next = mix_pair(sum, entry.number.0, entry.rate.0);
+    mix_pair(next, entry.links, entry.mark)
 }

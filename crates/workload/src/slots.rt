@@ -1,6 +1,8 @@
 // Slots of a run.
 
 use crate::after;
+use crate::input_at;
+use crate::least;
 use crate::mix;
 use crate::mix_refusal;
 use quantity::Units;
@@ -11,22 +13,23 @@ use run::slot::Slotted;
 use run::slot::slot;
 use sheet::read::Verdict;
 use words::all_clear;
+ghost use Prim.Native.Nat.{_+_, _≤_};
+ghost use lib.ListN.{length};
 
 // Reads all words once in each turn, and stores one of them anew: the least that the test of a run's words leaves possible.
 #[no_mangle]
-pub extern "C" fn workload_words(words: &mut [u32], turns: u64) -> u64 {
+pub extern "C" fn workload_words(words: &mut [u32], mut turns: u64) -> u64 {
     let mut sum: u64 = 0;
     if words.len() == 0 {
         return sum;
     }
     let mut at = 0;
-    let mut left = turns;
-    while 0 < left {
+    while 0 < turns {
         let clear = if all_clear(&words[..]) { 1 } else { 0 };
         sum = mix(sum, clear);
         words[at] = 0;
         at = after(at, 1, words.len());
-        left -= 1;
+        turns -= 1;
     }
     sum
 }
@@ -45,10 +48,7 @@ pub extern "C" fn workload_slots(
     let verdict = opened.verdict;
     match verdict {
         Verdict::Refused(why) => mix_refusal(0, why),
-        Verdict::Accepted => {
-            let run = opened.run;
-            slots_of(run, words, inputs, choices, width, turns)
-        }
+        Verdict::Accepted => slots_of(opened.run, words, inputs, choices, width, turns),
     }
 }
 
@@ -59,42 +59,47 @@ fn slots_of(
     inputs: &[u64],
     choices: &[u64],
     width: usize,
-    turns: u64,
+    mut turns: u64,
 ) -> u64 {
     if inputs.len() == 0 {
         return 0;
     }
-    if choices.len() < width {
-        return 0;
-    }
+    let width = least(width, choices.len());
     let mut even = Slotted {
         outcome: Outcome::Sent(Units(0)),
         run,
     };
-    let mut sum: u64 = 0;
+    let mut sum = 0;
     let mut t = 0;
     let mut at = 0;
-    let mut left = turns;
-    while 0 < left {
-        let end = at + width;
-        let odd = slot(even.run, words, Units(inputs[t]), &choices[at..end]);
+    while 0 < turns {
+        let chosen = choices_at(choices, at, width);
+        let odd = slot(even.run, words, input_at(inputs, t), chosen);
         let outcome = odd.outcome;
         sum = mix_outcome(sum, outcome);
         t = after(t, 1, inputs.len());
         at = after(at, width, choices.len());
-        left -= 1;
-        if left == 0 {
+        turns -= 1;
+        if turns == 0 {
             return mix_run(sum, odd.run);
         }
-        let end = at + width;
-        even = slot(odd.run, words, Units(inputs[t]), &choices[at..end]);
+        let chosen = choices_at(choices, at, width);
+        even = slot(odd.run, words, input_at(inputs, t), chosen);
         let outcome = even.outcome;
         sum = mix_outcome(sum, outcome);
         t = after(t, 1, inputs.len());
         at = after(at, width, choices.len());
-        left -= 1;
+        turns -= 1;
     }
     mix_run(sum, even.run)
+}
+
+// A slot's choices, which begin at an index.
+fn choices_at(choices: &[u64], at: usize, width: usize) -> &[u64]
+    requires { ⌜ at + width ≤ length (now choices) ⌝ }
+{
+    let end = at + width;
+    &choices[at..end]
 }
 
 fn mix_outcome(sum: u64, outcome: Outcome) -> u64 {
@@ -106,7 +111,7 @@ fn mix_outcome(sum: u64, outcome: Outcome) -> u64 {
 
 // The slot, the block and what each stage of the path stores.
 fn mix_run(sum: u64, run: Run) -> u64 {
-    let count = if run.count < 16 { run.count } else { 16 };
+    let count = least(run.count, 16);
     let mut next = mix(mix(sum, run.slot.0 as u64), run.block.0);
     let mut k = 0;
     while k < count {

@@ -7,10 +7,10 @@ use Rattle.workload.proofs.meters.workload_metering.Statement.{statemen
 use Rattle.workload.proofs.meters.workload_metering.Tie as tie
 
 abbrev Inv-loop : tie.InvT-loop
-Inv-loop declared slot words₀ inputs turns sum₀ state₀ t₀ left₀ words sum state t left = (t + 1 ≤ length inputs) × (length words ≡ length words₀)
+Inv-loop declared slot words₀ inputs turns₀ state₀ sum₀ t₀ words turns state sum t = (t + 1 ≤ length inputs) × (length words ≡ length words₀)
 
 abbrev μ-loop : tie.MeasureT-loop
-μ-loop declared slot words₀ inputs turns sum₀ state₀ t₀ left₀ words sum state t left = left
+μ-loop declared slot words₀ inputs turns₀ state₀ sum₀ t₀ words turns state sum t = turns
 
 returns : tie.Need-returns Inv-loop μ-loop
 returns c = search needs
@@ -24,11 +24,8 @@ declaration-of-requires c κs = search needs
 loop-holds : tie.Need-loop-holds Inv-loop μ-loop
 loop-holds c = search needs
 
-mul-t20 : tie.Need-mul-t20 Inv-loop μ-loop
-mul-t20 c = search needs
-
-shared-slice-read-t22 : tie.Need-shared-slice-read-t22 Inv-loop μ-loop
-shared-slice-read-t22 c = search needs
+input-at-requires : tie.Need-input-at-requires Inv-loop μ-loop
+input-at-requires c κs = search needs
 
 take-requires : tie.Need-take-requires Inv-loop μ-loop
 take-requires c κs = search needs
@@ -39,8 +36,8 @@ mix-intake-requires c κs = search needs
 after-requires : tie.Need-after-requires Inv-loop μ-loop
 after-requires c κs = search needs
 
-sub-left : tie.Need-sub-left Inv-loop μ-loop
-sub-left c = search needs
+sub-turns : tie.Need-sub-turns Inv-loop μ-loop
+sub-turns c = search needs
 
 loop-less : tie.Need-loop-less Inv-loop μ-loop
 loop-less c = search needs
@@ -73,12 +70,11 @@ workload-metering-spec =
     returns-2
     declaration-of-requires
     loop-holds
-    mul-t20
-    shared-slice-read-t22
+    input-at-requires
     take-requires
     mix-intake-requires
     after-requires
-    sub-left
+    sub-turns
     loop-less
     loop-again
     cast-mix

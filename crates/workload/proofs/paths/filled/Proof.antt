@@ -11,11 +11,8 @@ Inv-loop capacity numbers sheets width book₀ at₀ left₀ book at left = (at 
 abbrev μ-loop : tie.MeasureT-loop
 μ-loop capacity numbers sheets width book₀ at₀ left₀ book at left = left
 
-no-record-requires : tie.Need-no-record-requires Inv-loop μ-loop
-no-record-requires c κs = search needs
-
-open-book-requires : tie.Need-open-book-requires Inv-loop μ-loop
-open-book-requires c κs = search needs
+opened-requires : tie.Need-opened-requires Inv-loop μ-loop
+opened-requires c κs = search needs
 
 loop-holds : tie.Need-loop-holds Inv-loop μ-loop
 loop-holds c = search needs
@@ -23,26 +20,14 @@ loop-holds c = search needs
 sub-left : tie.Need-sub-left Inv-loop μ-loop
 sub-left c = search needs
 
-add-end : tie.Need-add-end Inv-loop μ-loop
-add-end c = search needs
+mul-settled : tie.Need-mul-settled Inv-loop μ-loop
+mul-settled c = search needs
 
-mul-number : tie.Need-mul-number Inv-loop μ-loop
-mul-number c = search needs
+shared-slice-read-settled : tie.Need-shared-slice-read-settled Inv-loop μ-loop
+shared-slice-read-settled c = search needs
 
-shared-slice-read-number : tie.Need-shared-slice-read-number Inv-loop μ-loop
-shared-slice-read-number c = search needs
-
-sub-hold-path : tie.Need-sub-hold-path Inv-loop μ-loop
-sub-hold-path c = search needs
-
-part-hold-path-start : tie.Need-part-hold-path-start Inv-loop μ-loop
-part-hold-path-start c = search needs
-
-part-hold-path-end : tie.Need-part-hold-path-end Inv-loop μ-loop
-part-hold-path-end c = search needs
-
-hold-path-requires : tie.Need-hold-path-requires Inv-loop μ-loop
-hold-path-requires c κs = search needs
+sheet-at-requires : tie.Need-sheet-at-requires Inv-loop μ-loop
+sheet-at-requires c κs = search needs
 
 settled-requires : tie.Need-settled-requires Inv-loop μ-loop
 settled-requires c κs = search needs
@@ -65,17 +50,12 @@ filled-spec =
     (tie.spec
     Inv-loop
     μ-loop
-    no-record-requires
-    open-book-requires
+    opened-requires
     loop-holds
     sub-left
-    add-end
-    mul-number
-    shared-slice-read-number
-    sub-hold-path
-    part-hold-path-start
-    part-hold-path-end
-    hold-path-requires
+    mul-settled
+    shared-slice-read-settled
+    sheet-at-requires
     settled-requires
     after-requires
     loop-less

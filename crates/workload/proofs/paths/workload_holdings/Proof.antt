@@ -6,16 +6,16 @@ use Rattle.workload.proofs.paths.workload_holdings.Statement.{statement
 use Rattle.workload.proofs.paths.workload_holdings.Tie as tie
 
 abbrev Inv-loop : tie.InvT-loop
-Inv-loop capacity standing further sheets width turns sum₀ ledger records at₀ j₀ left₀ sum at j left = (at + width ≤ length sheets) × (j + 1 ≤ length further)
+Inv-loop capacity standing further sheets width turns₀ width' book records sum₀ at₀ j₀ turns sum at j = (at + width' ≤ length sheets) × (j + 1 ≤ length further)
 
 abbrev μ-loop : tie.MeasureT-loop
-μ-loop capacity standing further sheets width turns sum₀ ledger records at₀ j₀ left₀ sum at j left = left
+μ-loop capacity standing further sheets width turns₀ width' book records sum₀ at₀ j₀ turns sum at j = turns
 
 returns : tie.Need-returns Inv-loop μ-loop
 returns c = search needs
 
-returns-2 : tie.Need-returns-2 Inv-loop μ-loop
-returns-2 c = search needs
+least-requires : tie.Need-least-requires Inv-loop μ-loop
+least-requires c κs = search needs
 
 filled-requires : tie.Need-filled-requires Inv-loop μ-loop
 filled-requires c κs = search needs
@@ -23,23 +23,14 @@ filled-requires c κs = search needs
 loop-holds : tie.Need-loop-holds Inv-loop μ-loop
 loop-holds c = search needs
 
-add-end : tie.Need-add-end Inv-loop μ-loop
-add-end c = search needs
+sheet-at-requires : tie.Need-sheet-at-requires Inv-loop μ-loop
+sheet-at-requires c κs = search needs
 
 mul-hold-path : tie.Need-mul-hold-path Inv-loop μ-loop
 mul-hold-path c = search needs
 
 shared-slice-read-hold-path : tie.Need-shared-slice-read-hold-path Inv-loop μ-loop
 shared-slice-read-hold-path c = search needs
-
-sub-hold-path : tie.Need-sub-hold-path Inv-loop μ-loop
-sub-hold-path c = search needs
-
-part-hold-path-start : tie.Need-part-hold-path-start Inv-loop μ-loop
-part-hold-path-start c = search needs
-
-part-hold-path-end : tie.Need-part-hold-path-end Inv-loop μ-loop
-part-hold-path-end c = search needs
 
 hold-path-requires : tie.Need-hold-path-requires Inv-loop μ-loop
 hold-path-requires c κs = search needs
@@ -53,8 +44,8 @@ after-requires c κs = search needs
 after-requires-2 : tie.Need-after-requires-2 Inv-loop μ-loop
 after-requires-2 c κs = search needs
 
-sub-left : tie.Need-sub-left Inv-loop μ-loop
-sub-left c = search needs
+sub-turns : tie.Need-sub-turns Inv-loop μ-loop
+sub-turns c = search needs
 
 loop-less : tie.Need-loop-less Inv-loop μ-loop
 loop-less c = search needs
@@ -62,8 +53,8 @@ loop-less c = search needs
 loop-again : tie.Need-loop-again Inv-loop μ-loop
 loop-again c = search needs
 
-returns-3 : tie.Need-returns-3 Inv-loop μ-loop
-returns-3 c = search needs
+returns-2 : tie.Need-returns-2 Inv-loop μ-loop
+returns-2 c = search needs
 
 pub workload-holdings-spec : {M : Type 1} → statement M
 workload-holdings-spec =
@@ -72,20 +63,17 @@ workload-holdings-spec =
     Inv-loop
     μ-loop
     returns
-    returns-2
+    least-requires
     filled-requires
     loop-holds
-    add-end
+    sheet-at-requires
     mul-hold-path
     shared-slice-read-hold-path
-    sub-hold-path
-    part-hold-path-start
-    part-hold-path-end
     hold-path-requires
     mix-held-requires
     after-requires
     after-requires-2
-    sub-left
+    sub-turns
     loop-less
     loop-again
-    returns-3)
+    returns-2)

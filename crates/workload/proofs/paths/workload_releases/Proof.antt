@@ -6,16 +6,16 @@ use Rattle.workload.proofs.paths.workload_releases.Statement.{statement
 use Rattle.workload.proofs.paths.workload_releases.Tie as tie
 
 abbrev Inv-loop : tie.InvT-loop
-Inv-loop capacity standing released sheets width turns sum₀ ledger records j₀ left₀ sum j left = j + 1 ≤ length released
+Inv-loop capacity standing released sheets width turns₀ width' book records sum₀ j₀ turns sum j = j + 1 ≤ length released
 
 abbrev μ-loop : tie.MeasureT-loop
-μ-loop capacity standing released sheets width turns sum₀ ledger records j₀ left₀ sum j left = left
+μ-loop capacity standing released sheets width turns₀ width' book records sum₀ j₀ turns sum j = turns
 
 returns : tie.Need-returns Inv-loop μ-loop
 returns c = search needs
 
-returns-2 : tie.Need-returns-2 Inv-loop μ-loop
-returns-2 c = search needs
+least-requires : tie.Need-least-requires Inv-loop μ-loop
+least-requires c κs = search needs
 
 filled-requires : tie.Need-filled-requires Inv-loop μ-loop
 filled-requires c κs = search needs
@@ -38,8 +38,8 @@ mix-released-requires c κs = search needs
 after-requires : tie.Need-after-requires Inv-loop μ-loop
 after-requires c κs = search needs
 
-sub-left : tie.Need-sub-left Inv-loop μ-loop
-sub-left c = search needs
+sub-turns : tie.Need-sub-turns Inv-loop μ-loop
+sub-turns c = search needs
 
 loop-less : tie.Need-loop-less Inv-loop μ-loop
 loop-less c = search needs
@@ -47,8 +47,8 @@ loop-less c = search needs
 loop-again : tie.Need-loop-again Inv-loop μ-loop
 loop-again c = search needs
 
-returns-3 : tie.Need-returns-3 Inv-loop μ-loop
-returns-3 c = search needs
+returns-2 : tie.Need-returns-2 Inv-loop μ-loop
+returns-2 c = search needs
 
 pub workload-releases-spec : {M : Type 1} → statement M
 workload-releases-spec =
@@ -57,7 +57,7 @@ workload-releases-spec =
     Inv-loop
     μ-loop
     returns
-    returns-2
+    least-requires
     filled-requires
     loop-holds
     mul-release-path
@@ -65,7 +65,7 @@ workload-releases-spec =
     release-path-requires
     mix-released-requires
     after-requires
-    sub-left
+    sub-turns
     loop-less
     loop-again
-    returns-3)
+    returns-2)

@@ -6,16 +6,16 @@ use Rattle.workload.proofs.paths.workload_spare_rates.Statement.{statem
 use Rattle.workload.proofs.paths.workload_spare_rates.Tie as tie
 
 abbrev Inv-loop : tie.InvT-loop
-Inv-loop capacity standing asked sheets width turns sum₀ ledger₀ j₀ left₀ sum ledger j left = j + 1 ≤ length asked
+Inv-loop capacity standing asked sheets width turns₀ width' ledger₀ sum₀ j₀ turns ledger sum j = j + 1 ≤ length asked
 
 abbrev μ-loop : tie.MeasureT-loop
-μ-loop capacity standing asked sheets width turns sum₀ ledger₀ j₀ left₀ sum ledger j left = left
+μ-loop capacity standing asked sheets width turns₀ width' ledger₀ sum₀ j₀ turns ledger sum j = turns
 
 returns : tie.Need-returns Inv-loop μ-loop
 returns c = search needs
 
-returns-2 : tie.Need-returns-2 Inv-loop μ-loop
-returns-2 c = search needs
+least-requires : tie.Need-least-requires Inv-loop μ-loop
+least-requires c κs = search needs
 
 filled-requires : tie.Need-filled-requires Inv-loop μ-loop
 filled-requires c κs = search needs
@@ -47,8 +47,8 @@ mix-spare-requires c κs = search needs
 after-requires : tie.Need-after-requires Inv-loop μ-loop
 after-requires c κs = search needs
 
-sub-left : tie.Need-sub-left Inv-loop μ-loop
-sub-left c = search needs
+sub-turns : tie.Need-sub-turns Inv-loop μ-loop
+sub-turns c = search needs
 
 loop-less : tie.Need-loop-less Inv-loop μ-loop
 loop-less c = search needs
@@ -56,8 +56,8 @@ loop-less c = search needs
 loop-again : tie.Need-loop-again Inv-loop μ-loop
 loop-again c = search needs
 
-returns-3 : tie.Need-returns-3 Inv-loop μ-loop
-returns-3 c = search needs
+returns-2 : tie.Need-returns-2 Inv-loop μ-loop
+returns-2 c = search needs
 
 pub workload-spare-rates-spec : {M : Type 1} → statement M
 workload-spare-rates-spec =
@@ -66,7 +66,7 @@ workload-spare-rates-spec =
     Inv-loop
     μ-loop
     returns
-    returns-2
+    least-requires
     filled-requires
     loop-holds
     mul-link
@@ -77,7 +77,7 @@ workload-spare-rates-spec =
     spare-rate-requires
     mix-spare-requires
     after-requires
-    sub-left
+    sub-turns
     loop-less
     loop-again
-    returns-3)
+    returns-2)

@@ -19,8 +19,8 @@ mul-row c = search needs
 array-copy-out-row : tie.Need-array-copy-out-row Inv-loop μ-loop
 array-copy-out-row c = search needs
 
-mix-row-requires : tie.Need-mix-row-requires Inv-loop μ-loop
-mix-row-requires c κs = search needs
+mix-pair-requires : tie.Need-mix-pair-requires Inv-loop μ-loop
+mix-pair-requires c κs = search needs
 
 add-k : tie.Need-add-k Inv-loop μ-loop
 add-k c = search needs
@@ -43,7 +43,7 @@ mix-rows-spec =
     loop-holds
     mul-row
     array-copy-out-row
-    mix-row-requires
+    mix-pair-requires
     add-k
     loop-less
     loop-again

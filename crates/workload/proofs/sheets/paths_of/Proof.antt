@@ -17,17 +17,8 @@ no-path-requires c κs = search needs
 loop-holds : tie.Need-loop-holds Inv-loop μ-loop
 loop-holds c = search needs
 
-add-end : tie.Need-add-end Inv-loop μ-loop
-add-end c = search needs
-
-sub-read : tie.Need-sub-read Inv-loop μ-loop
-sub-read c = search needs
-
-part-read-start : tie.Need-part-read-start Inv-loop μ-loop
-part-read-start c = search needs
-
-part-read-end : tie.Need-part-read-end Inv-loop μ-loop
-part-read-end c = search needs
+sheet-at-requires : tie.Need-sheet-at-requires Inv-loop μ-loop
+sheet-at-requires c κs = search needs
 
 read-requires : tie.Need-read-requires Inv-loop μ-loop
 read-requires c κs = search needs
@@ -61,10 +52,7 @@ paths-of-spec =
     μ-loop
     no-path-requires
     loop-holds
-    add-end
-    sub-read
-    part-read-start
-    part-read-end
+    sheet-at-requires
     read-requires
     mul-paths
     array-set-from-paths

@@ -6,28 +6,19 @@ use Rattle.workload.proofs.sheets.workload_figures.Statement.{statement
 use Rattle.workload.proofs.sheets.workload_figures.Tie as tie
 
 abbrev Inv-loop : tie.InvT-loop
-Inv-loop sheets width turns sum₀ at₀ k₀ left₀ sum at k left = (at + width ≤ length sheets) × (k + 1 ≤ 16)
+Inv-loop sheets width turns₀ width' sum₀ at₀ k₀ turns sum at k = (at + width' ≤ length sheets) × (k + 1 ≤ 16)
 
 abbrev μ-loop : tie.MeasureT-loop
-μ-loop sheets width turns sum₀ at₀ k₀ left₀ sum at k left = left
+μ-loop sheets width turns₀ width' sum₀ at₀ k₀ turns sum at k = turns
 
-returns : tie.Need-returns Inv-loop μ-loop
-returns c = search needs
+least-requires : tie.Need-least-requires Inv-loop μ-loop
+least-requires c κs = search needs
 
 loop-holds : tie.Need-loop-holds Inv-loop μ-loop
 loop-holds c = search needs
 
-add-end : tie.Need-add-end Inv-loop μ-loop
-add-end c = search needs
-
-sub-figures : tie.Need-sub-figures Inv-loop μ-loop
-sub-figures c = search needs
-
-part-figures-start : tie.Need-part-figures-start Inv-loop μ-loop
-part-figures-start c = search needs
-
-part-figures-end : tie.Need-part-figures-end Inv-loop μ-loop
-part-figures-end c = search needs
+sheet-at-requires : tie.Need-sheet-at-requires Inv-loop μ-loop
+sheet-at-requires c κs = search needs
 
 figures-requires : tie.Need-figures-requires Inv-loop μ-loop
 figures-requires c κs = search needs
@@ -41,8 +32,8 @@ after-requires c κs = search needs
 after-requires-2 : tie.Need-after-requires-2 Inv-loop μ-loop
 after-requires-2 c κs = search needs
 
-sub-left : tie.Need-sub-left Inv-loop μ-loop
-sub-left c = search needs
+sub-turns : tie.Need-sub-turns Inv-loop μ-loop
+sub-turns c = search needs
 
 loop-less : tie.Need-loop-less Inv-loop μ-loop
 loop-less c = search needs
@@ -50,8 +41,8 @@ loop-less c = search needs
 loop-again : tie.Need-loop-again Inv-loop μ-loop
 loop-again c = search needs
 
-returns-2 : tie.Need-returns-2 Inv-loop μ-loop
-returns-2 c = search needs
+returns : tie.Need-returns Inv-loop μ-loop
+returns c = search needs
 
 pub workload-figures-spec : {M : Type 1} → statement M
 workload-figures-spec =
@@ -59,17 +50,14 @@ workload-figures-spec =
     (tie.spec
     Inv-loop
     μ-loop
-    returns
+    least-requires
     loop-holds
-    add-end
-    sub-figures
-    part-figures-start
-    part-figures-end
+    sheet-at-requires
     figures-requires
     mix-figures-requires
     after-requires
     after-requires-2
-    sub-left
+    sub-turns
     loop-less
     loop-again
-    returns-2)
+    returns)

@@ -7,28 +7,19 @@ use Rattle.workload.proofs.sheets.workload_pages.Statement.{statement}
 use Rattle.workload.proofs.sheets.workload_pages.Tie as tie
 
 abbrev Inv-loop : tie.InvT-loop
-Inv-loop sheets width lent₀ turns sum₀ at₀ left₀ lent sum at left = (at + width ≤ length sheets) × (length lent ≡ length lent₀)
+Inv-loop sheets width lent₀ turns₀ width' sum₀ at₀ lent turns sum at = (at + width' ≤ length sheets) × (length lent ≡ length lent₀)
 
 abbrev μ-loop : tie.MeasureT-loop
-μ-loop sheets width lent₀ turns sum₀ at₀ left₀ lent sum at left = left
+μ-loop sheets width lent₀ turns₀ width' sum₀ at₀ lent turns sum at = turns
 
-returns : tie.Need-returns Inv-loop μ-loop
-returns c = search needs
+least-requires : tie.Need-least-requires Inv-loop μ-loop
+least-requires c κs = search needs
 
 loop-holds : tie.Need-loop-holds Inv-loop μ-loop
 loop-holds c = search needs
 
-add-end : tie.Need-add-end Inv-loop μ-loop
-add-end c = search needs
-
-sub-page : tie.Need-sub-page Inv-loop μ-loop
-sub-page c = search needs
-
-part-page-start : tie.Need-part-page-start Inv-loop μ-loop
-part-page-start c = search needs
-
-part-page-end : tie.Need-part-page-end Inv-loop μ-loop
-part-page-end c = search needs
+sheet-at-requires : tie.Need-sheet-at-requires Inv-loop μ-loop
+sheet-at-requires c κs = search needs
 
 page-requires : tie.Need-page-requires Inv-loop μ-loop
 page-requires c κs = search needs
@@ -42,8 +33,8 @@ mix-byte-requires c κs = search needs
 after-requires : tie.Need-after-requires Inv-loop μ-loop
 after-requires c κs = search needs
 
-sub-left : tie.Need-sub-left Inv-loop μ-loop
-sub-left c = search needs
+sub-turns : tie.Need-sub-turns Inv-loop μ-loop
+sub-turns c = search needs
 
 loop-less : tie.Need-loop-less Inv-loop μ-loop
 loop-less c = search needs
@@ -54,8 +45,8 @@ loop-again c = search needs
 same-length : tie.Need-same-length Inv-loop μ-loop
 same-length c = search needs
 
-returns-2 : tie.Need-returns-2 Inv-loop μ-loop
-returns-2 c = search needs
+returns : tie.Need-returns Inv-loop μ-loop
+returns c = search needs
 
 pub workload-pages-spec : {M : Type 1} → statement M
 workload-pages-spec =
@@ -63,18 +54,15 @@ workload-pages-spec =
     (tie.spec
     Inv-loop
     μ-loop
-    returns
+    least-requires
     loop-holds
-    add-end
-    sub-page
-    part-page-start
-    part-page-end
+    sheet-at-requires
     page-requires
     mix-paged-requires
     mix-byte-requires
     after-requires
-    sub-left
+    sub-turns
     loop-less
     loop-again
     same-length
-    returns-2)
+    returns)

@@ -6,28 +6,19 @@ use Rattle.workload.proofs.sheets.workload_reading.Statement.{statement
 use Rattle.workload.proofs.sheets.workload_reading.Tie as tie
 
 abbrev Inv-loop : tie.InvT-loop
-Inv-loop sheets width turns sum₀ at₀ left₀ sum at left = at + width ≤ length sheets
+Inv-loop sheets width turns₀ width' sum₀ at₀ turns sum at = at + width' ≤ length sheets
 
 abbrev μ-loop : tie.MeasureT-loop
-μ-loop sheets width turns sum₀ at₀ left₀ sum at left = left
+μ-loop sheets width turns₀ width' sum₀ at₀ turns sum at = turns
 
-returns : tie.Need-returns Inv-loop μ-loop
-returns c = search needs
+least-requires : tie.Need-least-requires Inv-loop μ-loop
+least-requires c κs = search needs
 
 loop-holds : tie.Need-loop-holds Inv-loop μ-loop
 loop-holds c = search needs
 
-add-end : tie.Need-add-end Inv-loop μ-loop
-add-end c = search needs
-
-sub-read : tie.Need-sub-read Inv-loop μ-loop
-sub-read c = search needs
-
-part-read-start : tie.Need-part-read-start Inv-loop μ-loop
-part-read-start c = search needs
-
-part-read-end : tie.Need-part-read-end Inv-loop μ-loop
-part-read-end c = search needs
+sheet-at-requires : tie.Need-sheet-at-requires Inv-loop μ-loop
+sheet-at-requires c κs = search needs
 
 read-requires : tie.Need-read-requires Inv-loop μ-loop
 read-requires c κs = search needs
@@ -38,8 +29,8 @@ mix-read-requires c κs = search needs
 after-requires : tie.Need-after-requires Inv-loop μ-loop
 after-requires c κs = search needs
 
-sub-left : tie.Need-sub-left Inv-loop μ-loop
-sub-left c = search needs
+sub-turns : tie.Need-sub-turns Inv-loop μ-loop
+sub-turns c = search needs
 
 loop-less : tie.Need-loop-less Inv-loop μ-loop
 loop-less c = search needs
@@ -47,8 +38,8 @@ loop-less c = search needs
 loop-again : tie.Need-loop-again Inv-loop μ-loop
 loop-again c = search needs
 
-returns-2 : tie.Need-returns-2 Inv-loop μ-loop
-returns-2 c = search needs
+returns : tie.Need-returns Inv-loop μ-loop
+returns c = search needs
 
 pub workload-reading-spec : {M : Type 1} → statement M
 workload-reading-spec =
@@ -56,16 +47,13 @@ workload-reading-spec =
     (tie.spec
     Inv-loop
     μ-loop
-    returns
+    least-requires
     loop-holds
-    add-end
-    sub-read
-    part-read-start
-    part-read-end
+    sheet-at-requires
     read-requires
     mix-read-requires
     after-requires
-    sub-left
+    sub-turns
     loop-less
     loop-again
-    returns-2)
+    returns)

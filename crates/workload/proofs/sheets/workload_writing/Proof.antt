@@ -7,13 +7,13 @@ use Rattle.workload.proofs.sheets.workload_writing.Statement.{statement
 use Rattle.workload.proofs.sheets.workload_writing.Tie as tie
 
 abbrev Inv-loop : tie.InvT-loop
-Inv-loop sheets width written₀ turns sum₀ paths j₀ left₀ written sum j left = (j + 1 ≤ 64) × (length written ≡ length written₀)
+Inv-loop sheets width written₀ turns₀ width' paths sum₀ j₀ written turns sum j = (j + 1 ≤ 64) × (length written ≡ length written₀)
 
 abbrev μ-loop : tie.MeasureT-loop
-μ-loop sheets width written₀ turns sum₀ paths j₀ left₀ written sum j left = left
+μ-loop sheets width written₀ turns₀ width' paths sum₀ j₀ written turns sum j = turns
 
-returns : tie.Need-returns Inv-loop μ-loop
-returns c = search needs
+least-requires : tie.Need-least-requires Inv-loop μ-loop
+least-requires c κs = search needs
 
 paths-of-requires : tie.Need-paths-of-requires Inv-loop μ-loop
 paths-of-requires c κs = search needs
@@ -21,11 +21,11 @@ paths-of-requires c κs = search needs
 loop-holds : tie.Need-loop-holds Inv-loop μ-loop
 loop-holds c = search needs
 
-mul-path : tie.Need-mul-path Inv-loop μ-loop
-mul-path c = search needs
+mul-write : tie.Need-mul-write Inv-loop μ-loop
+mul-write c = search needs
 
-array-copy-out-path : tie.Need-array-copy-out-path Inv-loop μ-loop
-array-copy-out-path c = search needs
+array-copy-out-write : tie.Need-array-copy-out-write Inv-loop μ-loop
+array-copy-out-write c = search needs
 
 write-requires : tie.Need-write-requires Inv-loop μ-loop
 write-requires c κs = search needs
@@ -39,8 +39,8 @@ mix-byte-requires c κs = search needs
 after-requires : tie.Need-after-requires Inv-loop μ-loop
 after-requires c κs = search needs
 
-sub-left : tie.Need-sub-left Inv-loop μ-loop
-sub-left c = search needs
+sub-turns : tie.Need-sub-turns Inv-loop μ-loop
+sub-turns c = search needs
 
 loop-less : tie.Need-loop-less Inv-loop μ-loop
 loop-less c = search needs
@@ -51,8 +51,8 @@ loop-again c = search needs
 same-length : tie.Need-same-length Inv-loop μ-loop
 same-length c = search needs
 
-returns-2 : tie.Need-returns-2 Inv-loop μ-loop
-returns-2 c = search needs
+returns : tie.Need-returns Inv-loop μ-loop
+returns c = search needs
 
 pub workload-writing-spec : {M : Type 1} → statement M
 workload-writing-spec =
@@ -60,17 +60,17 @@ workload-writing-spec =
     (tie.spec
     Inv-loop
     μ-loop
-    returns
+    least-requires
     paths-of-requires
     loop-holds
-    mul-path
-    array-copy-out-path
+    mul-write
+    array-copy-out-write
     write-requires
     mix-written-requires
     mix-byte-requires
     after-requires
-    sub-left
+    sub-turns
     loop-less
     loop-again
     same-length
-    returns-2)
+    returns)

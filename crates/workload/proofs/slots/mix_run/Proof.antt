@@ -1,7 +1,5 @@
 -- A loop of at most sixteen turns.
 use Prim.Native.Nat.{_≤_, _-_}
-use mathlib.Core.Logic.{⊎-elim}
-use native.Mathlib.Omega.{arith}
 use borrow.Author.Needs.{needs}
 use Rattle.workload.proofs.slots.mix_run.Statement.{statement}
 use Rattle.workload.proofs.slots.mix_run.Tie as tie
@@ -12,8 +10,8 @@ Inv-loop sum run count next₀ k₀ next k = (k ≤ count) × (count ≤ 16)
 abbrev μ-loop : tie.MeasureT-loop
 μ-loop sum run count next₀ k₀ next k = count - k
 
-few : (c : tie.Joined1 Inv-loop μ-loop) → c .if1 .count ≤ 16
-few c = ⊎-elim (λ w. omega (arith, w .0 .taken, w .1)) (λ w. omega (arith, w .1)) (c .if1 .came)
+least-requires : tie.Need-least-requires Inv-loop μ-loop
+least-requires c κs = search needs
 
 cast-mix : tie.Need-cast-mix Inv-loop μ-loop
 cast-mix c = search needs
@@ -25,7 +23,7 @@ mix-requires-2 : tie.Need-mix-requires-2 Inv-loop μ-loop
 mix-requires-2 c κs = search needs
 
 loop-holds : tie.Need-loop-holds Inv-loop μ-loop
-loop-holds c = (omega arith, few (c .before .before))
+loop-holds c = search needs
 
 mul-stage : tie.Need-mul-stage Inv-loop μ-loop
 mul-stage c = search needs
@@ -69,6 +67,7 @@ mix-run-spec =
     (tie.spec
     Inv-loop
     μ-loop
+    least-requires
     cast-mix
     mix-requires
     mix-requires-2

@@ -7,10 +7,10 @@ use Rattle.workload.proofs.slots.workload_words.Statement.{statement}
 use Rattle.workload.proofs.slots.workload_words.Tie as tie
 
 abbrev Inv-loop : tie.InvT-loop
-Inv-loop words₀ turns sum₀ at₀ left₀ words sum at left = (at + 1 ≤ length words) × (length words ≡ length words₀)
+Inv-loop words₀ turns₀ sum₀ at₀ words turns sum at = (at + 1 ≤ length words) × (length words ≡ length words₀)
 
 abbrev μ-loop : tie.MeasureT-loop
-μ-loop words₀ turns sum₀ at₀ left₀ words sum at left = left
+μ-loop words₀ turns₀ sum₀ at₀ words turns sum at = turns
 
 returns : tie.Need-returns Inv-loop μ-loop
 returns c = search needs
@@ -33,8 +33,8 @@ slice-write-words c = search needs
 after-requires : tie.Need-after-requires Inv-loop μ-loop
 after-requires c κs = search needs
 
-sub-left : tie.Need-sub-left Inv-loop μ-loop
-sub-left c = search needs
+sub-turns : tie.Need-sub-turns Inv-loop μ-loop
+sub-turns c = search needs
 
 loop-less : tie.Need-loop-less Inv-loop μ-loop
 loop-less c = search needs
@@ -61,7 +61,7 @@ workload-words-spec =
     mul-words
     slice-write-words
     after-requires
-    sub-left
+    sub-turns
     loop-less
     loop-again
     same-length
