@@ -26,6 +26,7 @@ pub(crate) fn read_declaration(word: usize, line: &[u8], from: usize) -> Line {
             said_of(&numbers, n)
         }
     };
+    // Where the line is wrong, nobody looks at its declaration.
     let declaration = declaration_of(word, count / 2, &numbers);
     Line { said, declaration }
 }

@@ -53,6 +53,12 @@ enum Numbers {
     Wrong(Fault),
 }
 
+// A number, and where it ends in its line.
+pub enum Labelled {
+    Number { value: u32, end: usize },
+    Wrong(Fault),
+}
+
 // How many numbers there are.
 pub enum Count {
     Numbers(usize),
@@ -141,13 +147,24 @@ fn number_fault(operator: Operator) -> Fault {
 
 // A number and, behind the word `link`, another.
 fn number_and_link(line: &[u8], from: usize) -> Numbers {
+    match number_from(line, from) {
+        Labelled::Wrong(why) => Numbers::Wrong(why),
+        Labelled::Number { value, end } => link_behind(value, line, end),
+    }
+}
+
+// The number that begins at an index.
+pub(crate) fn number_from(line: &[u8], from: usize) -> Labelled {
     if line.len() < from {
-        return Numbers::Wrong(Fault::TooFewNumbers);
+        return Labelled::Wrong(Fault::TooFewNumbers);
     }
     match decimal_at(line, from) {
-        Decimal::NoDigit => Numbers::Wrong(Fault::NotANumber),
-        Decimal::TooLarge => Numbers::Wrong(Fault::NumberTooLarge),
-        Decimal::Number { value, next } => link_behind(narrow(value), line, next),
+        Decimal::NoDigit => Labelled::Wrong(Fault::NotANumber),
+        Decimal::TooLarge => Labelled::Wrong(Fault::NumberTooLarge),
+        Decimal::Number { value, next } => Labelled::Number {
+            value: narrow(value),
+            end: next,
+        },
     }
 }
 

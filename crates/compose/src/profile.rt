@@ -1,9 +1,10 @@
 // A line that is a whole path: `profile P hops N wanted N m N Q N`, with `R N` in profiles 1 and 2 and `L N X N C N` in profile 2.
 
 use crate::fault::Fault;
+use crate::line::Labelled;
 use crate::line::SPACE;
 use crate::line::Said;
-use console::numbers::narrow;
+use crate::line::number_from;
 use console::words::find;
 use quantity::Hops;
 use quantity::Interval;
@@ -12,16 +13,9 @@ use quantity::Quota;
 use quantity::Rate;
 use quantity::WantedDelay;
 use sheet::House;
-use text::decimal::Decimal;
-use text::decimal::decimal_at;
+ghost use mathlib.Core.Path.{_≡_};
 ghost use Prim.Native.Nat.{_≤_};
 ghost use lib.ListN.{length};
-
-// A number, and where it ends in its line.
-enum Labelled {
-    Number { value: u32, end: usize },
-    Wrong(Fault),
-}
 
 // The number of the profile says how many follow; those that it does not use are 0.
 pub(crate) fn read_profile(line: &[u8], from: usize) -> Said {
@@ -49,7 +43,9 @@ fn read_numbers(line: &[u8], profile: u8, from: usize) -> Said {
     }
 }
 
-fn house_of(profile: u8, numbers: &[u32; 8]) -> House {
+fn house_of(profile: u8, numbers: &[u32]) -> House
+    requires { ⌜ length (now numbers) ≡ 8 ⌝ }
+{
     House {
         profile,
         hops: Hops(numbers[0]),
@@ -109,20 +105,6 @@ fn number_behind(line: &[u8], at: usize, k: usize) -> Labelled {
     number_from(line, begins + found.behind)
 }
 
-fn number_from(line: &[u8], from: usize) -> Labelled {
-    if line.len() < from {
-        return Labelled::Wrong(Fault::TooFewNumbers);
-    }
-    match decimal_at(line, from) {
-        Decimal::NoDigit => Labelled::Wrong(Fault::NotANumber),
-        Decimal::TooLarge => Labelled::Wrong(Fault::NumberTooLarge),
-        Decimal::Number { value, next } => Labelled::Number {
-            value: narrow(value),
-            end: next,
-        },
-    }
-}
-
 fn said_of(house: House) -> Said {
     if house.in_range() {
         return Said::House(house);
@@ -144,11 +126,7 @@ fn fault_of(house: House) -> Fault {
     if !house.quota.in_range() {
         return Fault::QuotaOutOfRange;
     }
-    rate_fault(house)
-}
-
-// Profile 0 uses none of the numbers that are left.
-fn rate_fault(house: House) -> Fault {
+    // Profile 0 uses none of the numbers that are left.
     if !house.rate.in_range() {
         return Fault::RateOutOfRange;
     }
