@@ -205,7 +205,10 @@ fn mix_held(sum: u64, answer: HeldPath) -> u64 {
     let next = mix(sum, holding.ledger.count as u64);
     match verdict {
         Verdict::Refused(why) => mix_refusal(next, why),
-        Verdict::Accepted => mix_record(mix(next, holding.delay.0 as u64), answer.records[63]),
+        Verdict::Accepted => {
+            let records = answer.records;
+            mix_record(mix(next, holding.delay.0 as u64), records[63])
+        }
     }
 }
 
@@ -228,7 +231,10 @@ fn mix_confirmed(sum: u64, answer: ConfirmedPath) -> u64 {
     let verdict = confirmed.verdict;
     match verdict {
         Verdict::Refused(why) => mix_refusal(sum, why),
-        Verdict::Accepted => mix_record(sum, answer.records[63]),
+        Verdict::Accepted => {
+            let records = answer.records;
+            mix_record(sum, records[63])
+        }
     }
 }
 
@@ -237,7 +243,8 @@ fn mix_released(sum: u64, answer: ReleasedPath, k: usize) -> u64
 {
     let released = answer.released;
     let verdict = released.verdict;
-    let entry = answer.records[k];
+    let records = answer.records;
+    let entry = records[k];
     let next = mix_record(mix(sum, released.ledger.count as u64), entry);
     match verdict {
         Verdict::Refused(why) => mix_refusal(next, why),

@@ -136,7 +136,8 @@ fn mix_read(sum: u64, answer: ReadSheet) -> u64 {
 }
 
 fn mix_path(sum: u64, path: PathValue) -> u64 {
-    let linked = path.operators[15];
+    let operators = path.operators;
+    let linked = operators[15];
     let operator = linked.operator;
     let next = mix(mix(sum, path.count as u64), path.wanted.0 as u64);
     let declared = mix_declaration(next, path.declaration);
