@@ -1,19 +1,14 @@
 // The house profiles: the ranges of their numbers, and the paths that they stand for (document 02, item 2).
 
-use crate::Form;
 use crate::HOUSE_AT;
 use crate::HOUSE_TAG;
 use crate::HOUSE_WIDTH;
 use crate::House;
 use crate::LinkedOperator;
-use crate::PathValue;
-use crate::no_path;
 use crate::read::number_at;
 use crate::read::wide;
 use crate::write::write_header;
 use crate::write::write_number;
-use flow::Declaration;
-use flow::Kind;
 use operator::Operator;
 use quantity::CheckedDelay;
 use quantity::CheckedHops;
@@ -42,7 +37,6 @@ ghost use Rattle.quantity.specs.Rounding.{roundUp};
 ghost use Rattle.quantity.specs.Ranges.{inRange, rateRange};
 ghost use Rattle.sheet.specs.Numbers.{bytesOf};
 ghost use Rattle.sheet.specs.House.{houseIn, houseBody, packetsUnused, packetsInRange, profileInRange, houseInRange, houseFits, hopLength, hopOperator, houseOperator};
-ghost use Rattle.sheet.specs.Forms.{houseValue};
 ghost use Rattle.sheet.specs.Fields.{fieldOf};
 
 // What the reader of the body answers.
@@ -161,7 +155,7 @@ pub(crate) fn in_range(house: House) -> bool
 }
 
 // How many operators a hop has.
-fn hop_length(house: House) -> usize
+pub(crate) fn hop_length(house: House) -> usize
     ensures { λ r. ⌜ r ≡ hopLength house ⌝ }
 {
     let profile = house.profile;
@@ -203,7 +197,7 @@ fn hop_operator(house: House, i: usize) -> Operator
 }
 
 // Operator k of the path: hop j, counted from 0, is on link j.
-fn house_operator(house: House, k: usize) -> LinkedOperator
+pub(crate) fn house_operator(house: House, k: usize) -> LinkedOperator
     requires { ⌜ (houseInRange house ≡ true) × (k ≤ 15) ⌝ }
     ensures { λ r. ⌜ r ≡ houseOperator house k ⌝ }
 {
@@ -211,34 +205,6 @@ fn house_operator(house: House, k: usize) -> LinkedOperator
     let operator = hop_operator(house, k % length);
     let link = Link((k / length) as u32);
     LinkedOperator { operator, link }
-}
-
-// The path that the nine numbers stand for: smooth (m, Q), and the operators hop by hop.
-pub(crate) fn path_of(house: House) -> PathValue
-    requires { ⌜ houseInRange house ≡ true ⌝ }
-    ensures { λ r. ⌜ r ≡ houseValue house ⌝ }
-{
-    let hops = house.hops;
-    let interval = house.interval;
-    let quota = house.quota;
-    let wanted = house.wanted;
-    let count = (hops.0 as usize) * hop_length(house);
-    let empty = no_path();
-    let mut operators = empty.operators;
-    let mut k = 0;
-    while k < count {
-        operators[k] = house_operator(house, k);
-        k += 1;
-    }
-    let form = Form::House(house);
-    let declaration = Declaration::of_one_row(Kind::Smooth, interval, quota);
-    PathValue {
-        form,
-        declaration,
-        wanted,
-        count,
-        operators,
-    }
 }
 
 // L, X and C of a profile that does not use them.

@@ -18,9 +18,9 @@ use crate::WANTED_TAG;
 use crate::WANTED_WIDTH;
 use crate::no_declaration;
 use crate::no_linked_operator;
-use crate::no_path;
 use crate::profile::ReadHouse;
-use crate::profile::path_of;
+use crate::profile::hop_length;
+use crate::profile::house_operator;
 use crate::profile::read_house;
 use flow::Declaration;
 use flow::DeclaredRow;
@@ -52,10 +52,10 @@ ghost use Rattle.quantity.specs.Refusals.{firstOf};
 ghost use Rattle.operator.specs.Operators.{numberInRange};
 ghost use Rattle.flow.specs.Declarations.{rowOf, rowInRange};
 ghost use Rattle.sheet.specs.Numbers.{valueOfBytes};
-ghost use Rattle.sheet.specs.Forms.{valueOfPath, noPath};
+ghost use Rattle.sheet.specs.Forms.{noPath};
 ghost use Rattle.sheet.specs.Bodies.{part, declarationIn, declarationFits, rowIn, rowsIn, rowsFit, wantedIn, operatorOf, operatorIn, operatorFits};
-ghost use Rattle.sheet.specs.Fields.{fieldUnexpected, fieldCases, wantedFormat, operatorFormat};
-ghost use Rattle.sheet.specs.Sheets.{inRowsForm, rowsGiven, declaredIn, declarationCases, wantedAt, operatorsAt, furtherCases, operatorsFrom, fieldsPath, refusedRead, readFields, readHouse, readSheet};
+ghost use Rattle.sheet.specs.Fields.{fieldUnexpected, fieldCases, wantedFormat};
+ghost use Rattle.sheet.specs.Sheets.{inRowsForm, rowsGiven, declaredIn, declarationCases, wantedAt, operatorsAt, furtherCases, fieldsPath, refusedRead, readHouse, readSheet};
 
 // What reading a sheet answers. Beside a refusal the path is the empty one.
 pub enum Verdict {
@@ -465,15 +465,16 @@ fn operators_begun(bytes: usize) -> usize
 }
 
 fn accepted(
+    form: Form,
     declaration: Declaration,
     wanted: WantedDelay,
     count: usize,
     operators: [LinkedOperator; 16],
 ) -> ReadSheet
-    ensures { λ r. ⌜ r ≡ record { verdict = Verdict.Accepted; path = record { form = Form.Fields; declaration = declaration; wanted = wanted; count = count; operators = operators } } ⌝ }
+    ensures { λ r. ⌜ r ≡ record { verdict = Verdict.Accepted; path = record { form = form; declaration = declaration; wanted = wanted; count = count; operators = operators } } ⌝ }
 {
     let path = PathValue {
-        form: Form::Fields,
+        form,
         declaration,
         wanted,
         count,
@@ -485,29 +486,84 @@ fn accepted(
     }
 }
 
-// The operators from a byte on: one is due, and behind each the sheet may end. How many begin is counted first, so that a turn has one test less.
-fn read_operators(
-    sheet: &[u8],
-    from: usize,
-    declaration: Declaration,
-    wanted: WantedDelay,
-) -> ReadSheet
-    requires { ⌜ (from ≤ 34) × (from ≤ length (now sheet)) ⌝ }
-    ensures { λ r. ⌜ r ≡ firstOf (fieldCases (now (sheet .entry)) from operatorFormat ++ furtherCases 15 (from + 9) (now (sheet .entry))) refusedRead (record { verdict = Verdict.Accepted; path = valueOfPath Form.Fields (record { declaration = declaration; wanted = wanted .0; operators = operatorsFrom 16 from (now (sheet .entry)) }) }) ⌝ }
+// A refusal, and beside it the empty path. Its operators are handed on, cleared, from where they stand: with a new array on each way out the answer would be split and copied in pieces.
+fn without_path(why: Refusal, operators: [LinkedOperator; 16]) -> ReadSheet
+    requires { ⌜ operators ≡ noPath .operators ⌝ }
+    ensures { λ r. ⌜ r ≡ refusedRead why ⌝ }
+{
+    let path = PathValue {
+        form: Form::Fields,
+        declaration: no_declaration(),
+        wanted: WantedDelay(0),
+        count: 0,
+        operators,
+    };
+    ReadSheet {
+        verdict: Verdict::Refused(why),
+        path,
+    }
+}
+
+// One field 04, and behind it the sheet ends. The path that its nine numbers stand for: smooth (m, Q), and the operators hop by hop.
+fn read_profile(sheet: &[u8]) -> ReadSheet
+    ensures { λ r. ⌜ r ≡ readHouse (now (sheet .entry)) ⌝ }
 {
     let none = no_linked_operator();
     let mut operators = [none; 16];
+    if let Due::Refused(why) = field_at(sheet, HOUSE_AT, HOUSE_TAG, HOUSE_WIDTH) {
+        return without_path(why, operators);
+    }
+    let start = HOUSE_AT + HEADER;
+    let end = start + HOUSE_WIDTH;
+    let ReadHouse::Fits(house) = read_house(&sheet[start..end]) else {
+        return without_path(Refusal::OutOfRange(HOUSE_AT), operators);
+    };
+    if let Due::Refused(why) = ended(sheet, end) {
+        return without_path(why, operators);
+    }
+    let hops = house.hops;
+    let interval = house.interval;
+    let quota = house.quota;
+    let wanted = house.wanted;
+    let count = (hops.0 as usize) * hop_length(house);
+    let mut k = 0;
+    while k < count {
+        operators[k] = house_operator(house, k);
+        k += 1;
+    }
+    let declaration = Declaration::of_one_row(Kind::Smooth, interval, quota);
+    accepted(Form::House(house), declaration, wanted, count, operators)
+}
+
+// One field 04, or fields 01 or 05, 02 and 03. One operator is due, and behind each the sheet may end. How many begin is counted first, so that a turn has one test less.
+pub fn read(sheet: &[u8]) -> ReadSheet
+    ensures { λ r. ⌜ r ≡ readSheet (now (sheet .entry)) ⌝ }
+{
+    if first_tag(sheet) == HOUSE_TAG {
+        return read_profile(sheet);
+    }
+    let none = no_linked_operator();
+    let mut operators = [none; 16];
+    let head = read_head(sheet);
+    let due = head.due;
+    if let Due::Refused(why) = due {
+        return without_path(why, operators);
+    }
+    let declaration = head.declaration;
+    let wanted = head.wanted;
     let mut count = 0;
-    let mut at = from;
-    let begun = operators_begun(sheet.len() - from);
+    let mut at = head.end;
+    let begun = operators_begun(sheet.len() - at);
     loop {
         if let Due::Refused(why) = field_at(sheet, at, OPERATOR_TAG, OPERATOR_WIDTH) {
-            return without_path(why);
+            operators = [none; 16];
+            return without_path(why, operators);
         }
         let start = at + HEADER;
         let end = start + OPERATOR_WIDTH;
         let ReadLinked::Fits(linked) = read_linked(&sheet[start..end]) else {
-            return without_path(Refusal::OutOfRange(at));
+            operators = [none; 16];
+            return without_path(Refusal::OutOfRange(at), operators);
         };
         operators[count] = linked;
         count += 1;
@@ -517,60 +573,8 @@ fn read_operators(
         }
     }
     if let Due::Refused(why) = ended(sheet, at) {
-        return without_path(why);
+        operators = [none; 16];
+        return without_path(why, operators);
     }
-    accepted(declaration, wanted, count, operators)
-}
-
-// Fields 01 or 05, 02 and 03.
-fn read_fields(sheet: &[u8]) -> ReadSheet
-    ensures { λ r. ⌜ r ≡ readFields (now (sheet .entry)) ⌝ }
-{
-    let head = read_head(sheet);
-    let due = head.due;
-    if let Due::Refused(why) = due {
-        return without_path(why);
-    }
-    let declaration = head.declaration;
-    let wanted = head.wanted;
-    read_operators(sheet, head.end, declaration, wanted)
-}
-
-// One field 04, and behind it the sheet ends.
-fn read_profile(sheet: &[u8]) -> ReadSheet
-    ensures { λ r. ⌜ r ≡ readHouse (now (sheet .entry)) ⌝ }
-{
-    if let Due::Refused(why) = field_at(sheet, HOUSE_AT, HOUSE_TAG, HOUSE_WIDTH) {
-        return without_path(why);
-    }
-    let start = HOUSE_AT + HEADER;
-    let end = start + HOUSE_WIDTH;
-    let ReadHouse::Fits(house) = read_house(&sheet[start..end]) else {
-        return without_path(Refusal::OutOfRange(HOUSE_AT));
-    };
-    if let Due::Refused(why) = ended(sheet, end) {
-        return without_path(why);
-    }
-    ReadSheet {
-        verdict: Verdict::Accepted,
-        path: path_of(house),
-    }
-}
-
-fn without_path(why: Refusal) -> ReadSheet
-    ensures { λ r. ⌜ r ≡ refusedRead why ⌝ }
-{
-    ReadSheet {
-        verdict: Verdict::Refused(why),
-        path: no_path(),
-    }
-}
-
-pub fn read(sheet: &[u8]) -> ReadSheet
-    ensures { λ r. ⌜ r ≡ readSheet (now (sheet .entry)) ⌝ }
-{
-    if first_tag(sheet) == HOUSE_TAG {
-        return read_profile(sheet);
-    }
-    read_fields(sheet)
+    accepted(Form::Fields, declaration, wanted, count, operators)
 }
