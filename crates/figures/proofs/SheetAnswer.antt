@@ -3,6 +3,7 @@ use Prim.Native.Nat.{ℕ, suc, _+_, _-_, _≤_, _<_}
 use mathlib.Core.Path.{_≡_, refl, sym, ap, subst, subst⁻¹, _∙_}
 use mathlib.Core.Bool.{Bool, true, false, true≢false}
 use mathlib.Core.List.{List, [], _∷_, _++_}
+use native.Mathlib.Nat.{not-suc-le-zero}
 use native.Mathlib.Omega.{arith}
 use lib.ListN.{length, getD, take, drop, replicate, length-append, length-drop, length-replicate, List·getD-append}
 use lib.Seq.{length-take-le, getD-take, getD-drop}
@@ -150,6 +151,13 @@ readable Verdict.Accepted value bound within lent =
     let (has, far) = lent within (subst (λ (d : Declaration). declarationInRange d ≡ true) (within .clear) (declaration-of-path (inFull value) (within .inside))) in
     (within, has, far)
 readable (Verdict.Refused why) value bound empty lent = empty
+
+-- a path that has an operator was accepted, and its figures are those of its value
+pub has-operator : (verdict : Verdict) (value : PathValue) (bound : List ℕ) {k : ℕ} → k < value .count → Readable verdict value bound
+    → Readable Verdict.Accepted value bound × (figuresOfValue value ≡ figuresOfRead verdict value)
+unfolding figuresOfRead
+has-operator Verdict.Accepted value bound here read = (read, refl)
+has-operator (Verdict.Refused why) value bound here empty = absurd (not-suc-le-zero (rw empty at here))
 
 -- the rows of a declaration in its ranges
 several-within : (declared : Declaration) → declared .kind ≡ Kind.Rows → ClassWithin (classOf declared) → RowsInside (severalAt declared) (declared .count)

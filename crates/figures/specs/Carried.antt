@@ -173,13 +173,19 @@ abbrev pub Readable : Verdict → PathValue → List ℕ → Type 0
 Readable Verdict.Accepted value bound = PathWithin value × Lent (value .declaration .kind) (value .declaration) bound × ReachesPast (value .declaration .kind) (value .declaration) bound (slotsBefore value)
 Readable (Verdict.Refused why) value bound = value ≡ noPath
 
--- the answer of a path value by what planning it came to: beside a refusal the path is the empty one
+-- the answer by what planning the path that was read came to: beside a refusal the path is the empty one
 abbrev pub pathBeside : Verdict → PathValue → PathValue
 pathBeside Verdict.Accepted value = value
 pathBeside (Verdict.Refused why) value = noPath
 
-abbrev pub figuresWith : PathValue → PlannedPath → PathFigures
-figuresWith value planned = record { verdict = planned .verdict; path = pathBeside (planned .verdict) value; figures = planned .figures; delay = planned .delay }
+-- and the verdict is then the refusal, and else the reader's
+abbrev pub verdictBeside : Verdict → Verdict → Verdict
+verdictBeside Verdict.Accepted read = read
+verdictBeside (Verdict.Refused why) read = Verdict.Refused why
+
+abbrev pub figuresWith : Verdict → PathValue → PlannedPath → PathFigures
+figuresWith read value planned =
+    record { verdict = verdictBeside (planned .verdict) read; path = pathBeside (planned .verdict) value; figures = planned .figures; delay = planned .delay }
 
 -- the figures of a path value: 6 to 9 of the path that it has written out
 unfoldable pub figuresOfValue : PathValue → PathFigures

@@ -78,16 +78,18 @@ pub fn figures(sheet: &[u8]) -> PathFigures
     let mut answer = read(sheet);
     let declaration = answer.path.declaration;
     let kind = declaration.kind;
-    let unread = [0; 1];
     let planned = if kind.has_rows() {
         figures_of_rows(answer)
     } else {
+        let unread = [0; 1];
         figures_read(answer, &unread)
     };
-    let verdict = planned.verdict;
-    if let Verdict::Refused(_) = verdict {
+    let outcome = planned.verdict;
+    let mut verdict = answer.verdict;
+    if let Verdict::Refused(_) = outcome {
         let none = no_path();
         answer.path = none;
+        verdict = outcome;
     }
     let path = answer.path;
     let figures = planned.figures;
@@ -103,7 +105,7 @@ pub fn figures(sheet: &[u8]) -> PathFigures
 // Where the declaration has rows their bound is worked out first, once for the whole path; the standard camera's is the constant table. Each table is in a function of its own, since a table in memory takes time wherever it is not read.
 fn figures_of_rows(answer: ReadSheet) -> PlannedPath
     requires { ⌜ WasRead (answer .verdict) (answer .path) × (hasRows (answer .path .declaration .kind) ≡ true) ⌝ }
-    ensures { λ r. ⌜ figuresWith (answer .path) r ≡ figuresOfRead (answer .verdict) (answer .path) ⌝ }
+    ensures { λ r. ⌜ figuresWith (answer .verdict) (answer .path) r ≡ figuresOfRead (answer .verdict) (answer .path) ⌝ }
 {
     let declaration = answer.path.declaration;
     if is_camera(declaration) {
@@ -148,28 +150,20 @@ fn slots_before(path: PathValue) -> usize
 
 fn figures_of_camera(answer: ReadSheet) -> PlannedPath
     requires { ⌜ WasRead (answer .verdict) (answer .path) × (hasRows (answer .path .declaration .kind) ≡ true) × (isCamera (answer .path .declaration) ≡ true) ⌝ }
-    ensures { λ r. ⌜ figuresWith (answer .path) r ≡ figuresOfRead (answer .verdict) (answer .path) ⌝ }
+    ensures { λ r. ⌜ figuresWith (answer .verdict) (answer .path) r ≡ figuresOfRead (answer .verdict) (answer .path) ⌝ }
 {
     figures_read(answer, &MOST)
 }
 
-// The figures of the path that was read, operator by operator from the left. A refusal clears them in the one place that they stand in: were they made anew there, each way out would copy them number by number.
+// The figures of the path that was read, operator by operator from the left. A path that the reader refused is the empty one, and has none. A refusal clears them in the one place that they stand in: were they made anew there, each way out would copy them number by number.
 fn figures_read(answer: ReadSheet, bound: &[u32]) -> PlannedPath
     requires { ⌜ Readable (answer .verdict) (answer .path) (now bound) ⌝ }
-    ensures { λ r. ⌜ figuresWith (answer .path) r ≡ figuresOfRead (answer .verdict) (answer .path) ⌝ }
+    ensures { λ r. ⌜ figuresWith (answer .verdict) (answer .path) r ≡ figuresOfRead (answer .verdict) (answer .path) ⌝ }
 {
-    let verdict = answer.verdict;
     let path = answer.path;
     let operators = path.operators;
     let none = no_figure();
     let mut figures = [none; 16];
-    if let Verdict::Refused(why) = verdict {
-        return PlannedPath {
-            verdict: Verdict::Refused(why),
-            figures,
-            delay: Slots(0),
-        };
-    }
     let declaration = path.declaration;
     let count = path.count;
     let mut carried = start(declaration);

@@ -1,11 +1,12 @@
 -- Of what was read: with rows there is a table; else none is read. Beside a refusal the path is the empty one, and else it is what was read.
-use mathlib.Core.Path.{_≡_, sym, ap, _∙_}
+use mathlib.Core.Path.{_≡_, sym, ap₂, _∙_}
 use mathlib.Core.Logic.{⊎-elim}
 use denote.Ref.{now}
 use Rattle.sheet.specs.declared.PathValue.{PathValue}
+use Rattle.sheet.specs.declared.read.Verdict.{Verdict}
 use Rattle.figures.specs.declared.PathFigures.{PathFigures}
 use Rattle.figures.specs.Answers.{figuresOf}
-use Rattle.figures.specs.Carried.{pathBeside, figuresWith}
+use Rattle.figures.specs.Carried.{pathBeside, verdictBeside, figuresWith}
 use Rattle.figures.proofs.SheetAnswer.{was-read, readable, figures-answered, unread-bound}
 use borrow.Author.Needs.{needs}
 use Rattle.figures.proofs.figures.Statement.{statement}
@@ -42,13 +43,16 @@ enum-told-2 : tie.Need-enum-told-2
 enum-told-2 c = search needs
 
 -- by either way the path was planned
-planned-path : (c : tie.Joined1) → let read = c .before .before .before in figuresWith (read .read .result .path) (c .if1 .planned) ≡ figuresOf (now (read .before .before .args .sheet))
+planned-path : (c : tie.Joined1) → let read = c .before .before .before in figuresWith (read .read .result .verdict) (read .read .result .path) (c .if1 .planned) ≡ figuresOf (now (read .before .before .args .sheet))
 planned-path c =
     let read = c .before .before .before in
     let answered = figures-answered (now (read .before .before .args .sheet)) (read .read .ensures) in
     ⊎-elim (λ w. rw (w .2) (w .1 .ensures ∙ answered)) (λ w. rw (w .3) (w .2 .ensures ∙ answered)) (c .if1 .came)
 
--- and the path is as its verdict has it
+-- and the verdict and the path are as it has them
+verdict-answered : (c : tie.At-match-came) → let planned = c .before .if1 .planned in c .match .verdict ≡ verdictBeside (planned .verdict) (c .before .before .before .before .read .result .verdict)
+verdict-answered c = ⊎-elim (λ w. rw (w .4, w .1 .given .1)) (λ w. rw (w .3, w .1 .given .1)) (c .match .came)
+
 path-answered : (c : tie.At-match-came) → let planned = c .before .if1 .planned in c .match .answer .path ≡ pathBeside (planned .verdict) (c .before .before .before .before .read .result .path)
 path-answered c = ⊎-elim (λ w. rw (w .3, w .1 .given .1, w .2 .ensures)) (λ w. rw (w .2, w .1 .given .1)) (c .match .came)
 
@@ -56,7 +60,7 @@ returns : tie.Need-returns
 returns c =
     let met = c .before .before .before in
     let planned = met .before .if1 .planned in
-    ap {B = PathFigures} (λ (path : PathValue). record { verdict = planned .verdict; path = path; figures = planned .figures; delay = planned .delay }) (path-answered met) ∙ planned-path (met .before)
+    ap₂ {C = PathFigures} (λ (verdict : Verdict) (path : PathValue). record { verdict = verdict; path = path; figures = planned .figures; delay = planned .delay }) (verdict-answered met) (path-answered met) ∙ planned-path (met .before)
 
 pub figures-spec : {M : Type 1} → statement M
 figures-spec =
