@@ -87,12 +87,19 @@ fn said_in(input: Input, line: &[u8; 1023]) -> Line
     if length == 0 {
         return without_declaration(Said::Nothing);
     }
-    if input.lines == 1 && length == 3 {
-        if starts_with(text, b"hex") {
+    if input.lines == 1 {
+        return read_first(text);
+    }
+    read_line(text)
+}
+
+fn read_first(line: &[u8]) -> Line {
+    if line.len() == 3 {
+        if starts_with(line, b"hex") {
             return without_declaration(Said::Hexadecimal);
         }
     }
-    read_line(text)
+    read_line(line)
 }
 
 // What a line says goes to its place in the path, if it is the one that comes next. Behind a wrong line the rest of its path is passed over.
@@ -197,15 +204,18 @@ fn path_with(mut path: PathValue, line: Line) -> PathValue {
             path.declaration = declaration;
         }
         Said::Wanted(wanted) => path.wanted = wanted,
-        Said::LinkedOperator(linked) => {
-            let count = path.count;
-            if count < 16 {
-                path.operators[count] = linked;
-                path.count = count + 1;
-            }
-        }
+        Said::LinkedOperator(linked) => path = with_linked(path, linked),
         Said::House(house) => path = with_form(path, Form::House(house)),
         _ => {}
+    }
+    path
+}
+
+fn with_linked(mut path: PathValue, linked: LinkedOperator) -> PathValue {
+    let count = path.count;
+    if count < 16 {
+        path.operators[count] = linked;
+        path.count = count + 1;
     }
     path
 }
@@ -248,14 +258,17 @@ fn write_path(path: PathValue, in_hexadecimal: bool) {
         Written::Refused(why) => refused(why),
         Written::Length(n) => {
             if n <= 256 {
-                let bytes = &sheet[0..n];
-                if in_hexadecimal {
-                    hexadecimal(bytes);
-                    text(b"\n");
-                } else {
-                    text(bytes);
-                }
+                write_bytes(&sheet[0..n], in_hexadecimal);
             }
         }
+    }
+}
+
+fn write_bytes(bytes: &[u8], in_hexadecimal: bool) {
+    if in_hexadecimal {
+        hexadecimal(bytes);
+        text(b"\n");
+    } else {
+        text(bytes);
     }
 }
