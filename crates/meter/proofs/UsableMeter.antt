@@ -1,12 +1,12 @@
 -- A meter that can be used, and a declaration in range and in order, in plain facts; the ring that its last row makes; and the units that count with an input from the sum of all words.
-use mathlib.Core.Path.{_≡_, refl, sym, ap, _∙_}
+use mathlib.Core.Path.{_≡_, refl, sym, ap, ap₂, _∙_}
 use mathlib.Core.Bool.{Bool, true, false, not, true≢false}
 use mathlib.Core.List.{List}
 use Prim.Native.Nat.{ℕ, zero, suc, _+_, _-_, _%_, _≤_, _<_}
 use native.Mathlib.Nat.{add-zero, add-suc, mod-lt, le-refl, le-dest}
 use native.Mathlib.Omega.{arith}
 use lib.ListN.{length}
-use lib.Dec.{ltb, eqb}
+use lib.Dec.{leb, ltb, eqb}
 use borrow.Author.Tests.{eqb-true, ltb-true, ltb-false, not-false, eq-eqb, ne-eqb, le-ltb, lt-ltb, le-leb, lt-leb}
 use Rattle.quantity.specs.Choice.{pick}
 use Rattle.quantity.specs.Limits.{largestAmount, lastSlot}
@@ -16,13 +16,14 @@ use Rattle.quantity.proofs.Laws.{least-le, le-largest, either-false, either-non
 use Rattle.quantity.proofs.Sums.{both-true, every-at}
 use Rattle.flow.specs.Rows.{Row}
 use Rattle.flow.specs.Declarations.{byKind, hasRows, mostRows, severalRange, rowCount, rowAt, lastRow, rowInRange, declarationInRange, rises, rowsInOrder, rowsClearFrom, unusedClear}
-use Rattle.words.specs.Stored.{wordAt, storedFits, wordFits}
+use Rattle.words.specs.Stored.{wordAt, clearAt, storedFits, wordFits}
 use Rattle.meter.specs.Meter.{meterWordCount, usesBlock, ringLength, meterUnusable, blockBefore, wordBefore, countedBefore}
 use Rattle.flow.specs.declared.Kind.{Kind}
 use Rattle.flow.specs.declared.Declaration.{Declaration}
 use Rattle.meter.specs.declared.SourceMeter.{SourceMeter}
 use Rattle.flow.proofs.Declarations.{rows-count, rows-range, one-count, one-at, one-last, one-unused}
 use Rattle.words.proofs.StoredLaws.{total-used}
+use Rattle.words.proofs.ScanLaws.{unused-fits}
 use Rattle.meter.proofs.RingLaws.{age-total, ring-last}
 
 -- one to four rows, each with its interval and quota in range
@@ -246,6 +247,20 @@ module _ (x : SourceMeter) (words : List ℕ) where
   unfolding meterUnusable
   word-misfit misfit =
       either-second lengthTest _ (either-second slotTest _ (either-second clearTest _ (either-second blockTest _ (either-first wordsTest _ (ap not misfit)))))
+
+-- with a block its total is within the limit, and no word is used; with a ring the total is 0
+pub block-limited : (kind : Kind) → usesBlock kind ≡ true → (block : ℕ) → storedFits (usesBlock kind) block ≡ leb block largestAmount
+unfolding storedFits
+block-limited kind smooth block = pick-true _ _ _ smooth
+
+pub words-unused : (declared : Declaration) → usesBlock (declared .kind) ≡ true → (words : List ℕ) → length words ≡ meterWordCount
+    → every (wordFits (ringLength declared) words) meterWordCount ≡ every (clearAt words) (length words)
+words-unused declared smooth words sized =
+    ap₂ (λ (used count : ℕ). every (wordFits used words) count) (ring-none declared smooth) (sym sized) ∙ sym (unused-fits words)
+
+pub block-unused : (kind : Kind) → usesBlock kind ≡ false → (block : ℕ) → storedFits (usesBlock kind) block ≡ eqb block 0
+unfolding storedFits
+block-unused kind ring block = pick-false _ _ _ ring
 
 -- the block's units so far
 module _ (x : SourceMeter) where

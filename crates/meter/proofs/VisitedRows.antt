@@ -28,7 +28,7 @@ use Rattle.meter.specs.Parts.{inputsBelow, countedOf}
 use Rattle.meter.specs.declared.parts.Counted.the-variants.{Below}
 use Rattle.meter.specs.Counting.{RowsTested, AgesGathered}
 use Rattle.meter.proofs.Least.{leastFrom, least-from-none, least-from-next, least-from-same, least-from-limit}
-use Rattle.meter.proofs.UsableMeter.{Ranged, UsableMeter, meter-usable, declaration-ranged, several-ring, interval-rises, ring-interval, ring-fits, row-within-ring, place-inside, counted-ring}
+use Rattle.meter.proofs.UsableMeter.{Ranged, UsableMeter, meter-usable, declaration-ranged, several-ring, interval-rises, ring-interval, ring-fits, row-within-ring, place-inside, block-unused, counted-ring}
 use Rattle.meter.proofs.PartsLaws.{leaves, counted-next, awaited-ring}
 use Rattle.meter.proofs.EarlierRows.{givenRow}
 use Rattle.meter.proofs.AgeLaws.{ring-small}
@@ -189,13 +189,12 @@ module _ (x : SourceMeter) (words : List ℕ) (tested : RowsTested x words) wher
   -- where the words of the ring fit too, no test stands
   pub counted-rows : every (wordFits ring words) meterWordCount ≡ true → {least : ℕ} → least ≡ inputsBelow x words → {at : ℕ} → at ≡ x .slot .0 % ring
       → Below (record { below = record { 0 = least }; block = record { 0 = 0 }; at = at }) ≡ countedOf x words
-  unfolding storedFits
   counted-rows fit same place =
       let usable : UsableMeter x words = record {
         sized = tested .sized;
         slot-left = tested .slot-left;
         clear = tested .clear;
-        block-fits = rw rows-ringed (eq-eqb (x .block .0) 0 (tested .block-none));
+        block-fits = block-unused (declared .kind) rows-ringed (x .block .0) ∙ eq-eqb (x .block .0) 0 (tested .block-none);
         words-fit = fit;
       } in
       ap Below (awaited-ring x words same rows-ringed place) ∙ sym (counted-next x words (meter-usable x words usable) (tested .in-range) (tested .in-order))

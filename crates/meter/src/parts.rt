@@ -44,6 +44,11 @@ pub enum Counted {
 pub fn counted_before(state: SourceMeter, words: &[u32]) -> Counted
     ensures { λ r. ⌜ r ≡ countedOf state (now (words .entry)) ⌝ }
 {
+    let declaration = state.declaration;
+    let kind = declaration.kind;
+    if uses_block(kind) {
+        return counted_in_block(state, words);
+    }
     if rows_tested(state, words) {
         let rows = rows_below(state, words);
         if rows.join <= words::MOST_EXACT {
@@ -55,6 +60,38 @@ pub fn counted_before(state: SourceMeter, words: &[u32]) -> Counted
         }
     }
     counted_by_scan(state, words)
+}
+
+// The same by the block's total: no word is used.
+fn counted_in_block(state: SourceMeter, words: &[u32]) -> Counted
+    requires { ⌜ usesBlock (state .declaration .kind) ≡ true ⌝ }
+    ensures { λ r. ⌜ r ≡ countedOf state (now (words .entry)) ⌝ }
+{
+    if words.len() != WORDS {
+        return Counted::Unusable;
+    }
+    if Slots::LAST < state.slot.0 {
+        return Counted::Unusable;
+    }
+    let declaration = state.declaration;
+    if !declaration.unused_clear() {
+        return Counted::Unusable;
+    }
+    if Units::LARGEST < state.block.0 {
+        return Counted::Unusable;
+    }
+    if !words::all_clear(words) {
+        return Counted::Unusable;
+    }
+    if !declaration.in_range() {
+        return Counted::OutOfRange;
+    }
+    let block = block_before(state);
+    Counted::Below(Awaited {
+        below: Units(left_below(declaration.quota.0, block)),
+        block: Units(block),
+        at: WORDS,
+    })
 }
 
 // Write: the block's total behind an input, 0 where that is noted in a word.
@@ -159,6 +196,7 @@ fn ring_gather(words: &[u32], ring: usize, at: usize, from: usize, to: usize) ->
 
 // The same by a scan of all words, and then row by row.
 fn counted_by_scan(state: SourceMeter, words: &[u32]) -> Counted
+    requires { ⌜ usesBlock (state .declaration .kind) ≡ false ⌝ }
     ensures { λ r. ⌜ r ≡ countedOf state (now (words .entry)) ⌝ }
 {
     match stored_in(state, words) {
@@ -171,7 +209,7 @@ fn counted_by_scan(state: SourceMeter, words: &[u32]) -> Counted
             if !declaration.in_order() {
                 return Counted::OutOfOrder;
             }
-            Counted::Below(awaited_in(state, words, units))
+            Counted::Below(awaited_in_ring(state, words, units))
         }
     }
 }
@@ -183,6 +221,7 @@ enum Stored {
 }
 
 fn stored_in(state: SourceMeter, words: &[u32]) -> Stored
+    requires { ⌜ usesBlock (state .declaration .kind) ≡ false ⌝ }
     ensures { λ r. ⌜ r ≡ pick (meterUnusable state (now (words .entry))) Stored.Unusable (Stored.Words (total (wordAt (now (words .entry))) meterWordCount)) ⌝ }
 {
     if words.len() != WORDS {
@@ -195,8 +234,7 @@ fn stored_in(state: SourceMeter, words: &[u32]) -> Stored
     if !declaration.unused_clear() {
         return Stored::Unusable;
     }
-    let kind = declaration.kind;
-    if !words::stored_fits(uses_block(kind), state.block.0) {
+    if state.block.0 != 0 {
         return Stored::Unusable;
     }
     let scanned = words::scan(words, ring_length(declaration));
@@ -204,24 +242,6 @@ fn stored_in(state: SourceMeter, words: &[u32]) -> Stored
         return Stored::Unusable;
     }
     Stored::Words(scanned.units)
-}
-
-// What is known of the next input: by the block's total, or by the words of the ring.
-fn awaited_in(state: SourceMeter, words: &[u32], units: u64) -> Awaited
-    requires { ⌜ (meterUnusable state (now words) ≡ false) × (declarationInRange (state .declaration) ≡ true) × (rowsInOrder (state .declaration) ≡ true) × (units ≡ total (wordAt (now words)) meterWordCount) ⌝ }
-    ensures { λ r. ⌜ r ≡ awaitedOf state (now (words .entry)) ⌝ }
-{
-    let declaration = state.declaration;
-    let kind = declaration.kind;
-    if uses_block(kind) {
-        let block = block_before(state);
-        return Awaited {
-            below: Units(left_below(declaration.quota.0, block)),
-            block: Units(block),
-            at: WORDS,
-        };
-    }
-    awaited_in_ring(state, words, units)
 }
 
 // The last row counts all words but the one that the input replaces. A row before it counts the words of the row before and those up to its own reach;

@@ -54,8 +54,8 @@ in-order-requires c κs = search needs
 returns-2 : tie.Need-returns-2
 returns-2 c = counted-unordered _ _ (usable (c .before .before .before .before .before .before)) (ranged (c .before .before)) (sym (c .before .in-order .ensures) ∙ not-true _ (c .if2 .taken))
 
-awaited-in-requires : tie.Need-awaited-in-requires
-awaited-in-requires c κs = (usable (c .before .before .before .before .before .before), ranged (c .before .before), ordered c, summed (c .before .before .before .before .before .before))
+awaited-in-ring-requires : tie.Need-awaited-in-ring-requires
+awaited-in-ring-requires c κs = (c .before .before .before .before .before .before .before .before .before .before .pre, usable (c .before .before .before .before .before .before), ranged (c .before .before), ordered c, summed (c .before .before .before .before .before .before))
 
 returns-3 : tie.Need-returns-3
 returns-3 c =
@@ -65,7 +65,7 @@ returns-3 c =
 returns-4 : tie.Need-returns-4
 returns-4 c =
     let known = c .before in
-    ap Below (c .awaited-in .ensures) ∙ sym (counted-next _ _ (usable (known .before .before .before .before .before .before)) (ranged (known .before .before)) (ordered known))
+    ap Below (c .awaited-in-ring .ensures) ∙ sym (counted-next _ _ (usable (known .before .before .before .before .before .before)) (ranged (known .before .before)) (ordered known))
 
 pub counted-by-scan-spec : {M : Type 1} → statement M
 counted-by-scan-spec =
@@ -78,6 +78,6 @@ counted-by-scan-spec =
     returns
     in-order-requires
     returns-2
-    awaited-in-requires
+    awaited-in-ring-requires
     returns-3
     returns-4)

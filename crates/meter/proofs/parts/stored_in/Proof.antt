@@ -1,43 +1,36 @@
 -- Each test that fails makes the meter unusable; where all pass, it is usable, and the sum is the scan's.
 use mathlib.Core.Path.{_≡_, sym, ap, ap₂, _∙_}
-use mathlib.Core.Bool.{Bool, true}
+use mathlib.Core.Bool.{true}
 use Prim.Native.Nat.{ℕ}
 use native.Mathlib.Omega.{arith}
-use borrow.Author.Tests.{not-true, not-false}
+use borrow.Author.Tests.{not-true, not-false, eq-eqb, ne-eqb}
 use Rattle.quantity.specs.Sums.{total, every}
 use Rattle.quantity.proofs.Laws.{pick-true, pick-false}
-use Rattle.words.specs.Stored.{wordAt, storedFits, wordFits}
-use Rattle.meter.specs.Meter.{meterWordCount, usesBlock, ringLength}
+use Rattle.words.specs.Stored.{wordAt, wordFits}
+use Rattle.meter.specs.Meter.{meterWordCount, ringLength}
 use Rattle.words.specs.declared.Scanned.{Scanned}
 use Rattle.meter.specs.declared.parts.Stored.{Stored}
 use Rattle.words.proofs.ScanLaws.{scan-fits, scan-units}
-use Rattle.meter.proofs.UsableMeter.{meter-usable, wrong-length, no-slot-left, unused-set, block-misfit, word-misfit}
+use Rattle.meter.proofs.UsableMeter.{meter-usable, wrong-length, no-slot-left, unused-set, block-misfit, word-misfit, block-unused}
 use borrow.Author.Needs.{needs}
 use Rattle.meter.proofs.parts.stored_in.Statement.{statement}
 use Rattle.meter.proofs.parts.stored_in.Tie as tie
 
--- what the callees answer, of the state and the words that came in
-block-tested : (c : tie.After-stored-fits) →
-    let state = c .before .before .before .before .before .before .before .before .before .args .state in
-    storedFits (usesBlock (state .declaration .kind)) (state .block .0) ≡ c .stored-fits .result
-block-tested c =
-    let state = c .before .before .before .before .before .before .before .before .before .args .state in
-    sym (c .stored-fits .ensures ∙ ap (λ (used : Bool). storedFits used (state .block .0)) (c .before .uses-block .ensures))
-
+-- what the scan answers, of the state and the words that came in
 words-tested : (c : tie.After-scan) →
-    let start = c .before .before .before .before .before .before .before .before .before .before .before .before in
+    let start = c .before .before .before .before .before .before .before .before .before .before .before in
     every (wordFits (ringLength (start .args .state .declaration)) (start .args .words .now)) meterWordCount ≡ c .scan .result .fits
 words-tested c =
-    let words = c .before .before .before .before .before .before .before .before .before .before .before .before .args .words .now in
-    let sized = c .before .before .before .before .before .before .before .before .before .before .if1 .left in
+    let words = c .before .before .before .before .before .before .before .before .before .before .before .args .words .now in
+    let sized = c .before .before .before .before .before .before .before .before .before .if1 .left in
     sym (ap (λ (r : Scanned). r .fits) (c .scan .ensures) ∙ scan-fits _ words (omega (arith, sized)) ∙ ap₂ (λ (used count : ℕ). every (wordFits used words) count) (c .before .ring-length .ensures) sized)
 
 words-summed : (c : tie.After-scan) →
-    let words = c .before .before .before .before .before .before .before .before .before .before .before .before .args .words .now in
+    let words = c .before .before .before .before .before .before .before .before .before .before .before .args .words .now in
     c .scan .result .fits ≡ true → c .scan .result .units ≡ total (wordAt words) meterWordCount
 words-summed c fits =
-    let words = c .before .before .before .before .before .before .before .before .before .before .before .before .args .words .now in
-    let sized = c .before .before .before .before .before .before .before .before .before .before .if1 .left in
+    let words = c .before .before .before .before .before .before .before .before .before .before .before .args .words .now in
+    let sized = c .before .before .before .before .before .before .before .before .before .if1 .left in
     ap (λ (r : Scanned). r .units) (c .scan .ensures)
     ∙ scan-units _ words (omega (arith, sized)) (sym (ap (λ (r : Scanned). r .fits) (c .scan .ensures)) ∙ fits)
     ∙ ap (total (wordAt words)) sized
@@ -54,14 +47,8 @@ unused-clear-requires c κs = search needs
 returns-3 : tie.Need-returns-3
 returns-3 c = sym (pick-true _ _ _ (unused-set _ _ (sym (c .before .unused-clear .ensures) ∙ not-true _ (c .if3 .taken))))
 
-uses-block-requires : tie.Need-uses-block-requires
-uses-block-requires c κs = search needs
-
-stored-fits-requires : tie.Need-stored-fits-requires
-stored-fits-requires c κs = search needs
-
 returns-4 : tie.Need-returns-4
-returns-4 c = sym (pick-true _ _ _ (block-misfit _ _ (block-tested (c .before) ∙ not-true _ (c .if4 .taken))))
+returns-4 c = sym (pick-true _ _ _ (block-misfit _ _ (block-unused _ (c .before .before .before .before .before .before .before .before .before .pre) _ ∙ ne-eqb _ _ (c .if4 .taken))))
 
 ring-length-requires : tie.Need-ring-length-requires
 ring-length-requires c κs = search needs
@@ -80,10 +67,10 @@ returns-6 c =
     (pick-false _ _ _
     (meter-usable _ _
     record {
-      sized = tested .before .before .before .before .before .before .before .before .if1 .left;
-      slot-left = tested .before .before .before .before .before .before .if2 .left;
-      clear = sym (tested .before .before .before .before .unused-clear .ensures) ∙ not-false _ (tested .before .before .before .if3 .left);
-      block-fits = block-tested (tested .before) ∙ not-false _ (tested .if4 .left);
+      sized = tested .before .before .before .before .before .before .before .if1 .left;
+      slot-left = tested .before .before .before .before .before .if2 .left;
+      clear = sym (tested .before .before .before .unused-clear .ensures) ∙ not-false _ (tested .before .before .if3 .left);
+      block-fits = block-unused _ (tested .before .before .before .before .before .before .before .before .before .pre) _ ∙ eq-eqb _ _ (tested .if4 .left);
       words-fit = words-tested (c .before .before) ∙ not-false _ (c .if5 .left);
     }))
 
@@ -95,8 +82,6 @@ stored-in-spec =
     returns-2
     unused-clear-requires
     returns-3
-    uses-block-requires
-    stored-fits-requires
     returns-4
     ring-length-requires
     scan-requires
