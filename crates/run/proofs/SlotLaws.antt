@@ -32,7 +32,7 @@ use Rattle.run.specs.declared.test.Begun.{Begun}
 use Rattle.run.specs.Calls.{Call, choiceFor, choicesMiscounted, amountTooLarge, callOf}
 use Rattle.run.specs.Runs.{runWordCount, meterWords, noStage, stageAt, meterIn, operatorOf, operatorIn, stageFits, runUnusable}
 use Rattle.run.specs.Slots.{slotBreaks, slotCases, slotOutput, stageNext, refusedSlot, takenSlot, slottedOf, wordsSlotted}
-use Rattle.run.specs.Steps.{stageEmpty, emptyBehind, awaitedIn, notBegun, meterBegunOf, begunOf, behindClear, judgedOf, outcomeOf, runAdvanced, runWritten, wordWritten, decisionCases}
+use Rattle.run.specs.Steps.{stageUnused, unusedBehind, awaitedIn, notBegun, meterBegunOf, begunOf, judgedOf, outcomeOf, runAdvanced, runWritten, wordWritten, decisionCases}
 use Rattle.run.proofs.UsableRun.{MeterFits}
 use Rattle.run.proofs.TestLaws.{stages-told, usable-told}
 use Rattle.run.proofs.MovingLaws.{Ready, Begins, begun-or-not, Passing, Moving, standing-decided, unusable-decided, none-decided}
@@ -119,7 +119,7 @@ module _ (run : Run) (words : List ℕ) (input : Units) (choices : List ℕ) {be
 
   -- what the tests of all stages and words come to
   abbrev Told : Bool → Type 0
-  Told usable = usable ≡ both (both (p .usable) (every (emptyBehind (begun .count) stages) mostOperators)) (behindClear (begun .count) words)
+  Told usable = usable ≡ both (p .usable) (every (unusedBehind (begun .count) stages words) mostOperators)
 
   abbrev Judged : Verdict → Type 0
   Judged verdict = Refusing run words call verdict ⊎ Taking run words call verdict (begun .count) p stages places
@@ -129,7 +129,7 @@ module _ (run : Run) (words : List ℕ) (input : Units) (choices : List ℕ) {be
   unfolding judgedOf
   none-begun none told below judged =
       let unusable : p .usable ≡ false = moved .tells ∙ ap (λ (n : ℕ). both (ltb 0 n) (every (stageFits run words) (begun .count))) (none .0) in
-      let tested = told ∙ ap (λ (t : Bool). both (both t (every (emptyBehind (begun .count) stages) mostOperators)) (behindClear (begun .count) words)) unusable in
+      let tested = told ∙ ap (λ (t : Bool). both t (every (unusedBehind (begun .count) stages words) mostOperators)) unusable in
       inl (record { why = Unusable; refused = judged ∙ pick-true _ _ _ (ap not tested); first = none .1 })
 
   module _ (begins : Begins run words input choices begun) where
@@ -143,14 +143,14 @@ module _ (run : Run) (words : List ℕ) (input : Units) (choices : List ℕ) {be
     moving = rw (begins .count) at moved
 
     -- the stages behind are the run's
-    behind-same : every (emptyBehind (begun .count) stages) mostOperators ≡ every (emptyBehind (run .count) (run .stages)) mostOperators
-    unfolding emptyBehind stageAt
+    behind-same : every (unusedBehind (begun .count) stages words) mostOperators ≡ every (unusedBehind (run .count) (run .stages) words) mostOperators
+    unfolding unusedBehind stageAt
     behind-same =
         rw (begins .count)
-        (every-same (emptyBehind (run .count) stages) (emptyBehind (run .count) (run .stages)) mostOperators
+        (every-same (unusedBehind (run .count) stages words) (unusedBehind (run .count) (run .stages) words) mostOperators
         (λ k less. elim (decLt k (run .count)) [
           | yes named ↦ either-first _ _ (lt-ltb k (run .count) named) ∙ sym (either-first _ _ (lt-ltb k (run .count) named))
-          | no behind ↦ ap (λ (stage : Stage). either (ltb k (run .count)) (stageEmpty stage)) (moving .later k (omega arith))
+          | no behind ↦ ap (λ (stage : Stage). either (ltb k (run .count)) (stageUnused stage words k)) (moving .later k (omega arith))
         ]))
 
     named-told : p .usable ≡ every (stageFits run words) (run .count)
@@ -160,7 +160,7 @@ module _ (run : Run) (words : List ℕ) (input : Units) (choices : List ℕ) {be
     run-told : {usable : Bool} → Told usable → usable ≡ not (runUnusable run words)
     run-told told =
         told
-        ∙ ap₂ both (ap₂ both named-told behind-same) (ap (λ (n : ℕ). behindClear n words) (begins .count))
+        ∙ ap₂ both named-told behind-same
         ∙ stages-told run words fits
         ∙ usable-told run words fits
 
@@ -228,7 +228,7 @@ module _ (run : Run) (words : List ℕ) (input : Units) (choices : List ℕ) {be
               first = inr (ready .miscounted, inr (ready .large, inr (stored, inl (breaks, refl))));
             })
         by-breaks stored fit false keeps =
-            decided stored keeps (both-true (p .usable) _ (both-true (both (p .usable) (every (emptyBehind (begun .count) stages) mostOperators)) _ (sym told ∙ fit) .0) .0)
+            decided stored keeps (both-true (p .usable) _ (sym told ∙ fit) .0)
             (judged ∙ pick-false _ _ _ (ap not fit) ∙ pick-false _ _ _ (lt-leb (begun .awaited .below .0) (input .0) (ltb-true (input .0) (begun .awaited .below .0) (not-false _ (breaks-told ∙ keeps)))))
 
         by-usable : (t : Bool) → usable ≡ t → Judged verdict
@@ -241,7 +241,7 @@ module _ (run : Run) (words : List ℕ) (input : Units) (choices : List ℕ) {be
         by-usable true fit = by-breaks (not-true _ (sym (run-told told) ∙ fit)) fit (slotBreaks run words call) refl
 
   -- what is judged of the call
-  pub judged-told : {usable : Bool} → usable ≡ both (both (p .usable) (every (emptyBehind (begun .count) stages) mostOperators)) (behindClear (begun .count) words)
+  pub judged-told : {usable : Bool} → usable ≡ both (p .usable) (every (unusedBehind (begun .count) stages words) mostOperators)
       → {verdict : Verdict} → verdict ≡ judgedOf usable (begun .awaited .below .0) (input .0) p → Refusing run words (callOf input choices) verdict ⊎ Taking run words (callOf input choices) verdict (begun .count) p stages places
   judged-told told judged = ⊎-elim (λ none. none-begun none told (begun .awaited .below .0) judged) (λ some. some-begun some told judged) (begun-or-not run words input choices same)
 

@@ -35,9 +35,13 @@ use Rattle.run.specs.declared.test.Begun.{Begun}
 unfoldable pub stageEmpty : Stage → Bool
 stageEmpty stage = both (noOperator (stage .operator)) (both (both (eqb (stage .held .0) 0) (eqb (stage .beside .0) 0)) (both (eqb (stage .entered) 0) (eqb (stage .left) 0)))
 
+-- and its words are 0
+unfoldable pub stageUnused : Stage → List ℕ → ℕ → Bool
+stageUnused stage words k = both (eqb (length words) runWordCount) (both (stageEmpty stage) (every (clearAt (operatorWords words k)) wordCount))
+
 -- stage k, of so many stages that are the path's
-unfoldable pub emptyBehind : ℕ → List Stage → ℕ → Bool
-emptyBehind count stages k = either (ltb k count) (stageEmpty (getD stages k noStage))
+unfoldable pub unusedBehind : ℕ → List Stage → List ℕ → ℕ → Bool
+unusedBehind count stages words k = either (ltb k count) (stageUnused (getD stages k noStage) words k)
 
 -- what is known of the next input
 unfoldable pub awaitedIn : Run → List ℕ → Awaited
@@ -62,14 +66,6 @@ meterBegunOf run words = pick (meterMisfits run words) notBegun (record { count 
 
 unfoldable pub begunOf : Run → List ℕ → Call → Begun
 begunOf run words call = pick (either (choicesMiscounted (run .count) call) (amountTooLarge call)) notBegun (meterBegunOf run words)
-
-abbrev pub wordsBehind : ℕ → List ℕ → List ℕ
-wordsBehind count words = take (length words - operatorAtWord count) (drop (operatorAtWord count) words)
-
--- the words behind those of so many operators are 0
-unfoldable pub behindClear : ℕ → List ℕ → Bool
-behindClear count words =
-    both (both (eqb (length words) runWordCount) (leb count mostOperators)) (every (clearAt (wordsBehind count words)) (length (wordsBehind count words)))
 
 -- Decide, operator by operator.
 

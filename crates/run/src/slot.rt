@@ -13,9 +13,8 @@ use crate::stages::write_meter;
 use crate::stages::write_total;
 use crate::test::Begun;
 use crate::test::begin_meter;
-use crate::test::behind_clear;
-use crate::test::is_empty;
 use crate::test::not_begun;
+use crate::test::unused;
 use operator::ring::Advanced;
 use quantity::Slots;
 use quantity::Units;
@@ -89,11 +88,10 @@ pub fn slot(run: Run, words: &mut [u32], input: Units, choices: &[u64]) -> Slott
     let mut usable = progress.usable;
     while k < 16 {
         let stage = stages[k];
-        usable = and(usable, is_empty(stage));
+        usable = and(usable, unused(stage, &words[..], k));
         k += 1;
     }
-    let clear = behind_clear(count, &words[..]);
-    let verdict = judge(and(usable, clear), begun.awaited.below, input, progress);
+    let verdict = judge(usable, begun.awaited.below, input, progress);
     let taken = accepted(verdict);
     if !taken {
         stages = run.stages;

@@ -11,17 +11,19 @@ use operator::Operator;
 use operator::ring::usable;
 use quantity::Slots;
 use quantity::Units;
-use words::all_clear;
+use words::row_clear;
 ghost use mathlib.Core.Path.{_≡_};
 ghost use mathlib.Core.Bool.{not};
 ghost use Prim.Native.Nat.{_≤_, _<_};
+ghost use lib.Dec.{eqb};
 ghost use lib.ListN.{length};
 ghost use Rattle.quantity.specs.Choice.{both};
 ghost use Rattle.quantity.specs.Limits.{mostOperators};
 ghost use Rattle.operator.specs.Operators.{numberInRange};
 ghost use Rattle.operator.specs.Ring.{pathUnusable};
-ghost use Rattle.run.specs.Runs.{runWordCount, operatorWords, noOperator, operatorOf, runUnusable};
-ghost use Rattle.run.specs.Steps.{stageEmpty, behindClear, notBegun, meterBegunOf};
+ghost use Rattle.sheet.specs.Bodies.{operatorByte, operatorNumber};
+ghost use Rattle.run.specs.Runs.{runWordCount, operatorWords, operatorOf, runUnusable};
+ghost use Rattle.run.specs.Steps.{stageEmpty, stageUnused, notBegun, meterBegunOf};
 
 // The path's operators, none where what is lent and stored cannot be used, and what is known of the next input.
 pub struct Begun {
@@ -80,26 +82,12 @@ pub(crate) fn run_usable(run: Run, words: &[u32]) -> bool
     }
     while k < crate::OPERATORS {
         let stage = run.stages[k];
-        if !is_empty(stage) {
+        if !unused(stage, words, k) {
             return false;
         }
         k += 1;
     }
-    behind_clear(count, words)
-}
-
-// Whether the words behind those of so many operators are 0: the stages behind the path's operators are empty, so their words are tested in one pass.
-pub(crate) fn behind_clear(count: usize, words: &[u32]) -> bool
-    ensures { λ r. ⌜ r ≡ behindClear count (now (words .entry)) ⌝ }
-{
-    if words.len() != crate::WORDS {
-        return false;
-    }
-    if crate::OPERATORS < count {
-        return false;
-    }
-    let behind = crate::METER_WORDS + crate::OPERATOR_WORDS * count;
-    all_clear(&words[behind..])
+    true
 }
 
 // Whether stage k, of an operator of the path, and its words can be used.
@@ -116,27 +104,55 @@ fn stage_fits(stage: Stage, slot: Slots, words: &[u32], k: usize) -> bool
     usable(operator_of(stage, slot), &words[start..end])
 }
 
-// Whether a stage is empty, as those behind the path's operators are.
-pub(crate) fn is_empty(stage: Stage) -> bool
-    ensures { λ r. ⌜ r ≡ stageEmpty stage ⌝ }
+// Whether stage k, behind the path's operators, is empty and its words are 0.
+pub(crate) fn unused(stage: Stage, words: &[u32], k: usize) -> bool
+    requires { ⌜ k < mostOperators ⌝ }
+    ensures { λ r. ⌜ r ≡ stageUnused stage (now (words .entry)) k ⌝ }
 {
-    let operator = stage.operator;
-    if !no_operator(operator) {
+    if words.len() != crate::WORDS {
         return false;
     }
-    let units = stage.held.0 | stage.beside.0;
-    let totals = stage.entered as u64 | stage.left as u64;
-    units | totals == 0
+    if join(stage) != 0 {
+        return false;
+    }
+    let start = crate::METER_WORDS + crate::OPERATOR_WORDS * k;
+    let end = start + crate::OPERATOR_WORDS;
+    row_clear(&words[start..end])
 }
 
-fn no_operator(operator: Operator) -> bool
-    ensures { λ r. ⌜ r ≡ noOperator operator ⌝ }
+// All that a stage stores, joined: 0 just where the stage is empty, as those behind the path's operators are.
+// Two numbers of 32 bits that lie side by side are joined as one of 64.
+fn join(stage: Stage) -> u64
+    ensures { λ r. ⌜ eqb r 0 ≡ stageEmpty stage ⌝ }
+{
+    let operator = stage.operator;
+    let named = kind_of(operator) as u64 | ((number_of(operator) as u64) << 32);
+    let units = stage.held.0 | stage.beside.0;
+    let totals = stage.entered as u64 | ((stage.left as u64) << 32);
+    named | units | totals
+}
+
+// A limiter is 0.
+fn kind_of(operator: Operator) -> u8
+    ensures { λ r. ⌜ r ≡ operatorByte operator ⌝ }
 {
     match operator {
-        Operator::Limiter(rate) => rate.0 == 0,
-        Operator::Compactor(_) => false,
-        Operator::Expander(_) => false,
-        Operator::Filter(_) => false,
-        Operator::Delayer(_) => false,
+        Operator::Limiter(_) => 0,
+        Operator::Compactor(_) => 1,
+        Operator::Expander(_) => 2,
+        Operator::Filter(_) => 3,
+        Operator::Delayer(_) => 4,
+    }
+}
+
+fn number_of(operator: Operator) -> u32
+    ensures { λ r. ⌜ r ≡ operatorNumber operator ⌝ }
+{
+    match operator {
+        Operator::Limiter(rate) => rate.0,
+        Operator::Compactor(interval) => interval.0,
+        Operator::Expander(interval) => interval.0,
+        Operator::Filter(rate) => rate.0,
+        Operator::Delayer(delay) => delay.0,
     }
 }

@@ -8,11 +8,11 @@ use borrow.Author.Tests.{not-true, not-false}
 use Rattle.quantity.specs.Choice.{both}
 use Rattle.quantity.specs.Limits.{mostOperators}
 use Rattle.quantity.specs.Sums.{every}
-use Rattle.quantity.proofs.Sums.{every-at, every-on}
+use Rattle.quantity.proofs.Sums.{both-true, every-at, every-on}
 use Rattle.run.specs.Runs.{stageFits, runUnusable}
-use Rattle.run.specs.Steps.{emptyBehind, behindClear}
+use Rattle.run.specs.Steps.{unusedBehind}
 use Rattle.run.proofs.UsableRun.{MeterFits, usable-fits, run-unusable}
-use Rattle.run.proofs.TestLaws.{named-fits, empty-start, empty-told, meter-begun, all-behind, stages-told, usable-told}
+use Rattle.run.proofs.TestLaws.{named-fits, unused-first, unused-told, meter-begun, stages-told, usable-told}
 use borrow.Author.Needs.{needs}
 use Rattle.run.proofs.test.run_usable.Statement.{statement}
 use Rattle.run.proofs.test.run_usable.Tie as tie
@@ -24,7 +24,7 @@ abbrev μ-loop : tie.MeasureT-loop
 μ-loop words run count k₀ k = count - k
 
 abbrev Inv-loop2 : tie.InvT-loop2
-Inv-loop2 words run count k₀ k = (count ≤ k) × (k ≤ mostOperators) × (every (emptyBehind count (run .stages)) k ≡ true)
+Inv-loop2 words run count k₀ k = (count ≤ k) × (k ≤ mostOperators) × (every (unusedBehind count (run .stages) words) k ≡ true)
 
 abbrev μ-loop2 : tie.MeasureT-loop2
 μ-loop2 words run count k₀ k = mostOperators - k
@@ -49,10 +49,11 @@ fits-told c =
     let (fits, same) = found (c .before .before .before .before .before) in
     c .stage-fits .ensures ∙ named-fits _ _ _ (omega (arith, c .before .before .before .loop-test .taken, same))
 
-empty-told-here : (c : tie.After-is-empty Inv-loop μ-loop Inv-loop2 μ-loop2) →
+-- and of one behind
+unused-here : (c : tie.After-unused Inv-loop μ-loop Inv-loop2 μ-loop2) →
     let s = c .before .before .before .before .before .before .before .before .before in
-    emptyBehind (c .before .before .before .before .before .before .before .begin-meter .result .count) (s .args .t1 .stages) (c .before .before .before .loop2 .k) ≡ c .is-empty .result
-empty-told-here c = empty-told _ _ _ (c .before .before .before .loop2 .inv .0) (c .is-empty .ensures)
+    unusedBehind (c .before .before .before .before .before .before .before .begin-meter .result .count) (s .args .t1 .stages) (s .args .words .now) (c .before .before .before .loop2 .k) ≡ c .unused .result
+unused-here c = unused-told _ _ _ _ (c .before .before .before .loop2 .inv .0) ∙ sym (c .unused .ensures)
 
 begin-meter-requires : tie.Need-begin-meter-requires Inv-loop μ-loop Inv-loop2 μ-loop2
 begin-meter-requires c κs = search needs
@@ -96,7 +97,7 @@ loop-again c = (omega (arith, c .before .before .before .before .loop-test .take
 loop2-holds : tie.Need-loop2-holds Inv-loop μ-loop Inv-loop2 μ-loop2
 loop2-holds c =
     let ends : c .before .loop .k ≡ c .before .before .before .begin-meter .result .count = omega (arith, c .loop-test .left, c .before .loop .inv .0) in
-    (omega (arith, ends), omega (arith, ends, few (c .before .before)), rw ends (empty-start _ _))
+    (omega (arith, ends), omega (arith, ends, few (c .before .before)), rw ends (unused-first _ _ _))
 
 mul-stage-2 : tie.Need-mul-stage-2 Inv-loop μ-loop Inv-loop2 μ-loop2
 mul-stage-2 c = omega (arith, c .loop2-test .taken)
@@ -104,8 +105,8 @@ mul-stage-2 c = omega (arith, c .loop2-test .taken)
 element-copy-out-stage-2 : tie.Need-element-copy-out-stage-2 Inv-loop μ-loop Inv-loop2 μ-loop2
 element-copy-out-stage-2 c = omega (arith, c .loop2-test .taken)
 
-is-empty-requires : tie.Need-is-empty-requires Inv-loop μ-loop Inv-loop2 μ-loop2
-is-empty-requires c κs = search needs
+unused-requires : tie.Need-unused-requires Inv-loop μ-loop Inv-loop2 μ-loop2
+unused-requires c κs = omega (arith, c .before .loop2-test .taken)
 
 returns-3 : tie.Need-returns-3 Inv-loop μ-loop Inv-loop2 μ-loop2
 returns-3 c =
@@ -116,8 +117,8 @@ returns-3 c =
     (ap not
     (run-unusable _ _
     (λ usable. contradiction
-    (every-at (emptyBehind (s .args .t1 .count) (s .args .t1 .stages)) mostOperators (all-behind _ _ (fits .sized) (fits .some) (fits .few) (usable .stages)) _ (omega (arith, c .before .before .before .loop2-test .taken)))
-    (sym (ap (λ (n : ℕ). emptyBehind n (s .args .t1 .stages) (c .before .before .before .before .loop2 .k)) same) ∙ empty-told-here (c .before) ∙ not-true _ (c .if3 .taken)))))
+    (every-at (unusedBehind (s .args .t1 .count) (s .args .t1 .stages) (s .args .words .now)) mostOperators (both-true (every (stageFits (s .args .t1) (s .args .words .now)) (s .args .t1 .count)) _ (stages-told _ _ fits ∙ usable .stages) .1) _ (omega (arith, c .before .before .before .loop2-test .taken)))
+    (sym (ap (λ (n : ℕ). unusedBehind n (s .args .t1 .stages) (s .args .words .now) (c .before .before .before .before .loop2 .k)) same) ∙ unused-here (c .before) ∙ not-true _ (c .if3 .taken)))))
 
 add-k-2 : tie.Need-add-k-2 Inv-loop μ-loop Inv-loop2 μ-loop2
 add-k-2 c = omega (arith, c .before .before .before .loop2-test .taken)
@@ -126,28 +127,21 @@ loop2-less : tie.Need-loop2-less Inv-loop μ-loop Inv-loop2 μ-loop2
 loop2-less c = omega (arith, c .before .before .before .loop2-test .taken)
 
 loop2-again : tie.Need-loop2-again Inv-loop μ-loop Inv-loop2 μ-loop2
-loop2-again c = (omega (arith, c .before .before .before .before .loop2 .inv .0), omega (arith, c .before .before .before .loop2-test .taken), every-on _ _ (c .before .before .before .before .loop2 .inv .2) (empty-told-here (c .before) ∙ not-false _ (c .if3 .left)))
-
-behind-clear-requires : tie.Need-behind-clear-requires Inv-loop μ-loop Inv-loop2 μ-loop2
-behind-clear-requires c κs = search needs
+loop2-again c = (omega (arith, c .before .before .before .before .loop2 .inv .0), omega (arith, c .before .before .before .loop2-test .taken), every-on _ _ (c .before .before .before .before .loop2 .inv .2) (unused-here (c .before) ∙ not-false _ (c .if3 .left)))
 
 returns-4 : tie.Need-returns-4 Inv-loop μ-loop Inv-loop2 μ-loop2
 returns-4 c =
-    let last = c .before .before in
+    let last = c .before in
     let first = last .before .before in
     let e = first .before in
     let (fits, same) = found e in
     let run = e .before .before .before .args .t1 in
     let words = e .before .before .before .args .words .now in
     let ends : first .loop .k ≡ run .count = omega (arith, last .before .loop-test .left, first .loop .inv .0, same) in
-    let all : last .loop2 .k ≡ mostOperators = omega (arith, c .before .loop2-test .left, last .loop2 .inv .1) in
+    let all : last .loop2 .k ≡ mostOperators = omega (arith, c .loop2-test .left, last .loop2 .inv .1) in
     let named : every (stageFits run words) (run .count) ≡ true = rw ends at (first .loop .inv .1) in
-    let behind : every (emptyBehind (run .count) (run .stages)) mostOperators ≡ true = rw (all, same) at (last .loop2 .inv .2) in
-    c .behind-clear .ensures
-    ∙ ap (λ (n : ℕ). behindClear n words) same
-    ∙ sym (ap₂ (λ (a b : Bool). both (both a b) (behindClear (run .count) words)) named behind)
-    ∙ stages-told run words fits
-    ∙ usable-told run words fits
+    let behind : every (unusedBehind (run .count) (run .stages) words) mostOperators ≡ true = rw (all, same) at (last .loop2 .inv .2) in
+    sym (ap₂ both named behind) ∙ stages-told run words fits ∙ usable-told run words fits
 
 pub run-usable-spec : {M : Type 1} → statement M
 run-usable-spec =
@@ -170,10 +164,9 @@ run-usable-spec =
     loop2-holds
     mul-stage-2
     element-copy-out-stage-2
-    is-empty-requires
+    unused-requires
     returns-3
     add-k-2
     loop2-less
     loop2-again
-    behind-clear-requires
     returns-4)
