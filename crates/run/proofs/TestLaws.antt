@@ -15,7 +15,7 @@ use Rattle.quantity.specs.Limits.{mostOperators, lastSlot}
 use Rattle.quantity.specs.Choice.{pick, both, either}
 use Rattle.quantity.specs.Sums.{every}
 use Rattle.quantity.proofs.Laws.{pick-true, pick-false, either-first, either-second}
-use Rattle.quantity.proofs.Sums.{both-true, both-assoc, every-next, every-at, every-holds}
+use Rattle.quantity.proofs.Sums.{both-true, both-assoc, every-at, every-holds, every-fails}
 use Rattle.words.specs.Stored.{clearAt, storedFits}
 use Rattle.words.proofs.JoinLaws.{or-clear}
 use Rattle.operator.specs.Single.{wordCount, wordsUsed, usesHeld, usesBeside}
@@ -124,14 +124,12 @@ module _ (count : ℕ) (stages : List Stage) (words : List ℕ) where
   pub unused-first : every (unusedBehind count stages words) count ≡ true
   unused-first = every-holds (unusedBehind count stages words) count unused-named
 
-  -- so joined to what was tested before
-  pub unused-next : (before : Bool) (k : ℕ) → count ≤ k → {usable : Bool} → usable ≡ both before (every (unusedBehind count stages words) k) → {unused : Bool} → unused ≡ stageUnused (getD stages k noStage) words k
-      → {next : Bool} → next ≡ both usable unused → next ≡ both before (every (unusedBehind count stages words) (k + 1))
-  unused-next before k behind told unused joined =
-      joined
-      ∙ ap₂ both told (unused ∙ sym (unused-told k behind))
-      ∙ both-assoc before (every (unusedBehind count stages words) k) (unusedBehind count stages words k)
-      ∙ ap (both before) (sym (every-next (unusedBehind count stages words) k))
+  -- which goes on to the last, or stops at one that is used
+  pub unused-all : (k : ℕ) → k ≤ mostOperators → mostOperators ≤ k → every (unusedBehind count stages words) k ≡ true → eqb k mostOperators ≡ every (unusedBehind count stages words) mostOperators
+  unused-all k most last each = let all : k ≡ mostOperators = omega arith in eq-eqb k mostOperators all ∙ sym (ap (every (unusedBehind count stages words)) (sym all) ∙ each)
+
+  pub used-at : (k : ℕ) → count ≤ k → k < mostOperators → stageUnused (getD stages k noStage) words k ≡ false → eqb k mostOperators ≡ every (unusedBehind count stages words) mostOperators
+  used-at k behind less used = ne-eqb k mostOperators (λ e. omega arith) ∙ sym (every-fails (unusedBehind count stages words) mostOperators k less (unused-told k behind ∙ used))
 
 -- A stage behind the path's operators fits just where it is empty and its words are 0.
 module _ (run : Run) (words : List ℕ) (sized : length words ≡ runWordCount) (k : ℕ) (behind : run .count ≤ k) where

@@ -85,12 +85,14 @@ pub fn slot(run: Run, words: &mut [u32], input: Units, choices: &[u64]) -> Slott
         }
         k += 1;
     }
-    let mut usable = progress.usable;
     while k < 16 {
         let stage = stages[k];
-        usable = and(usable, unused(stage, &words[..], k));
+        if !unused(stage, &words[..], k) {
+            break;
+        }
         k += 1;
     }
+    let usable = and(progress.usable, k == 16);
     let verdict = judge(usable, begun.awaited.below, input, progress);
     let taken = accepted(verdict);
     if !taken {

@@ -112,12 +112,12 @@ pub(crate) fn unused(stage: Stage, words: &[u32], k: usize) -> bool
     if words.len() != crate::WORDS {
         return false;
     }
-    if join(stage) != 0 {
-        return false;
-    }
     let start = crate::METER_WORDS + crate::OPERATOR_WORDS * k;
     let end = start + crate::OPERATOR_WORDS;
-    row_clear(&words[start..end])
+    if !row_clear(&words[start..end]) {
+        return false;
+    }
+    join(stage) == 0
 }
 
 // All that a stage stores, joined: 0 just where the stage is empty, as those behind the path's operators are.

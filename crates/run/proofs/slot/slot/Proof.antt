@@ -5,6 +5,7 @@ use mathlib.Core.List.{List}
 use mathlib.Core.Logic.{_⊎_, inl, inr, ⊎-elim}
 use Prim.Native.Nat.{ℕ, _+_, _-_, _≤_, _<_}
 use native.Mathlib.Omega.{arith}
+use lib.Dec.{eqb}
 use lib.ListN.{length, getD, length-map, length-replicate}
 use borrow.Author.Needs.{needs}
 use borrow.Author.Tests.{not-true, not-false}
@@ -14,6 +15,7 @@ use Rattle.quantity.specs.Sums.{every}
 use Rattle.quantity.specs.declared.Slots.{Slots}
 use Rattle.quantity.specs.declared.Units.{Units}
 use Rattle.quantity.proofs.Laws.{pick-true, pick-false}
+use Rattle.quantity.proofs.Sums.{every-on}
 use Rattle.run.specs.declared.Run.{Run}
 use Rattle.run.specs.declared.Stage.{Stage}
 use Rattle.run.specs.Calls.{Call, callOf}
@@ -24,7 +26,7 @@ use Rattle.run.specs.Runs.{operatorAtWord, noStage, operatorOf, meterIn}
 use Rattle.run.specs.Slots.{slottedOf, wordsSlotted}
 use Rattle.run.specs.Steps.{awaitedIn, unusedBehind, acceptedBy, runAdvanced, withPart, blockWritten, runWritten}
 use Rattle.run.proofs.UsableRun.{slot-left}
-use Rattle.run.proofs.TestLaws.{unused-first, unused-next}
+use Rattle.run.proofs.TestLaws.{unused-told, unused-first, unused-all, used-at}
 use Rattle.run.proofs.MovingLaws.{Begins, begins, few, counted, input-le, Moving, moving-start, moving-sent, moving-unusable, moving-above}
 use Rattle.run.proofs.WriteLaws.{metered-size, metered-same, Written, written-start, written-next, words-end}
 use Rattle.run.proofs.SlotLaws.{Refusing, Taking, judged-told, answer-refused, answer-taken}
@@ -42,10 +44,10 @@ abbrev μ-loop : tie.MeasureT-loop
 μ-loop run words input choices begun count stages₀ places₀ progress₀ k₀ stages places progress k = count - k
 
 abbrev Inv-loop2 : tie.InvT-loop2
-Inv-loop2 run words input choices begun count stages places progress k₀ usable₀ k usable = (count ≤ k) × (k ≤ mostOperators) × (usable ≡ both (progress .usable) (every (unusedBehind count stages words) k))
+Inv-loop2 run words input choices begun count stages places progress k₀ k = (count ≤ k) × (k ≤ mostOperators) × (every (unusedBehind count stages words) k ≡ true)
 
 abbrev μ-loop2 : tie.MeasureT-loop2
-μ-loop2 run words input choices begun count stages places progress k₀ usable₀ k usable = mostOperators - k
+μ-loop2 run words input choices begun count stages places progress k₀ k = mostOperators - k
 
 abbrev Inv-loop3 : tie.InvT-loop3
 Inv-loop3 run words₀ choices count stages places progress k usable verdict taken block end k₀ words k' =
@@ -71,58 +73,61 @@ most c = few _ _ _ _ (c .begin .ensures)
 -- What is judged.
 
 judged : (c : tie.After-judge Inv-loop μ-loop Inv-loop2 μ-loop2 Inv-loop3 μ-loop3) →
-    let a = c .before .before .before .before .before .before .before .before .before .before .before .args in
-    let l = c .before .before .before .before .loop in
-    Refusing (a .run) (a .words .now) (callOf (a .input) (a .choices .now)) (c .judge .result) ⊎ Taking (a .run) (a .words .now) (callOf (a .input) (a .choices .now)) (c .judge .result) (c .before .before .before .before .before .before .before .begin .result .count) (l .progress) (l .stages) (l .places)
-judged c =
-    let l = c .before .before .before .before in
-    let b = c .before .before .before .before .before .before .before in
-    let ends : l .loop .k ≡ b .begin .result .count = omega (arith, c .before .before .before .loop-test .left, l .loop .inv .0) in
-    let all : c .before .before .loop2 .k ≡ mostOperators = omega (arith, c .before .loop2-test .left, c .before .before .loop2 .inv .1) in
-    let tested : c .before .before .loop2 .usable ≡ both (l .loop .progress .usable) (every (unusedBehind (b .begin .result .count) (l .loop .stages) (c .before .before .before .before .before .before .before .before .before .before .before .args .words .now)) mostOperators) = rw all at (c .before .before .loop2 .inv .2) in
-    let moved : Moving (c .before .before .before .before .before .before .before .before .before .before .before .args .run) (c .before .before .before .before .before .before .before .before .before .before .before .args .words .now) (callOf (c .before .before .before .before .before .before .before .before .before .before .before .args .input) (c .before .before .before .before .before .before .before .before .before .before .before .args .choices .now)) (b .begin .result .count) (b .begin .result .count) (l .loop .progress) (l .loop .stages) (l .loop .places) = rw ends at (l .loop .inv .1) in
-    judged-told _ _ _ _ (b .begin .ensures) moved tested (c .judge .ensures)
-
-took : (c : tie.After-accepted Inv-loop μ-loop Inv-loop2 μ-loop2 Inv-loop3 μ-loop3) → c .accepted .result ≡ true →
     let a = c .before .before .before .before .before .before .before .before .before .before .before .before .args in
     let l = c .before .before .before .before .before .loop in
-    Taking (a .run) (a .words .now) (callOf (a .input) (a .choices .now)) (c .before .judge .result) (c .before .before .before .before .before .before .before .before .begin .result .count) (l .progress) (l .stages) (l .places)
+    Refusing (a .run) (a .words .now) (callOf (a .input) (a .choices .now)) (c .judge .result) ⊎ Taking (a .run) (a .words .now) (callOf (a .input) (a .choices .now)) (c .judge .result) (c .before .before .before .before .before .before .before .before .begin .result .count) (l .progress) (l .stages) (l .places)
+judged c =
+    let l = c .before .before .before .before .before in
+    let b = c .before .before .before .before .before .before .before .before in
+    let ends : l .loop .k ≡ b .begin .result .count = omega (arith, c .before .before .before .before .loop-test .left, l .loop .inv .0) in
+    let words = c .before .before .before .before .before .before .before .before .before .before .before .before .args .words .now in
+    let last = c .before .before .before .loop2 in
+    let tested : eqb (last .k) mostOperators ≡ every (unusedBehind (b .begin .result .count) (l .loop .stages) words) mostOperators =
+    ⊎-elim (λ w. unused-all _ _ _ (last .k) (last .inv .1) (w .left) (last .inv .2)) (λ w. used-at _ _ _ (last .k) (last .inv .0) (w .0 .taken) (sym (w .3 .ensures) ∙ not-true _ (w .4 .taken))) (c .before .before .loop2-test .came)
+    in
+    let moved : Moving (c .before .before .before .before .before .before .before .before .before .before .before .before .args .run) (c .before .before .before .before .before .before .before .before .before .before .before .before .args .words .now) (callOf (c .before .before .before .before .before .before .before .before .before .before .before .before .args .input) (c .before .before .before .before .before .before .before .before .before .before .before .before .args .choices .now)) (b .begin .result .count) (b .begin .result .count) (l .loop .progress) (l .loop .stages) (l .loop .places) = rw ends at (l .loop .inv .1) in
+    judged-told _ _ _ _ (b .begin .ensures) moved (c .before .and .ensures ∙ ap (both (l .loop .progress .usable)) tested) (c .judge .ensures)
+
+took : (c : tie.After-accepted Inv-loop μ-loop Inv-loop2 μ-loop2 Inv-loop3 μ-loop3) → c .accepted .result ≡ true →
+    let a = c .before .before .before .before .before .before .before .before .before .before .before .before .before .args in
+    let l = c .before .before .before .before .before .before .loop in
+    Taking (a .run) (a .words .now) (callOf (a .input) (a .choices .now)) (c .before .judge .result) (c .before .before .before .before .before .before .before .before .before .begin .result .count) (l .progress) (l .stages) (l .places)
 unfolding acceptedBy
 took c taken-so = ⊎-elim (λ refusing. absurd (contradiction taken-so (c .accepted .ensures ∙ ap acceptedBy (refusing .refused)))) (λ taking. taking) (judged (c .before))
 
-left : (c : tie.After-accepted Inv-loop μ-loop Inv-loop2 μ-loop2 Inv-loop3 μ-loop3) → c .accepted .result ≡ false → let a = c .before .before .before .before .before .before .before .before .before .before .before .before .args in Refusing (a .run) (a .words .now) (callOf (a .input) (a .choices .now)) (c .before .judge .result)
+left : (c : tie.After-accepted Inv-loop μ-loop Inv-loop2 μ-loop2 Inv-loop3 μ-loop3) → c .accepted .result ≡ false → let a = c .before .before .before .before .before .before .before .before .before .before .before .before .before .args in Refusing (a .run) (a .words .now) (callOf (a .input) (a .choices .now)) (c .before .judge .result)
 unfolding acceptedBy
 left c left-so = ⊎-elim (λ refusing. refusing) (λ taking. absurd (contradiction (c .accepted .ensures ∙ ap acceptedBy (taking .accepted)) left-so)) (judged (c .before))
 
 -- and has begun
 begun-taken : (c : tie.After-accepted Inv-loop μ-loop Inv-loop2 μ-loop2 Inv-loop3 μ-loop3) → c .accepted .result ≡ true →
-    let a = c .before .before .before .before .before .before .before .before .before .before .before .before .args in
-    Begins (a .run) (a .words .now) (a .input) (a .choices .now) (c .before .before .before .before .before .before .before .before .begin .result)
+    let a = c .before .before .before .before .before .before .before .before .before .before .before .before .before .args in
+    Begins (a .run) (a .words .now) (a .input) (a .choices .now) (c .before .before .before .before .before .before .before .before .before .begin .result)
 begun-taken c taken-so =
     let taking = took c taken-so in
-    begins _ _ _ _ (c .before .before .before .before .before .before .before .before .begin .ensures) {k = 0} (omega (arith, taking .operators, taking .fits .some))
+    begins _ _ _ _ (c .before .before .before .before .before .before .before .before .before .begin .ensures) {k = 0} (omega (arith, taking .operators, taking .fits .some))
 
 -- the stages then
-stages-taken : (c : tie.Joined1 Inv-loop μ-loop Inv-loop2 μ-loop2 Inv-loop3 μ-loop3) → c .before .accepted .result ≡ true → c .if1 .stages ≡ c .before .before .before .before .before .before .loop .stages
-stages-taken c taken-so = ⊎-elim (λ w. absurd (contradiction taken-so (not-true _ (w .0 .taken)))) (λ w. w .1) (c .if1 .came)
+stages-taken : (c : tie.Joined2 Inv-loop μ-loop Inv-loop2 μ-loop2 Inv-loop3 μ-loop3) → c .before .accepted .result ≡ true → c .if2 .stages ≡ c .before .before .before .before .before .before .before .loop .stages
+stages-taken c taken-so = ⊎-elim (λ w. absurd (contradiction taken-so (not-true _ (w .0 .taken)))) (λ w. w .1) (c .if2 .came)
 
-stages-left : (c : tie.Joined1 Inv-loop μ-loop Inv-loop2 μ-loop2 Inv-loop3 μ-loop3) → c .before .accepted .result ≡ false → c .if1 .stages ≡ c .before .before .before .before .before .before .before .before .before .before .before .before .before .args .run .stages
-stages-left c left-so = ⊎-elim (λ w. w .2) (λ w. absurd (contradiction (not-false _ (w .0 .left)) left-so)) (c .if1 .came)
+stages-left : (c : tie.Joined2 Inv-loop μ-loop Inv-loop2 μ-loop2 Inv-loop3 μ-loop3) → c .before .accepted .result ≡ false → c .if2 .stages ≡ c .before .before .before .before .before .before .before .before .before .before .before .before .before .before .args .run .stages
+stages-left c left-so = ⊎-elim (λ w. w .2) (λ w. absurd (contradiction (not-false _ (w .0 .left)) left-so)) (c .if2 .came)
 
-stages-long : (c : tie.Joined1 Inv-loop μ-loop Inv-loop2 μ-loop2 Inv-loop3 μ-loop3) → length (c .if1 .stages) ≡ mostOperators
-stages-long c = ⊎-elim (λ w. ap length (w .2) ∙ full (c .before .before .before .before .before .before .before .before .before .before .before .before .before)) (λ w. ap length (w .1) ∙ c .before .before .before .before .before .before .loop .inv .1 .long) (c .if1 .came)
+stages-long : (c : tie.Joined2 Inv-loop μ-loop Inv-loop2 μ-loop2 Inv-loop3 μ-loop3) → length (c .if2 .stages) ≡ mostOperators
+stages-long c = ⊎-elim (λ w. ap length (w .2) ∙ full (c .before .before .before .before .before .before .before .before .before .before .before .before .before .before)) (λ w. ap length (w .1) ∙ c .before .before .before .before .before .before .before .loop .inv .1 .long) (c .if2 .came)
 
 -- what is noted of operator k
-noted-then : (c : tie.Joined1 Inv-loop μ-loop Inv-loop2 μ-loop2 Inv-loop3 μ-loop3) → c .before .accepted .result ≡ true → let a = c .before .before .before .before .before .before .before .before .before .before .before .before .before .args in
-    (k : ℕ) → k < a .run .count → (ws : List ℕ) → wordNoted ws (getD (c .before .before .before .before .before .before .loop .places) k 0) (getD (c .if1 .stages) k noStage .entered) ≡ ringNoted (operatorOf (getD (c .if1 .stages) k noStage) (a .run .slot)) ws
+noted-then : (c : tie.Joined2 Inv-loop μ-loop Inv-loop2 μ-loop2 Inv-loop3 μ-loop3) → c .before .accepted .result ≡ true → let a = c .before .before .before .before .before .before .before .before .before .before .before .before .before .before .args in
+    (k : ℕ) → k < a .run .count → (ws : List ℕ) → wordNoted ws (getD (c .before .before .before .before .before .before .before .loop .places) k 0) (getD (c .if2 .stages) k noStage .entered) ≡ ringNoted (operatorOf (getD (c .if2 .stages) k noStage) (a .run .slot)) ws
 noted-then c taken-so k less ws = rw (stages-taken c taken-so) (took (c .before) taken-so .noted k less ws)
 
 -- what is written is of a slot that is taken, and of the path's operators
-writes : (c : tie.Joined2 Inv-loop μ-loop Inv-loop2 μ-loop2 Inv-loop3 μ-loop3) → {k : ℕ} → k < c .if2 .end → (c .before .before .before .before .before .before .accepted .result ≡ true) × (c .if2 .end ≡ c .before .before .before .before .before .before .before .before .before .before .before .before .before .before .begin .result .count)
-writes c less = ⊎-elim (λ w. (w .0 .taken, w .1)) (λ w. absurd (let none = w .1 in omega arith)) (c .if2 .came)
+writes : (c : tie.Joined3 Inv-loop μ-loop Inv-loop2 μ-loop2 Inv-loop3 μ-loop3) → {k : ℕ} → k < c .if3 .end → (c .before .before .before .before .before .before .accepted .result ≡ true) × (c .if3 .end ≡ c .before .before .before .before .before .before .before .before .before .before .before .before .before .before .before .begin .result .count)
+writes c less = ⊎-elim (λ w. (w .0 .taken, w .1)) (λ w. absurd (let none = w .1 in omega arith)) (c .if3 .came)
 
-end-most : (c : tie.Joined2 Inv-loop μ-loop Inv-loop2 μ-loop2 Inv-loop3 μ-loop3) → c .if2 .end ≤ mostOperators
-end-most c = ⊎-elim (λ w. let all = w .1 in omega (arith, most (c .before .before .before .before .before .before .before .before .before .before .before .before .before .before))) (λ w. let none = w .1 in omega arith) (c .if2 .came)
+end-most : (c : tie.Joined3 Inv-loop μ-loop Inv-loop2 μ-loop2 Inv-loop3 μ-loop3) → c .if3 .end ≤ mostOperators
+end-most c = ⊎-elim (λ w. let all = w .1 in omega (arith, most (c .before .before .before .before .before .before .before .before .before .before .before .before .before .before .before))) (λ w. let none = w .1 in omega arith) (c .if3 .came)
 
 begin-requires : tie.Need-begin-requires Inv-loop μ-loop Inv-loop2 μ-loop2 Inv-loop3 μ-loop3
 begin-requires c κs = search needs
@@ -204,11 +209,7 @@ loop-again c =
 loop2-holds : tie.Need-loop2-holds Inv-loop μ-loop Inv-loop2 μ-loop2 Inv-loop3 μ-loop3
 loop2-holds c =
     let ends : c .before .loop .k ≡ c .before .before .before .before .begin .result .count = omega (arith, c .loop-test .left, c .before .loop .inv .0) in
-    (omega (arith, ends), omega (arith, ends, most (c .before .before .before .before)), rw ends (sym (ap (both (c .before .loop .progress .usable)) (unused-first _ _ _) ∙ both-last _)))
-  where
-    both-last : (t : Bool) → both t true ≡ t
-    both-last true = refl
-    both-last false = refl
+    (omega (arith, ends), omega (arith, ends, most (c .before .before .before .before)), rw ends (unused-first _ _ _))
 
 mul-stage-2 : tie.Need-mul-stage-2 Inv-loop μ-loop Inv-loop2 μ-loop2 Inv-loop3 μ-loop3
 mul-stage-2 c = omega (arith, c .loop2-test .taken)
@@ -218,9 +219,6 @@ array-copy-out-stage-2 c = omega (arith, c .loop2-test .taken, c .before .before
 
 unused-requires : tie.Need-unused-requires Inv-loop μ-loop Inv-loop2 μ-loop2 Inv-loop3 μ-loop3
 unused-requires c κs = omega (arith, c .before .before .loop2-test .taken)
-
-and-requires : tie.Need-and-requires Inv-loop μ-loop Inv-loop2 μ-loop2 Inv-loop3 μ-loop3
-and-requires c κs = search needs
 
 add-k-2 : tie.Need-add-k-2 Inv-loop μ-loop Inv-loop2 μ-loop2 Inv-loop3 μ-loop3
 add-k-2 c = omega (arith, c .before .before .before .before .loop2-test .taken)
@@ -232,8 +230,11 @@ loop2-again : tie.Need-loop2-again Inv-loop μ-loop Inv-loop2 μ-loop2 Inv-loop3
 loop2-again c = (
   omega (arith, c .before .before .before .before .before .loop2 .inv .0),
   omega (arith, c .before .before .before .before .loop2-test .taken),
-  unused-next _ _ _ (c .before .before .before .before .before .before .before .loop .progress .usable) _ (c .before .before .before .before .before .loop2 .inv .0) (c .before .before .before .before .before .loop2 .inv .2) (c .before .unused .ensures) (c .and .ensures),
+  every-on _ _ (c .before .before .before .before .before .loop2 .inv .2) (unused-told _ _ _ _ (c .before .before .before .before .before .loop2 .inv .0) ∙ sym (c .before .unused .ensures) ∙ not-false _ (c .if1 .left)),
 )
+
+and-requires : tie.Need-and-requires Inv-loop μ-loop Inv-loop2 μ-loop2 Inv-loop3 μ-loop3
+and-requires c κs = search needs
 
 judge-requires : tie.Need-judge-requires Inv-loop μ-loop Inv-loop2 μ-loop2 Inv-loop3 μ-loop3
 judge-requires c κs = search needs
@@ -261,7 +262,7 @@ mul-write-total : tie.Need-mul-write-total Inv-loop μ-loop Inv-loop2 μ-loop2 I
 mul-write-total c = omega (arith, c .before .loop3-test .taken, end-most (c .before .before .before))
 
 array-read-write-total : tie.Need-array-read-write-total Inv-loop μ-loop Inv-loop2 μ-loop2 Inv-loop3 μ-loop3
-array-read-write-total c = omega (arith, c .before .loop3-test .taken, end-most (c .before .before .before), c .before .before .before .before .before .before .before .before .before .before .before .before .before .before .loop .inv .1 .wide)
+array-read-write-total c = omega (arith, c .before .loop3-test .taken, end-most (c .before .before .before), c .before .before .before .before .before .before .before .before .before .before .before .before .before .before .before .loop .inv .1 .wide)
 
 write-total-requires : tie.Need-write-total-requires Inv-loop μ-loop Inv-loop2 μ-loop2 Inv-loop3 μ-loop3
 write-total-requires c κs =
@@ -280,7 +281,7 @@ loop3-again c =
     let (taken-so, ends) = writes (c .before .before .before .before .before .before .before) here in
     let joined = c .before .before .before .before .before .before .before .before .before .before .before .before in
     let taking = took (joined .before) taken-so in
-    let named : c .before .before .before .before .before .before .loop3 .k < c .before .before .before .before .before .before .before .before .before .before .before .before .before .before .before .before .before .before .before .before .before .before .before .before .before .args .run .count = omega (arith, here, ends, taking .operators) in (
+    let named : c .before .before .before .before .before .before .loop3 .k < c .before .before .before .before .before .before .before .before .before .before .before .before .before .before .before .before .before .before .before .before .before .before .before .before .before .before .args .run .count = omega (arith, here, ends, taking .operators) in (
       omega (arith, here),
       λ _. written-next (c .before .before .before .before .before .before .loop3 .inv .1 taken-so) (omega (arith, here, end-most (c .before .before .before .before .before .before .before)))
           (c .before .before .write-total .ensures ∙ ap (λ (ws : List ℕ). withPart (operatorAtWord (c .before .before .before .before .before .before .loop3 .k)) ws (c .before .before .before .before .before .before .loop3 .words)) (noted-then joined taken-so _ named _)),
@@ -314,40 +315,40 @@ advanced-same run words call same = ap (withStages run) same
 same-length : tie.Need-same-length Inv-loop μ-loop Inv-loop2 μ-loop2 Inv-loop3 μ-loop3
 same-length c = by-taken (c .before .before .before .before .before .before .before .before .before .before .before .before .accepted .result) refl
   where
-    by-taken : (t : Bool) → c .before .before .before .before .before .before .before .before .before .before .before .before .accepted .result ≡ t → length (c .before .before .before .before .before .loop3 .words) ≡ length (c .before .before .before .before .before .before .before .before .before .before .before .before .before .before .before .before .before .before .before .before .before .before .before .before .args .words .now)
+    by-taken : (t : Bool) → c .before .before .before .before .before .before .before .before .before .before .before .before .accepted .result ≡ t → length (c .before .before .before .before .before .loop3 .words) ≡ length (c .before .before .before .before .before .before .before .before .before .before .before .before .before .before .before .before .before .before .before .before .before .before .before .before .before .args .words .now)
     by-taken true taken-so = c .before .before .before .before .before .loop3 .inv .1 taken-so .sized ∙ sym (took (c .before .before .before .before .before .before .before .before .before .before .before .before) taken-so .fits .sized)
     by-taken false left-so = ap length (c .before .before .before .before .before .loop3 .inv .2 left-so ∙ c .before .before .before .before .before .before .before .before .before .write-meter .ensures .1 left-so .1)
 
 -- the answer, and what the words are then
 taken-answer : (c : tie.After-outcome-of Inv-loop μ-loop Inv-loop2 μ-loop2 Inv-loop3 μ-loop3) → c .before .before .before .before .before .before .before .before .before .before .before .before .accepted .result ≡ true →
-    let a = c .before .before .before .before .before .before .before .before .before .before .before .before .before .before .before .before .before .before .before .before .before .before .before .before .args in
+    let a = c .before .before .before .before .before .before .before .before .before .before .before .before .before .before .before .before .before .before .before .before .before .before .before .before .before .args in
     let call = callOf (a .input) (a .choices .now) in
-    (record { outcome = c .outcome-of .result; run = record { declaration = a .run .declaration; slot = c .before .before .next-slot .result; block = c .before .before .before .before .before .before .before .before .before .write-meter .result; count = a .run .count; stages = c .before .before .before .before .before .before .before .before .before .before .before .if1 .stages } } ≡ slottedOf (a .run) (a .words .now) call)
+    (record { outcome = c .outcome-of .result; run = record { declaration = a .run .declaration; slot = c .before .before .next-slot .result; block = c .before .before .before .before .before .before .before .before .before .write-meter .result; count = a .run .count; stages = c .before .before .before .before .before .before .before .before .before .before .before .if2 .stages } } ≡ slottedOf (a .run) (a .words .now) call)
     × (c .before .before .before .before .before .loop3 .words ≡ wordsSlotted (a .run) (a .words .now) call)
 unfolding meterIn
 taken-answer c taken-so =
-    let a = c .before .before .before .before .before .before .before .before .before .before .before .before .before .before .before .before .before .before .before .before .before .before .before .before .args in
+    let a = c .before .before .before .before .before .before .before .before .before .before .before .before .before .before .before .before .before .before .before .before .before .before .before .before .before .args in
     let call = callOf (a .input) (a .choices .now) in
     let taking = took (c .before .before .before .before .before .before .before .before .before .before .before .before) taken-so in
     let written = c .before .before .before .before .before .before .before .before .before .write-meter .ensures .0 taken-so in
     let known = begun-taken (c .before .before .before .before .before .before .before .before .before .before .before .before) taken-so .awaited in
     let metered = metered-same (a .run) (a .words .now) (a .input) known (written .0) (written .1) in
-    let stages-same : c .before .before .before .before .before .before .before .before .before .before .before .if1 .stages ≡ runAdvanced (a .run) (a .words .now) call .stages = stages-taken (c .before .before .before .before .before .before .before .before .before .before .before) taken-so ∙ taking .stages-next in
+    let stages-same : c .before .before .before .before .before .before .before .before .before .before .before .if2 .stages ≡ runAdvanced (a .run) (a .words .now) call .stages = stages-taken (c .before .before .before .before .before .before .before .before .before .before .before) taken-so ∙ taking .stages-next in
     let advanced = advanced-same (a .run) (a .words .now) call stages-same in
     let ends : c .before .before .before .before .before .loop3 .k ≡ a .run .count =
-    ⊎-elim (λ w. let all = w .1 in omega (arith, c .before .before .before .before .loop3-test .left, c .before .before .before .before .before .loop3 .inv .0, taking .operators)) (λ w. absurd (contradiction taken-so (w .0 .left))) (c .before .before .before .before .before .before .if2 .came)
+    ⊎-elim (λ w. let all = w .1 in omega (arith, c .before .before .before .before .loop3-test .left, c .before .before .before .before .before .loop3 .inv .0, taking .operators)) (λ w. absurd (contradiction taken-so (w .0 .left))) (c .before .before .before .before .before .before .if3 .came)
     in
-    let words-then = words-end (withStages (a .run) (c .before .before .before .before .before .before .before .before .before .before .before .if1 .stages)) (a .words .now) (a .input .0) (taking .fits .sized) (metered .1) ends (c .before .before .before .before .before .loop3 .inv .1 taken-so) in
+    let words-then = words-end (withStages (a .run) (c .before .before .before .before .before .before .before .before .before .before .before .if2 .stages)) (a .words .now) (a .input .0) (taking .fits .sized) (metered .1) ends (c .before .before .before .before .before .loop3 .inv .1 taken-so) in
     answer-taken _ _ _ taking (c .outcome-of .ensures)
     (run-next (a .run) (a .words .now) call (c .before .before .next-slot .ensures ∙ pick-true _ _ _ taken-so) (metered .0) stages-same) (rw advanced at words-then)
 
 left-answer : (c : tie.After-outcome-of Inv-loop μ-loop Inv-loop2 μ-loop2 Inv-loop3 μ-loop3) → c .before .before .before .before .before .before .before .before .before .before .before .before .accepted .result ≡ false →
-    let a = c .before .before .before .before .before .before .before .before .before .before .before .before .before .before .before .before .before .before .before .before .before .before .before .before .args in
+    let a = c .before .before .before .before .before .before .before .before .before .before .before .before .before .before .before .before .before .before .before .before .before .before .before .before .before .args in
     let call = callOf (a .input) (a .choices .now) in
-    (record { outcome = c .outcome-of .result; run = record { declaration = a .run .declaration; slot = c .before .before .next-slot .result; block = c .before .before .before .before .before .before .before .before .before .write-meter .result; count = a .run .count; stages = c .before .before .before .before .before .before .before .before .before .before .before .if1 .stages } } ≡ slottedOf (a .run) (a .words .now) call)
+    (record { outcome = c .outcome-of .result; run = record { declaration = a .run .declaration; slot = c .before .before .next-slot .result; block = c .before .before .before .before .before .before .before .before .before .write-meter .result; count = a .run .count; stages = c .before .before .before .before .before .before .before .before .before .before .before .if2 .stages } } ≡ slottedOf (a .run) (a .words .now) call)
     × (c .before .before .before .before .before .loop3 .words ≡ wordsSlotted (a .run) (a .words .now) call)
 left-answer c left-so =
-    let a = c .before .before .before .before .before .before .before .before .before .before .before .before .before .before .before .before .before .before .before .before .before .before .before .before .args in
+    let a = c .before .before .before .before .before .before .before .before .before .before .before .before .before .before .before .before .before .before .before .before .before .before .before .before .before .args in
     let kept = c .before .before .before .before .before .before .before .before .before .write-meter .ensures .1 left-so in
     answer-refused _ _ _ (left (c .before .before .before .before .before .before .before .before .before .before .before .before) left-so) _ (c .outcome-of .ensures)
     (run-same (a .run) (c .before .before .next-slot .ensures ∙ pick-false _ _ _ left-so) (kept .0) (stages-left (c .before .before .before .before .before .before .before .before .before .before .before) left-so)) (c .before .before .before .before .before .loop3 .inv .2 left-so ∙ kept .1)
@@ -391,10 +392,10 @@ slot-spec =
     mul-stage-2
     array-copy-out-stage-2
     unused-requires
-    and-requires
     add-k-2
     loop2-less
     loop2-again
+    and-requires
     judge-requires
     accepted-requires
     write-meter-requires

@@ -1,9 +1,9 @@
--- The words' length, what the stage stores, and then its words, which start where its first word stands.
-use mathlib.Core.Path.{_≡_, ap, ap₂, sym, _∙_}
-use mathlib.Core.Bool.{Bool}
+-- The words' length, the stage's words, which start where its first word stands, and then what it stores.
+use mathlib.Core.Path.{_≡_, refl, ap, sym, _∙_}
+use mathlib.Core.Bool.{Bool, true, false}
 use Prim.Native.Nat.{_+_, _-_}
 use native.Mathlib.Omega.{arith}
-use borrow.Author.Tests.{ne-eqb, eq-eqb}
+use borrow.Author.Tests.{not-true, not-false}
 use borrow.Author.Needs.{needs}
 use Rattle.quantity.specs.Choice.{both}
 use Rattle.quantity.specs.Sums.{every}
@@ -11,6 +11,7 @@ use Rattle.words.specs.Stored.{clearAt}
 use Rattle.operator.specs.Single.{wordCount}
 use Rattle.sheet.specs.Bodies.{part}
 use Rattle.run.specs.Runs.{operatorAtWord, operatorWords}
+use Rattle.run.specs.Steps.{stageEmpty}
 use Rattle.run.proofs.Parts.{length-operatorWords}
 use Rattle.run.proofs.TestLaws.{stage-unsized, stage-told}
 use Rattle.run.proofs.test.unused.Statement.{statement}
@@ -18,15 +19,6 @@ use Rattle.run.proofs.test.unused.Tie as tie
 
 returns : tie.Need-returns
 returns c = stage-unsized _ _ _ (c .if1 .taken)
-
-join-requires : tie.Need-join-requires
-join-requires c κs = search needs
-
-returns-2 : tie.Need-returns-2
-returns-2 c =
-    let a = c .before .before .before .before .args in
-    let used = sym (c .before .join .ensures) ∙ ne-eqb (c .before .join .result) 0 (c .if2 .taken) in
-    sym (ap (λ (t : Bool). both t (every (clearAt (operatorWords (a .words .now) (a .k))) wordCount)) used) ∙ stage-told _ _ _ (c .before .before .if1 .left)
 
 mul-start : tie.Need-mul-start
 mul-start c = search needs
@@ -52,24 +44,42 @@ part-row-clear-end c = search needs
 row-clear-requires : tie.Need-row-clear-requires
 row-clear-requires c κs = search needs
 
-returns-3 : tie.Need-returns-3
+-- the words of the stage
+row-told : (c : tie.After-row-clear) → let a = c .before .before .before .before .args in c .row-clear .result ≡ every (clearAt (operatorWords (a .words .now) (a .k))) wordCount
 unfolding operatorWords part
+row-told c =
+    let a = c .before .before .before .before .args in
+    let ends : operatorAtWord (a .k) + wordCount - operatorAtWord (a .k) ≡ wordCount = omega arith in
+    rw (ends, length-operatorWords (a .words .now) (c .before .before .if1 .left) (a .k) (c .before .before .before .before .pre)) at (c .row-clear .ensures)
+
+returns-2 : tie.Need-returns-2
+returns-2 c =
+    let a = c .before .before .before .before .before .args in
+    let used = sym (row-told (c .before)) ∙ not-true _ (c .if2 .taken) in
+    sym (ap (both (stageEmpty (a .stage))) used ∙ both-none (stageEmpty (a .stage))) ∙ stage-told _ _ _ (c .before .before .before .if1 .left)
+  where
+    both-none : (t : Bool) → both t false ≡ false
+    both-none true = refl
+    both-none false = refl
+
+join-requires : tie.Need-join-requires
+join-requires c κs = search needs
+
+returns-3 : tie.Need-returns-3
 returns-3 c =
     let a = c .before .before .before .before .before .before .args in
-    let sized = c .before .before .before .before .if1 .left in
-    let ends : operatorAtWord (a .k) + wordCount - operatorAtWord (a .k) ≡ wordCount = omega arith in
-    let empty = sym (c .before .before .before .join .ensures) ∙ eq-eqb (c .before .before .before .join .result) 0 (c .before .before .if2 .left) in
-    rw (ends, length-operatorWords (a .words .now) sized (a .k) (c .before .before .before .before .before .before .pre)) at (c .row-clear .ensures)
-    ∙ sym (ap (λ (t : Bool). both t (every (clearAt (operatorWords (a .words .now) (a .k))) wordCount)) empty)
-    ∙ stage-told _ _ _ sized
+    let clear = sym (row-told (c .before .before)) ∙ not-false _ (c .before .if2 .left) in
+    c .join .ensures ∙ sym (ap (both (stageEmpty (a .stage))) clear ∙ both-all _) ∙ stage-told _ _ _ (c .before .before .before .before .if1 .left)
+  where
+    both-all : (t : Bool) → both t true ≡ t
+    both-all true = refl
+    both-all false = refl
 
 pub unused-spec : {M : Type 1} → statement M
 unused-spec =
     tie.close
     (tie.spec
     returns
-    join-requires
-    returns-2
     mul-start
     add-start
     add-end
@@ -78,4 +88,6 @@ unused-spec =
     part-row-clear-start
     part-row-clear-end
     row-clear-requires
+    returns-2
+    join-requires
     returns-3)
