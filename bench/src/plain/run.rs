@@ -3,7 +3,7 @@
 use super::figures::figures;
 use super::meter::{METER_WORDS, Meter};
 use super::sheet::{MOST_OPERATORS, Operator};
-use super::words::{all_zero, bits};
+use super::words::bits;
 use super::{LARGEST, Refusal};
 
 /// The words that a run is lent: 1,024 of the meter, then 64 of each operator.
@@ -194,8 +194,11 @@ impl Run {
                 Advanced::ChoiceAbove => above = above.or(Some(k)),
             }
         }
-        if empty.iter().any(|stage| *stage != Stage::NONE) || !all_zero(behind) {
-            return Err(Refusal::Unusable);
+        let (behind, _) = behind.as_chunks::<OPERATOR_WORDS>();
+        for (stage, words) in empty.iter().zip(behind) {
+            if *stage != Stage::NONE || bits(words) != 0 {
+                return Err(Refusal::Unusable);
+            }
         }
         if room.is_none_or(|room| input > room) {
             return Err(Refusal::InputBreaksDeclaration);
