@@ -2,8 +2,8 @@
 use mathlib.Core.Path.{_≡_, refl, ap, ap₂, sym, _∙_}
 use mathlib.Core.Bool.{Bool, true, false, not}
 use mathlib.Core.List.{List}
-use Prim.Native.Nat.{ℕ, zero, suc, _+_, _-_, _%_, _≤_, _<_}
-use native.Mathlib.Nat.{add-zero, add-suc, add-mod-mod, mod-lt}
+use Prim.Native.Nat.{ℕ, zero, suc, _+_, _-_, _*_, _/_, _%_, _≤_, _<_}
+use native.Mathlib.Nat.{add-zero, add-suc, add-mod-mod, mod-lt, div-eq-of-lt, div-lt-iff-lt-mul}
 use native.Mathlib.Decide.{decLt, ℕ-discrete}
 use native.Mathlib.Omega.{arith}
 use lib.ListN.{length, set, take, drop, length-drop}
@@ -228,6 +228,33 @@ module _ (x : PathOperator) (words : List ℕ) (sized : length words ≡ wordCou
 
     pub totals-stand : (bitOr (x .entered) (x .left) ≡ 0 → ⊥) → false ≡ not (pathUnusable x words)
     totals-stand some = refused-unusable x words (λ stored. some (eqb-true _ 0 (sym totals-apart ∙ stored .totals-fit)))
+
+    -- how often the amounts go beyond what each may be, and the totals, joined
+    module _ (most : ℕ) (same : most ≡ pick (usesBeside (x .operator)) largestAmount 0) where
+      abbrev Beyond : ℕ
+      Beyond = bitOr (bitOr (x .held .0 / (largestAmount + 1)) (x .beside .0 / (most + 1))) (bitOr (x .entered) (x .left))
+
+      pub beyond-stands : (Beyond ≡ 0 → ⊥) → false ≡ not (pathUnusable x words)
+      beyond-stands some =
+          elim (decLt largestAmount (x .held .0)) [
+            | yes above ↦ held-above above
+            | no fits ↦ elim (decLt most (x .beside .0)) [
+              | yes above ↦ beside-above (omega (arith, same))
+              | no beside ↦ totals-stand (λ none. some (rw (div-eq-of-lt {n = x .held .0} {m = largestAmount + 1} (omega arith), div-eq-of-lt {n = x .beside .0} {m = most + 1} (omega arith), none) refl))
+            ]
+          ]
+
+      pub none-beyond : Beyond ≡ 0 → (x .held .0 ≤ largestAmount) × (x .beside .0 ≤ pick (usesBeside (x .operator)) largestAmount 0) × (bitOr (x .entered) (x .left) ≡ 0)
+      none-beyond none =
+          let (units, totals) = both-true (eqb (bitOr (x .held .0 / (largestAmount + 1)) (x .beside .0 / (most + 1))) 0) _ (sym (or-clear (bitOr (x .held .0 / (largestAmount + 1)) (x .beside .0 / (most + 1))) (bitOr (x .entered) (x .left))) ∙ eq-eqb Beyond 0 none) in
+          let (held, beside) = both-true (eqb (x .held .0 / (largestAmount + 1)) 0) _ (sym (or-clear (x .held .0 / (largestAmount + 1)) (x .beside .0 / (most + 1))) ∙ units) in (
+            within (x .held .0) largestAmount (eqb-true (x .held .0 / (largestAmount + 1)) 0 held),
+            omega (arith, within (x .beside .0) most (eqb-true (x .beside .0 / (most + 1)) 0 beside), same),
+            eqb-true (bitOr (x .entered) (x .left)) 0 totals,
+          )
+        where
+          within : (n m : ℕ) → n / (m + 1) ≡ 0 → n ≤ m
+          within n m e = let large : 0 < m + 1 = omega arith in let less : n < 1 * (m + 1) = div-lt-iff-lt-mul large .0 (omega (arith, e)) in omega (arith, less)
 
     pub apart-told : x .held .0 ≤ largestAmount → x .beside .0 ≤ pick (usesBeside (x .operator)) largestAmount 0 → bitOr (x .entered) (x .left) ≡ 0
         → {clear : Bool} → clear ≡ every (clearAt words) (length words) → clear ≡ not (pathUnusable x words)

@@ -283,17 +283,14 @@ fn units_held(state: PathOperator) -> u64
 }
 
 // Whether an operator that is no delayer holds no more than the limit, its h is at most so much, and its totals and words are 0.
+// How often an amount goes beyond its most is 0 just where it is within: so all amounts are joined, and tested once.
 fn apart_fits(state: PathOperator, most: u64, words: &[u32]) -> bool
     requires { ⌜ (length (now words) ≡ wordCount) × (state .slot .0 ≤ lastSlot) × (usesHeld (state .operator) ≡ true) × (most ≡ pick (usesBeside (state .operator)) largestAmount 0) ⌝ }
     ensures { λ r. ⌜ r ≡ not (pathUnusable state (now (words .entry))) ⌝ }
 {
-    if Units::LARGEST < state.held.0 {
-        return false;
-    }
-    if most < state.beside.0 {
-        return false;
-    }
-    if state.entered | state.left != 0 {
+    let beyond = state.held.0 / (Units::LARGEST + 1) | state.beside.0 / (most + 1);
+    let totals = state.entered as u64 | state.left as u64;
+    if beyond | totals != 0 {
         return false;
     }
     words::row_clear(words)
