@@ -10,9 +10,9 @@ pub fn bits(words: &[u32]) -> u32 {
 /// The words of a row, which the compiler joins without a loop.
 const ROW: usize = 128;
 
-/// Whether all of many words are 0: row by row, and then those that are left.
+/// Whether all of many words are 0: those in front of the rows, and row by row, so that the rows of words behind others begin where those of the whole memory do.
 pub fn all_zero(words: &[u32]) -> bool {
-    let (rows, rest) = words.as_chunks::<ROW>();
+    let (rest, rows) = words.as_rchunks::<ROW>();
     rows.iter()
         .fold(bits(rest), |joined, row| joined | bits(row))
         == 0

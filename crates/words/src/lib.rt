@@ -89,19 +89,22 @@ fn at_most(count: usize, most: usize) -> usize
 // The words of a row, which is joined without a loop.
 const ROW: usize = 128;
 
-// Whether every word is 0: row by row, and then those that are left.
+// Whether every word is 0: those in front of the rows, and then row by row. So the rows of words that stand behind others begin where those of the whole memory do, and no vector of them lies across two lines of the cache.
 pub fn all_clear(words: &[u32]) -> bool
     ensures { λ r. ⌜ r ≡ every (clearAt (now (words .entry))) (length (now (words .entry))) ⌝ }
 {
-    let mut j = 0;
-    while ROW <= words.len() - j {
+    let mut j = words.len() % ROW;
+    if !row_clear(&words[0..j]) {
+        return false;
+    }
+    while j < words.len() {
         let end = j + ROW;
         if !row_clear(&words[j..end]) {
             return false;
         }
         j = end;
     }
-    row_clear(&words[j..])
+    true
 }
 
 // The same of few words, in one row.
