@@ -21,7 +21,7 @@ use Rattle.operator.specs.declared.ring.PathOperator.{PathOperator}
 use Rattle.meter.specs.declared.parts.Awaited.{Awaited}
 use Rattle.sheet.specs.declared.read.Verdict.{Verdict}
 use Rattle.run.specs.Calls.{Call, choicesMiscounted, amountTooLarge}
-use Rattle.run.specs.Runs.{runWordCount, meterWords, operatorAtWord, operatorWords, noOperator, noStage, stageAt, meterIn, operatorIn}
+use Rattle.run.specs.Runs.{runWordCount, meterWords, operatorWords, noOperator, noStage, stageAt, meterIn, operatorIn}
 use Rattle.run.specs.Slots.{choiceCases, slotLeavesTooMuch, stageNext}
 use Rattle.run.specs.declared.Stage.{Stage}
 use Rattle.run.specs.declared.Run.{Run}
@@ -35,11 +35,11 @@ use Rattle.run.specs.declared.test.Begun.{Begun}
 unfoldable pub stageEmpty : Stage → Bool
 stageEmpty stage = both (noOperator (stage .operator)) (both (both (eqb (stage .held .0) 0) (eqb (stage .beside .0) 0)) (both (eqb (stage .entered) 0) (eqb (stage .left) 0)))
 
--- and its words are 0
+-- stage k is empty, and its words are 0
 unfoldable pub stageUnused : Stage → List ℕ → ℕ → Bool
 stageUnused stage words k = both (eqb (length words) runWordCount) (both (stageEmpty stage) (every (clearAt (operatorWords words k)) wordCount))
 
--- stage k, of so many stages that are the path's
+-- the same of stage k, unless it is one of the first so many, which are the path's
 unfoldable pub unusedBehind : ℕ → List Stage → List ℕ → ℕ → Bool
 unusedBehind count stages words k = either (ltb k count) (stageUnused (getD stages k noStage) words k)
 

@@ -8,8 +8,11 @@ use quantity::Rate;
 use quantity::Slots;
 use quantity::Units;
 ghost use mathlib.Core.Path.{_≡_};
+ghost use Prim.Native.Nat.{_<_};
+ghost use lib.ListN.{length};
 ghost use Rattle.quantity.specs.Choice.{both};
-ghost use Rattle.run.specs.Runs.{noStage, meterIn, operatorOf};
+ghost use Rattle.quantity.specs.Limits.{mostOperators};
+ghost use Rattle.run.specs.Runs.{runWordCount, noStage, meterIn, operatorOf, operatorWords};
 
 pub mod opening;
 pub mod slot;
@@ -89,6 +92,16 @@ fn operator_of(stage: Stage, slot: Slots) -> PathOperator
         entered: stage.entered,
         left: stage.left,
     }
+}
+
+// The words of operator k.
+fn operator_words(words: &[u32], k: usize) -> &[u32]
+    requires { ⌜ (length (now words) ≡ runWordCount) × (k < mostOperators) ⌝ }
+    ensures { λ r. ⌜ now r ≡ operatorWords (now (words .entry)) k ⌝ }
+{
+    let start = METER_WORDS + OPERATOR_WORDS * k;
+    let end = start + OPERATOR_WORDS;
+    &words[start..end]
 }
 
 fn and(a: bool, b: bool) -> bool

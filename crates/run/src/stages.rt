@@ -3,6 +3,7 @@
 use crate::Stage;
 use crate::and;
 use crate::operator_of;
+use crate::operator_words;
 use meter::parts::Awaited;
 use meter::parts::block_behind;
 use operator::ring::Advanced;
@@ -91,9 +92,12 @@ pub(crate) fn advance_stage(
     requires { ⌜ (length (now words) ≡ runWordCount) × (k < mostOperators) ⌝ }
     ensures { λ r. ⌜ r ≡ advancedOf (operatorOf stage slot) (operatorWords (now (words .entry)) k) (input .0) (choice .0) ⌝ }
 {
-    let start = crate::METER_WORDS + crate::OPERATOR_WORDS * k;
-    let end = start + crate::OPERATOR_WORDS;
-    advance(operator_of(stage, slot), &words[start..end], input, choice)
+    advance(
+        operator_of(stage, slot),
+        operator_words(words, k),
+        input,
+        choice,
+    )
 }
 
 // An operator within a path, as the run keeps it.

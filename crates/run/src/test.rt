@@ -4,6 +4,7 @@ use crate::Run;
 use crate::Stage;
 use crate::meter_of;
 use crate::operator_of;
+use crate::operator_words;
 use meter::parts::Awaited;
 use meter::parts::Counted;
 use meter::parts::counted_before;
@@ -99,9 +100,7 @@ fn stage_fits(stage: Stage, slot: Slots, words: &[u32], k: usize) -> bool
     if !operator.number_in_range() {
         return false;
     }
-    let start = crate::METER_WORDS + crate::OPERATOR_WORDS * k;
-    let end = start + crate::OPERATOR_WORDS;
-    usable(operator_of(stage, slot), &words[start..end])
+    usable(operator_of(stage, slot), operator_words(words, k))
 }
 
 // Whether stage k, behind the path's operators, is empty and its words are 0.
@@ -112,9 +111,7 @@ pub(crate) fn unused(stage: Stage, words: &[u32], k: usize) -> bool
     if words.len() != crate::WORDS {
         return false;
     }
-    let start = crate::METER_WORDS + crate::OPERATOR_WORDS * k;
-    let end = start + crate::OPERATOR_WORDS;
-    if !row_clear(&words[start..end]) {
+    if !row_clear(operator_words(words, k)) {
         return false;
     }
     join(stage) == 0
@@ -132,7 +129,7 @@ fn join(stage: Stage) -> u64
     named | units | totals
 }
 
-// A limiter is 0.
+// The kind by its number on a sheet; a limiter's is 0.
 fn kind_of(operator: Operator) -> u8
     ensures { λ r. ⌜ r ≡ operatorByte operator ⌝ }
 {

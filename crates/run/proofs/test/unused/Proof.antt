@@ -1,16 +1,13 @@
--- The words' length, the stage's words, which start where its first word stands, and then what it stores.
+-- The words' length, the stage's words, and then what it stores.
 use mathlib.Core.Path.{_≡_, refl, ap, sym, _∙_}
 use mathlib.Core.Bool.{Bool, true, false}
-use Prim.Native.Nat.{_+_, _-_}
-use native.Mathlib.Omega.{arith}
 use borrow.Author.Tests.{not-true, not-false}
 use borrow.Author.Needs.{needs}
 use Rattle.quantity.specs.Choice.{both}
 use Rattle.quantity.specs.Sums.{every}
 use Rattle.words.specs.Stored.{clearAt}
 use Rattle.operator.specs.Single.{wordCount}
-use Rattle.sheet.specs.Bodies.{part}
-use Rattle.run.specs.Runs.{operatorAtWord, operatorWords}
+use Rattle.run.specs.Runs.{operatorWords}
 use Rattle.run.specs.Steps.{stageEmpty}
 use Rattle.run.proofs.Parts.{length-operatorWords}
 use Rattle.run.proofs.TestLaws.{stage-unsized, stage-told}
@@ -20,37 +17,17 @@ use Rattle.run.proofs.test.unused.Tie as tie
 returns : tie.Need-returns
 returns c = stage-unsized _ _ _ (c .if1 .taken)
 
-mul-start : tie.Need-mul-start
-mul-start c = search needs
-
-add-start : tie.Need-add-start
-add-start c = search needs
-
-add-end : tie.Need-add-end
-add-end c = search needs
-
-mul-row-clear : tie.Need-mul-row-clear
-mul-row-clear c = search needs
-
-sub-row-clear : tie.Need-sub-row-clear
-sub-row-clear c = search needs
-
-part-row-clear-start : tie.Need-part-row-clear-start
-part-row-clear-start c = search needs
-
-part-row-clear-end : tie.Need-part-row-clear-end
-part-row-clear-end c = search needs
+operator-words-requires : tie.Need-operator-words-requires
+operator-words-requires c κs = search needs
 
 row-clear-requires : tie.Need-row-clear-requires
 row-clear-requires c κs = search needs
 
 -- the words of the stage
 row-told : (c : tie.After-row-clear) → let a = c .before .before .before .before .args in c .row-clear .result ≡ every (clearAt (operatorWords (a .words .now) (a .k))) wordCount
-unfolding operatorWords part
 row-told c =
     let a = c .before .before .before .before .args in
-    let ends : operatorAtWord (a .k) + wordCount - operatorAtWord (a .k) ≡ wordCount = omega arith in
-    rw (ends, length-operatorWords (a .words .now) (c .before .before .if1 .left) (a .k) (c .before .before .before .before .pre)) at (c .row-clear .ensures)
+    rw (c .before .operator-words .ensures, length-operatorWords (a .words .now) (c .before .before .if1 .left) (a .k) (c .before .before .before .before .pre)) at (c .row-clear .ensures)
 
 returns-2 : tie.Need-returns-2
 returns-2 c =
@@ -80,13 +57,7 @@ unused-spec =
     tie.close
     (tie.spec
     returns
-    mul-start
-    add-start
-    add-end
-    mul-row-clear
-    sub-row-clear
-    part-row-clear-start
-    part-row-clear-end
+    operator-words-requires
     row-clear-requires
     returns-2
     join-requires
