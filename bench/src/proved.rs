@@ -59,18 +59,7 @@ mod exported {
             sheets: *const u8,
             size: usize,
             width: usize,
-            turns: u64,
-        ) -> u64;
-
-        pub fn workload_confirmings(
-            capacity: u32,
-            standing: *const u32,
-            standing_count: usize,
-            further: *const u32,
-            further_count: usize,
-            sheets: *const u8,
-            size: usize,
-            width: usize,
+            confirmed: bool,
             turns: u64,
         ) -> u64;
 
@@ -179,7 +168,7 @@ pub fn metering(declared: &[u32], slot: u32, words: &mut [u32], inputs: &[u64], 
     }
 }
 
-pub fn holdings(
+pub fn holdings<const CONFIRMED: bool>(
     capacity: u32,
     standing: &[u32],
     further: &[u32],
@@ -197,29 +186,7 @@ pub fn holdings(
             sheets.as_ptr(),
             sheets.len(),
             width,
-            turns,
-        )
-    }
-}
-
-pub fn confirmings(
-    capacity: u32,
-    standing: &[u32],
-    further: &[u32],
-    sheets: &[u8],
-    width: usize,
-    turns: u64,
-) -> u64 {
-    unsafe {
-        exported::workload_confirmings(
-            capacity,
-            standing.as_ptr(),
-            standing.len(),
-            further.as_ptr(),
-            further.len(),
-            sheets.as_ptr(),
-            sheets.len(),
-            width,
+            CONFIRMED,
             turns,
         )
     }

@@ -33,8 +33,8 @@ pub const PROVED: Planner = Planner {
     words: proved::words,
     slots: proved::slots,
     metering: proved::metering,
-    holdings: proved::holdings,
-    confirmings: proved::confirmings,
+    holdings: proved::holdings::<false>,
+    confirmings: proved::holdings::<true>,
     releases: proved::releases,
     spare_rates: proved::spare_rates,
 };
@@ -47,8 +47,8 @@ pub const PLAIN: Planner = Planner {
     words: turns::words,
     slots: turns::slots,
     metering: turns::metering,
-    holdings: turns::holdings,
-    confirmings: turns::confirmings,
+    holdings: turns::holdings::<false>,
+    confirmings: turns::holdings::<true>,
     releases: turns::releases,
     spare_rates: turns::spare_rates,
 };

@@ -206,7 +206,7 @@ fn filled(
     (ledger, records)
 }
 
-pub fn holdings(
+pub fn holdings<const CONFIRMED: bool>(
     capacity: u32,
     standing: &[u32],
     further: &[u32],
@@ -220,40 +220,18 @@ pub fn holdings(
         let (mut ledger, mut records) = (ledger, records);
         let answer = ledger.hold(&mut records, further[j], &sheets[at..at + width]);
         sum = mix(sum, ledger.count as u64);
-        sum = match answer {
-            Err(why) => mix_refusal(sum, why),
-            Ok(held) => mix_record(mix(sum, held.delay), records[63]),
-        };
-        at = after(at, width, sheets.len());
-        j = after(j, 1, further.len());
-    }
-    sum
-}
-
-pub fn confirmings(
-    capacity: u32,
-    standing: &[u32],
-    further: &[u32],
-    sheets: &[u8],
-    width: usize,
-    turns: u64,
-) -> u64 {
-    let (ledger, records) = filled(capacity, standing, sheets, width);
-    let (mut sum, mut at, mut j) = (0, 0, 0);
-    for _ in 0..turns {
-        let (mut ledger, mut records) = (ledger, records);
-        let answer = ledger.hold(&mut records, further[j], &sheets[at..at + width]);
-        sum = mix(sum, ledger.count as u64);
-        sum = match answer {
-            Err(why) => mix_refusal(sum, why),
+        match answer {
+            Err(why) => sum = mix_refusal(sum, why),
             Ok(held) => {
-                let sum = mix_record(mix(sum, held.delay), records[63]);
-                match ledger.confirm(&mut records, further[j]) {
-                    Err(why) => mix_refusal(sum, why),
-                    Ok(()) => mix_record(sum, records[63]),
+                sum = mix_record(mix(sum, held.delay), records[63]);
+                if CONFIRMED {
+                    sum = match ledger.confirm(&mut records, further[j]) {
+                        Err(why) => mix_refusal(sum, why),
+                        Ok(()) => mix_record(sum, records[63]),
+                    };
                 }
             }
-        };
+        }
         at = after(at, width, sheets.len());
         j = after(j, 1, further.len());
     }

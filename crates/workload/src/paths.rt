@@ -74,7 +74,7 @@ fn settled(book: Book, number: u32, sheet: &[u8]) -> Book {
     }
 }
 
-// A ledger with paths; then in each turn a path is held in it, under the next of further numbers.
+// A ledger with paths; then in each turn a path is held in it, under the next of further numbers, and confirmed at once if that is asked for.
 #[no_mangle]
 pub extern "C" fn workload_holdings(
     capacity: u32,
@@ -82,35 +82,7 @@ pub extern "C" fn workload_holdings(
     further: &[u32],
     sheets: &[u8],
     width: usize,
-    mut turns: u64,
-) -> u64 {
-    if further.len() == 0 {
-        return 0;
-    }
-    let width = least(width, sheets.len());
-    let book = filled(capacity, standing, sheets, width);
-    let records = book.records;
-    let mut sum = 0;
-    let mut at = 0;
-    let mut j = 0;
-    while 0 < turns {
-        let sheet = sheet_at(sheets, at, width);
-        sum = mix_held(sum, hold_path(book.ledger, records, further[j], sheet));
-        at = after(at, width, sheets.len());
-        j = after(j, 1, further.len());
-        turns -= 1;
-    }
-    sum
-}
-
-// The same, and the path is confirmed at once.
-#[no_mangle]
-pub extern "C" fn workload_confirmings(
-    capacity: u32,
-    standing: &[u32],
-    further: &[u32],
-    sheets: &[u8],
-    width: usize,
+    confirmed: bool,
     mut turns: u64,
 ) -> u64 {
     if further.len() == 0 {
@@ -125,7 +97,8 @@ pub extern "C" fn workload_confirmings(
     while 0 < turns {
         let sheet = sheet_at(sheets, at, width);
         let number = further[j];
-        sum = mix_settled(sum, hold_path(book.ledger, records, number, sheet), number);
+        let answer = hold_path(book.ledger, records, number, sheet);
+        sum = mix_settled(sum, answer, number, confirmed);
         at = after(at, width, sheets.len());
         j = after(j, 1, further.len());
         turns -= 1;
@@ -212,9 +185,12 @@ fn mix_held(sum: u64, answer: HeldPath) -> u64 {
     }
 }
 
-// A path that was held, and is confirmed if that was accepted.
-fn mix_settled(sum: u64, answer: HeldPath, number: u32) -> u64 {
+// A path that was held, and is confirmed if that is asked for and the holding was accepted.
+fn mix_settled(sum: u64, answer: HeldPath, number: u32, confirmed: bool) -> u64 {
     let next = mix_held(sum, answer);
+    if !confirmed {
+        return next;
+    }
     let holding = answer.holding;
     let verdict = holding.verdict;
     match verdict {

@@ -6,10 +6,10 @@ use Rattle.workload.proofs.paths.workload_holdings.Statement.{statement
 use Rattle.workload.proofs.paths.workload_holdings.Tie as tie
 
 abbrev Inv-loop : tie.InvT-loop
-Inv-loop capacity standing further sheets width turns₀ width' book records sum₀ at₀ j₀ turns sum at j = (at + width' ≤ length sheets) × (j + 1 ≤ length further)
+Inv-loop capacity standing further sheets width confirmed turns₀ width' book records sum₀ at₀ j₀ turns sum at j = (at + width' ≤ length sheets) × (j + 1 ≤ length further)
 
 abbrev μ-loop : tie.MeasureT-loop
-μ-loop capacity standing further sheets width turns₀ width' book records sum₀ at₀ j₀ turns sum at j = turns
+μ-loop capacity standing further sheets width confirmed turns₀ width' book records sum₀ at₀ j₀ turns sum at j = turns
 
 returns : tie.Need-returns Inv-loop μ-loop
 returns c = search needs
@@ -26,17 +26,17 @@ loop-holds c = search needs
 sheet-at-requires : tie.Need-sheet-at-requires Inv-loop μ-loop
 sheet-at-requires c κs = search needs
 
-mul-hold-path : tie.Need-mul-hold-path Inv-loop μ-loop
-mul-hold-path c = search needs
+mul-number : tie.Need-mul-number Inv-loop μ-loop
+mul-number c = search needs
 
-shared-slice-read-hold-path : tie.Need-shared-slice-read-hold-path Inv-loop μ-loop
-shared-slice-read-hold-path c = search needs
+shared-slice-read-number : tie.Need-shared-slice-read-number Inv-loop μ-loop
+shared-slice-read-number c = search needs
 
 hold-path-requires : tie.Need-hold-path-requires Inv-loop μ-loop
 hold-path-requires c κs = search needs
 
-mix-held-requires : tie.Need-mix-held-requires Inv-loop μ-loop
-mix-held-requires c κs = search needs
+mix-settled-requires : tie.Need-mix-settled-requires Inv-loop μ-loop
+mix-settled-requires c κs = search needs
 
 after-requires : tie.Need-after-requires Inv-loop μ-loop
 after-requires c κs = search needs
@@ -67,10 +67,10 @@ workload-holdings-spec =
     filled-requires
     loop-holds
     sheet-at-requires
-    mul-hold-path
-    shared-slice-read-hold-path
+    mul-number
+    shared-slice-read-number
     hold-path-requires
-    mix-held-requires
+    mix-settled-requires
     after-requires
     after-requires-2
     sub-turns
