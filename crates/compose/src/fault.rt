@@ -2,68 +2,46 @@
 
 use console::words::error_of;
 
-pub enum Fault {
-    UnknownWord,
-    NotANumber,
-    NumberTooLarge,
-    TooFewNumbers,
-    TooManyNumbers,
-    IntervalOutOfRange,
-    QuotaOutOfRange,
-    WantedOutOfRange,
-    RateOutOfRange,
-    DelayOutOfRange,
-    LinkOutOfRange,
-    ProfileOutOfRange,
-    HopsOutOfRange,
-    PacketOutOfRange,
-    LinkRateOutOfRange,
-    DelayerTooLong,
-    LinkMissing,
-    DeclarationMissing,
-    WantedMissing,
-    LineMissing,
-    LineTooMany,
-    LineTooLong,
+// The place of a fault's words in their table. The first are those of a quantity out of its range, in the order of the quantities.
+pub struct Fault(pub usize);
+
+impl Fault {
+    pub const PROFILE_OUT_OF_RANGE: Fault = Fault(0);
+
+    pub const UNKNOWN_WORD: Fault = Fault(11);
+
+    pub const NOT_A_NUMBER: Fault = Fault(12);
+
+    pub const NUMBER_TOO_LARGE: Fault = Fault(13);
+
+    pub const TOO_FEW_NUMBERS: Fault = Fault(14);
+
+    pub const TOO_MANY_NUMBERS: Fault = Fault(15);
+
+    pub const DELAYER_TOO_LONG: Fault = Fault(16);
+
+    pub const LINK_MISSING: Fault = Fault(17);
+
+    pub const DECLARATION_MISSING: Fault = Fault(18);
+
+    pub const WANTED_MISSING: Fault = Fault(19);
+
+    pub const LINE_MISSING: Fault = Fault(20);
+
+    pub const LINE_TOO_MANY: Fault = Fault(21);
+
+    pub const LINE_TOO_LONG: Fault = Fault(22);
 }
 
-// The words stand in the order of the faults.
 pub(crate) fn say(line: u64, why: Fault) {
     error_of(
         line,
-        b"unknown word|not a number|number too large|too few numbers|too many numbers|\
-          interval out of range|quota out of range|delay wanted out of range|\
-          rate out of range|delay out of range|link out of range|profile out of range|\
-          hops out of range|packet out of range|link rate out of range|\
+        b"profile out of range|hops out of range|delay wanted out of range|interval out of range|\
+          quota out of range|rate out of range|packet out of range|packet out of range|\
+          link rate out of range|delay out of range|link out of range|\
+          unknown word|not a number|number too large|too few numbers|too many numbers|\
           delayer of more than 64 slots|link is missing|smooth, uniform or rows is missing here|\
           wanted is missing here|a line is missing|a line too many|line too long",
-        index_of(why),
+        why.0,
     );
-}
-
-fn index_of(why: Fault) -> usize {
-    match why {
-        Fault::UnknownWord => 0,
-        Fault::NotANumber => 1,
-        Fault::NumberTooLarge => 2,
-        Fault::TooFewNumbers => 3,
-        Fault::TooManyNumbers => 4,
-        Fault::IntervalOutOfRange => 5,
-        Fault::QuotaOutOfRange => 6,
-        Fault::WantedOutOfRange => 7,
-        Fault::RateOutOfRange => 8,
-        Fault::DelayOutOfRange => 9,
-        Fault::LinkOutOfRange => 10,
-        Fault::ProfileOutOfRange => 11,
-        Fault::HopsOutOfRange => 12,
-        Fault::PacketOutOfRange => 13,
-        Fault::LinkRateOutOfRange => 14,
-        Fault::DelayerTooLong => 15,
-        Fault::LinkMissing => 16,
-        Fault::DeclarationMissing => 17,
-        Fault::WantedMissing => 18,
-        Fault::LineMissing => 19,
-        Fault::LineTooMany => 20,
-        Fault::LineTooLong => 21,
-    }
 }

@@ -1,221 +1,129 @@
 // What a line of a path's text says by itself, wherever it stands.
 
-use crate::declaration::read_declaration;
 use crate::fault::Fault;
-use crate::profile::read_profile;
-use console::numbers::narrow;
+use crate::numbers::Read;
+use crate::numbers::behind_label;
+use crate::numbers::number_from;
+use crate::numbers::numbers_from;
+use crate::profile::house_of;
+use crate::profile::profile_from;
+use crate::range::fits;
+use crate::range::quantity_of;
 use console::words::find;
-use flow::Declaration;
-use flow::Kind;
-use operator::Operator;
-use quantity::Delay;
-use quantity::Interval;
-use quantity::Link;
-use quantity::Quota;
-use quantity::Rate;
-use quantity::WantedDelay;
-use sheet::House;
-use sheet::LinkedOperator;
-use text::decimal::Decimal;
-use text::decimal::Decimals;
-use text::decimal::decimal_at;
-use text::decimal::decimals_from;
+ghost use mathlib.Core.Path.{_≡_};
+ghost use Prim.Native.Nat.{_+_, _≤_};
+ghost use lib.ListN.{length};
 
-pub(crate) const SPACE: u8 = 32;
+// The words that a line begins with, by their place in the table of words. The operators have the numbers of document 01, section 5.
+pub(crate) const DELAYER: usize = 4;
 
-// The words of a declaration, by their place in the table of words.
+pub(crate) const WANTED: usize = 5;
+
+pub(crate) const PROFILE: usize = 6;
+
 const SMOOTH: usize = 7;
 
 pub(crate) const UNIFORM: usize = 8;
 
-const ROWS: usize = 9;
+pub(crate) const ROWS: usize = 9;
 
-// The numbers of what is said are in their ranges.
+// The place of `link` among the labels.
+const LINK: usize = 0;
+
+// A part of a path is its word and its numbers, which are in their ranges.
 pub enum Said {
     Nothing,
     Hexadecimal,
-    Declaration,
-    Wanted(WantedDelay),
-    LinkedOperator(LinkedOperator),
-    House(House),
+    Part { word: usize, count: usize },
     Wrong(Fault),
 }
 
-// What a line says, and the declaration where it says one. (An enum cannot hold the rows' array.)
-pub struct Line {
-    pub said: Said,
-    pub declaration: Declaration,
-}
-
-// One or two numbers; of one, the second is 0.
-enum Numbers {
-    Given { first: u32, second: u32 },
-    Wrong(Fault),
-}
-
-// A number, and where it ends in its line.
-pub enum Labelled {
-    Number { value: u32, end: usize },
-    Wrong(Fault),
-}
-
-// How many numbers there are.
-pub enum Count {
-    Numbers(usize),
-    Wrong(Fault),
-}
-
-// The operators have the numbers of document 01, section 5. What follows a word begins behind a space.
-pub(crate) fn read_line(line: &[u8]) -> Line {
+// What follows a word begins behind a space.
+pub(crate) fn read_line(line: &[u8], numbers: &mut [u64; 10]) -> Said {
     let found = find(
         b"limiter|compactor|expander|filter|delayer|wanted|profile|smooth|uniform|rows",
         line,
     );
     let word = found.index;
-    let from = found.behind;
-    if SMOOTH <= word && word <= ROWS {
-        return read_declaration(word, line, from);
+    match read_numbers(word, line, found.behind, numbers) {
+        Read::Wrong(why) => Said::Wrong(why),
+        Read::To(count) => said_of(word, count, numbers),
     }
-    without_declaration(read_other(word, line, from))
 }
 
-fn read_other(word: usize, line: &[u8], from: usize) -> Said {
+// Puts the numbers of a line into their places, and answers how many there are. Several rows have room for five, one more than there may be.
+fn read_numbers(word: usize, line: &[u8], from: usize, numbers: &mut [u64]) -> Read
+    requires { ⌜ length (now numbers) ≡ 10 ⌝ }
+{
     match word {
-        0..=4 => said_linked(word, number_and_link(line, from)),
-        5 => said_wanted(one_number(line, from)),
-        6 => read_profile(line, from),
-        _ => Said::Wrong(Fault::UnknownWord),
-    }
-}
-
-pub(crate) fn without_declaration(said: Said) -> Line {
-    let declaration = Declaration::of_one_row(Kind::Smooth, Interval(0), Quota(0));
-    Line { said, declaration }
-}
-
-// `wanted N`
-fn said_wanted(numbers: Numbers) -> Said {
-    match numbers {
-        Numbers::Wrong(why) => Said::Wrong(why),
-        Numbers::Given { first, second: _ } => {
-            let wanted = WantedDelay(first);
-            if !wanted.in_range() {
-                return Said::Wrong(Fault::WantedOutOfRange);
-            }
-            Said::Wanted(wanted)
-        }
+        0..=DELAYER => linked_from(line, from, numbers),
+        WANTED => last_from(line, from, numbers, 0),
+        PROFILE => profile_from(line, from, numbers),
+        SMOOTH | UNIFORM => rows_from(line, from, &mut numbers[0..2]),
+        ROWS => rows_from(line, from, numbers),
+        _ => Read::Wrong(Fault::UNKNOWN_WORD),
     }
 }
 
 // `limiter R link k`, and so for each operator
-fn said_linked(kind: usize, numbers: Numbers) -> Said {
-    match numbers {
-        Numbers::Wrong(why) => Said::Wrong(why),
-        Numbers::Given { first, second } => {
-            let operator = operator_of(kind, first);
-            let link = Link(second);
-            if !operator.number_in_range() {
-                return Said::Wrong(number_fault(operator));
-            }
-            if !link.in_range() {
-                return Said::Wrong(Fault::LinkOutOfRange);
-            }
-            Said::LinkedOperator(LinkedOperator { operator, link })
+fn linked_from(line: &[u8], from: usize, numbers: &mut [u64]) -> Read
+    requires { ⌜ length (now numbers) ≡ 10 ⌝ }
+{
+    let first = number_from(line, from, numbers, 0);
+    let Read::To(end) = first else {
+        return first;
+    };
+    let label = behind_label(line, end, LINK, Fault::LINK_MISSING, Fault::LINK_MISSING);
+    let Read::To(begins) = label else {
+        return label;
+    };
+    last_from(line, begins, numbers, 1)
+}
+
+// The one number from an index on. Answers how many there are with those before it.
+fn last_from(line: &[u8], from: usize, numbers: &mut [u64], k: usize) -> Read
+    requires { ⌜ k + 2 ≤ length (now numbers) ⌝ }
+{
+    let end = k + 2;
+    let read = numbers_from(line, from, &mut numbers[k..end]);
+    let Read::To(n) = read else {
+        return read;
+    };
+    if 1 < n {
+        return Read::Wrong(Fault::TOO_MANY_NUMBERS);
+    }
+    Read::To(k + 1)
+}
+
+// `smooth m Q`, `uniform m Q`, or `rows m Q m Q ..`: half of the numbers are quotas.
+fn rows_from(line: &[u8], from: usize, numbers: &mut [u64]) -> Read {
+    let read = numbers_from(line, from, numbers);
+    let Read::To(n) = read else {
+        return read;
+    };
+    if n % 2 == 1 {
+        return Read::Wrong(Fault::TOO_FEW_NUMBERS);
+    }
+    read
+}
+
+// The ranges go from left to right. The fault of a quantity that is out of its range has the quantity's number.
+fn said_of(word: usize, count: usize, numbers: &[u64; 10]) -> Said {
+    let mut k = 0;
+    while k < 10 && k < count {
+        let quantity = quantity_of(word, k);
+        if !fits(quantity, numbers[k]) {
+            return Said::Wrong(Fault(quantity));
         }
+        k += 1;
     }
+    if !delayer_fits(word, numbers) {
+        return Said::Wrong(Fault::DELAYER_TOO_LONG);
+    }
+    Said::Part { word, count }
 }
 
-fn operator_of(kind: usize, number: u32) -> Operator {
-    match kind {
-        0 => Operator::Limiter(Rate(number)),
-        1 => Operator::Compactor(Interval(number)),
-        2 => Operator::Expander(Interval(number)),
-        3 => Operator::Filter(Rate(number)),
-        _ => Operator::Delayer(Delay(number)),
-    }
-}
-
-fn number_fault(operator: Operator) -> Fault {
-    match operator {
-        Operator::Limiter(_) => Fault::RateOutOfRange,
-        Operator::Compactor(_) => Fault::IntervalOutOfRange,
-        Operator::Expander(_) => Fault::IntervalOutOfRange,
-        Operator::Filter(_) => Fault::RateOutOfRange,
-        Operator::Delayer(_) => Fault::DelayOutOfRange,
-    }
-}
-
-// A number and, behind the word `link`, another.
-fn number_and_link(line: &[u8], from: usize) -> Numbers {
-    match number_from(line, from) {
-        Labelled::Wrong(why) => Numbers::Wrong(why),
-        Labelled::Number { value, end } => link_behind(value, line, end),
-    }
-}
-
-// The number that begins at an index.
-pub(crate) fn number_from(line: &[u8], from: usize) -> Labelled {
-    if line.len() < from {
-        return Labelled::Wrong(Fault::TooFewNumbers);
-    }
-    match decimal_at(line, from) {
-        Decimal::NoDigit => Labelled::Wrong(Fault::NotANumber),
-        Decimal::TooLarge => Labelled::Wrong(Fault::NumberTooLarge),
-        Decimal::Number { value, next } => Labelled::Number {
-            value: narrow(value),
-            end: next,
-        },
-    }
-}
-
-fn link_behind(number: u32, line: &[u8], end: usize) -> Numbers {
-    if line.len() <= end {
-        return Numbers::Wrong(Fault::LinkMissing);
-    }
-    if line[end] != SPACE {
-        return Numbers::Wrong(Fault::NotANumber);
-    }
-    let behind = end + 1;
-    let rest = &line[behind..];
-    let found = find(b"link", rest);
-    if 0 < found.index {
-        return Numbers::Wrong(Fault::LinkMissing);
-    }
-    match one_number(rest, found.behind) {
-        Numbers::Wrong(why) => Numbers::Wrong(why),
-        Numbers::Given { first, second: _ } => Numbers::Given {
-            first: number,
-            second: first,
-        },
-    }
-}
-
-// The one number from an index on.
-fn one_number(line: &[u8], from: usize) -> Numbers {
-    let mut numbers = [0u64; 2];
-    match count_from(line, from, &mut numbers) {
-        Count::Wrong(why) => Numbers::Wrong(why),
-        Count::Numbers(n) => {
-            if 1 < n {
-                return Numbers::Wrong(Fault::TooManyNumbers);
-            }
-            Numbers::Given {
-                first: narrow(numbers[0]),
-                second: 0,
-            }
-        }
-    }
-}
-
-// The numbers from an index on, put into their places.
-pub(crate) fn count_from(line: &[u8], from: usize, numbers: &mut [u64]) -> Count {
-    if line.len() < from {
-        return Count::Wrong(Fault::TooFewNumbers);
-    }
-    match decimals_from(line, from, numbers) {
-        Decimals::NotANumber => Count::Wrong(Fault::NotANumber),
-        Decimals::TooLarge => Count::Wrong(Fault::NumberTooLarge),
-        Decimals::TooMany => Count::Wrong(Fault::TooManyNumbers),
-        Decimals::Count(n) => Count::Numbers(n),
-    }
+// Where the numbers of a house profile are in their ranges, the length of its delayer is left.
+fn delayer_fits(word: usize, numbers: &[u64; 10]) -> bool {
+    word != PROFILE || house_of(numbers).in_range()
 }

@@ -3,18 +3,18 @@
 
 use crate::fault::Fault;
 use crate::fault::say;
-use crate::line::Line;
+use crate::line::DELAYER;
+use crate::line::PROFILE;
 use crate::line::Said;
+use crate::line::WANTED;
 use crate::line::read_line;
-use crate::line::without_declaration;
+use crate::path::path_with;
 use console::input::Input;
 use console::input::advance;
 use console::input::begin;
 use console::print::hexadecimal;
 use console::print::refused;
 use console::print::text;
-use sheet::Form;
-use sheet::LinkedOperator;
 use sheet::PathValue;
 use sheet::no_path;
 use sheet::write::Written;
@@ -22,233 +22,190 @@ use sheet::write::write;
 use text::line::starts_with;
 ghost use Prim.Native.Nat.{_≤_};
 
-mod declaration;
 mod fault;
 mod line;
+mod numbers;
+mod path;
 mod profile;
+mod range;
 
-// The first of a path's lines is its declaration or a house profile, then comes its delay wanted, then its operators.
-const FIRST: u8 = 0;
+// The lines of a path by their number: the first is its declaration or a house profile, then comes its delay wanted, then come up to sixteen operators.
+const FIRST: usize = 0;
 
-const SECOND: u8 = 1;
+const SECOND: usize = 1;
 
-const OPERATORS: u8 = 2;
+const OPERATORS: usize = 2;
 
-const NOTHING: u8 = 3;
+const NOTHING: usize = 18;
 
-// The path so far, which of its lines comes next, whether a line was wrong; whether there are many paths, in hexadecimal, and one was answered.
+// Behind a wrong line the rest of its path is passed over.
+const WRONG: usize = 19;
+
+// Which line of the path comes next; whether there are many paths, in hexadecimal, whether one was answered, and whether no line is read any more.
 struct Draft {
-    path: PathValue,
-    next: u8,
-    wrong: bool,
+    next: usize,
     many: bool,
     answered: bool,
-}
-
-// Which of a path's lines a line is, and which comes behind it.
-struct Turn {
-    this: u8,
-    next: u8,
+    ended: bool,
 }
 
 fn main() {
     let mut block = [0u8; 4096];
     let mut line = [0u8; 1023];
     let mut input = begin();
+    let mut path = no_path();
     let mut draft = Draft {
-        path: no_path(),
         next: FIRST,
-        wrong: false,
         many: false,
         answered: false,
+        ended: false,
     };
     // A proved loop has to end, and nothing says that the input does, so the loop counts down from a number that no input uses up.
     let mut turns = u64::MAX;
-    while turns > 0 && !input.ended && (draft.many || !draft.wrong) {
+    while turns > 0 && !input.ended && !draft.ended {
         input = advance(input, &mut block, &mut line);
         if input.whole {
-            draft = take(draft, input.lines, said_in(input, &line));
+            let mut numbers = [0u64; 10];
+            let said = said_in(input, draft.many, &line, &mut numbers);
+            path = path_behind(path, draft, input.lines, said, &numbers);
+            draft = draft_behind(draft, input.lines, said);
         }
         turns -= 1;
     }
-    end_text(draft, std::num::wrapping_add_u64(input.lines, 1));
+    end_text(draft, path, std::num::wrapping_add_u64(input.lines, 1));
 }
 
-// What a line says. `hex` is known as the first line alone.
-fn said_in(input: Input, line: &[u8; 1023]) -> Line
+// What a line says. `hex` is known as the first line alone, and an empty line behind it.
+fn said_in(input: Input, many: bool, line: &[u8; 1023], numbers: &mut [u64; 10]) -> Said
     requires { ⌜ input .length ≤ 1023 ⌝ }
 {
+    if input.too_long {
+        return Said::Wrong(Fault::LINE_TOO_LONG);
+    }
     let length = input.length;
+    if length == 0 {
+        if many {
+            return Said::Nothing;
+        }
+    }
     let whole = &line[..];
     let text = &whole[0..length];
-    if input.too_long {
-        return without_declaration(Said::Wrong(Fault::LineTooLong));
-    }
-    if length == 0 {
-        return without_declaration(Said::Nothing);
-    }
     if input.lines == 1 {
-        return read_first(text);
-    }
-    read_line(text)
-}
-
-fn read_first(line: &[u8]) -> Line {
-    if line.len() == 3 {
-        if starts_with(line, b"hex") {
-            return without_declaration(Said::Hexadecimal);
+        if is_hexadecimal(text) {
+            return Said::Hexadecimal;
         }
     }
-    read_line(line)
+    read_line(text, numbers)
 }
 
-// What a line says goes to its place in the path, if it is the one that comes next. Behind a wrong line the rest of its path is passed over.
-fn take(mut draft: Draft, lines: u64, line: Line) -> Draft {
-    let said = line.said;
-    if let Said::Nothing = said {
-        return end_path(draft, lines);
-    }
-    if draft.wrong {
-        return draft;
-    }
+fn is_hexadecimal(line: &[u8]) -> bool {
+    line.len() == 3 && starts_with(line, b"hex")
+}
+
+// A part goes into the path wherever it stands, since the path of a wrong line is not written. An empty line ends the path, if there is any.
+fn path_behind(
+    path: PathValue,
+    draft: Draft,
+    lines: u64,
+    said: Said,
+    numbers: &[u64; 10],
+) -> PathValue {
     match said {
-        Said::Hexadecimal => {
-            draft.many = true;
-            return draft;
+        Said::Part { word, count } => return path_with(path, word, count, numbers),
+        Said::Nothing => {
+            if draft.next != FIRST {
+                answer(draft, path, lines);
+            }
+            return no_path();
         }
-        Said::Wrong(why) => return fail(draft, lines, why),
         _ => {}
     }
-    let turn = turn_of(said);
-    if turn.this == draft.next {
-        return put(draft, turn.next, line);
-    }
-    fail(draft, lines, order_fault(draft.next, turn.this))
+    path
 }
 
-// There is no sheet then, and without `hex` the first wrong line is the last that is read.
-fn fail(mut draft: Draft, lines: u64, why: Fault) -> Draft {
-    say(lines, why);
-    draft.wrong = true;
+fn draft_behind(mut draft: Draft, lines: u64, said: Said) -> Draft {
+    match said {
+        Said::Part { word, count: _ } => return take(draft, lines, word),
+        Said::Wrong(why) => return fail(draft, lines, why),
+        Said::Hexadecimal => draft.many = true,
+        Said::Nothing => {
+            if draft.next != FIRST {
+                draft.answered = true;
+            }
+            draft.next = FIRST;
+        }
+    }
     draft
 }
 
-// An empty line, where there are many paths: the one so far ends, if there is any, and the next begins.
-fn end_path(draft: Draft, lines: u64) -> Draft {
-    if !draft.many {
-        return fail(draft, lines, Fault::UnknownWord);
+// A part has to be the one that comes next. Behind a house profile comes nothing.
+fn take(mut draft: Draft, lines: u64, word: usize) -> Draft {
+    let this = place_of(word, draft.next);
+    if this != draft.next {
+        return fail(draft, lines, order_fault(draft.next, this));
     }
-    let some = draft.wrong || draft.next != FIRST;
-    if some {
-        answer(draft, lines);
-    }
-    let answered = draft.answered || some;
-    Draft {
-        path: no_path(),
-        next: FIRST,
-        wrong: false,
-        many: true,
-        answered,
-    }
+    draft.next = if word == PROFILE { NOTHING } else { this + 1 };
+    draft
 }
 
-fn turn_of(said: Said) -> Turn {
-    match said {
-        Said::Declaration => Turn {
-            this: FIRST,
-            next: SECOND,
-        },
-        Said::Wanted(_) => Turn {
-            this: SECOND,
-            next: OPERATORS,
-        },
-        Said::LinkedOperator(_) => Turn {
-            this: OPERATORS,
-            next: OPERATORS,
-        },
-        _ => Turn {
-            this: FIRST,
-            next: NOTHING,
-        },
+// Which line of a path a word begins: an operator the third or, behind it, the one that comes next.
+fn place_of(word: usize, next: usize) -> usize
+    ensures { λ r. ⌜ r ≤ 17 ⌝ }
+{
+    if word == WANTED {
+        return SECOND;
     }
+    if DELAYER < word {
+        return FIRST;
+    }
+    if next < OPERATORS {
+        return OPERATORS;
+    }
+    if next < NOTHING {
+        return next;
+    }
+    OPERATORS
 }
 
-fn order_fault(next: u8, this: u8) -> Fault {
+fn order_fault(next: usize, this: usize) -> Fault {
     if this < next {
-        return Fault::LineTooMany;
+        return Fault::LINE_TOO_MANY;
     }
     if next == FIRST {
-        return Fault::DeclarationMissing;
+        return Fault::DECLARATION_MISSING;
     }
-    Fault::WantedMissing
+    Fault::WANTED_MISSING
 }
 
-// Behind sixteen operators comes nothing.
-fn put(draft: Draft, next: u8, line: Line) -> Draft {
-    let path = path_with(draft.path, line);
-    let behind = if path.count < 16 { next } else { NOTHING };
-    Draft {
-        path,
-        next: behind,
-        wrong: false,
-        many: draft.many,
-        answered: draft.answered,
+// There is no sheet then, and without `hex` the first wrong line is the last that is read. Of a path the first fault alone is said.
+fn fail(mut draft: Draft, lines: u64, why: Fault) -> Draft {
+    if draft.next != WRONG {
+        say(lines, why);
     }
-}
-
-fn path_with(mut path: PathValue, line: Line) -> PathValue {
-    let said = line.said;
-    match said {
-        Said::Declaration => {
-            let declaration = line.declaration;
-            path.declaration = declaration;
-        }
-        Said::Wanted(wanted) => path.wanted = wanted,
-        Said::LinkedOperator(linked) => path = with_linked(path, linked),
-        Said::House(house) => path = with_form(path, Form::House(house)),
-        _ => {}
-    }
-    path
-}
-
-fn with_linked(mut path: PathValue, linked: LinkedOperator) -> PathValue {
-    let count = path.count;
-    if count < 16 {
-        path.operators[count] = linked;
-        path.count = count + 1;
-    }
-    path
-}
-
-fn with_form(path: PathValue, form: Form) -> PathValue {
-    let declaration = path.declaration;
-    let wanted = path.wanted;
-    let operators = path.operators;
-    PathValue {
-        form,
-        declaration,
-        wanted,
-        count: path.count,
-        operators,
-    }
+    draft.next = WRONG;
+    draft.ended = !draft.many;
+    draft
 }
 
 // The input ends, and with it the last path. A text without any path lacks a line.
-fn end_text(draft: Draft, lines: u64) {
-    if draft.next != FIRST || !draft.answered {
-        answer(draft, lines);
+fn end_text(draft: Draft, path: PathValue, lines: u64) {
+    if draft.next == FIRST {
+        if draft.answered {
+            return;
+        }
     }
+    answer(draft, path, lines);
 }
 
 // A wrong line was answered where it stood. Where an operator has come, or a house profile, nothing is missing.
-fn answer(draft: Draft, lines: u64) {
-    if draft.wrong {
+fn answer(draft: Draft, path: PathValue, lines: u64) {
+    if draft.next == WRONG {
         return;
     }
-    if draft.next == NOTHING || 0 < draft.path.count {
-        write_path(draft.path, draft.many);
+    if OPERATORS < draft.next {
+        write_path(path, draft.many);
     } else {
-        say(lines, Fault::LineMissing);
+        say(lines, Fault::LINE_MISSING);
     }
 }
 

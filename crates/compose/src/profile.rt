@@ -1,11 +1,10 @@
 // A line that is a whole path: `profile P hops N wanted N m N Q N`, with `R N` in profiles 1 and 2 and `L N X N C N` in profile 2.
 
 use crate::fault::Fault;
-use crate::line::Labelled;
-use crate::line::SPACE;
-use crate::line::Said;
-use crate::line::number_from;
-use console::words::find;
+use crate::numbers::Read;
+use crate::numbers::behind_label;
+use crate::numbers::number_at;
+use crate::numbers::number_from;
 use quantity::Hops;
 use quantity::Interval;
 use quantity::Packet;
@@ -18,126 +17,63 @@ ghost use Prim.Native.Nat.{_≤_};
 ghost use lib.ListN.{length};
 
 // The number of the profile says how many follow; those that it does not use are 0.
-pub(crate) fn read_profile(line: &[u8], from: usize) -> Said {
-    match number_from(line, from) {
-        Labelled::Wrong(why) => Said::Wrong(why),
-        Labelled::Number { value, end } => {
-            if 2 < value {
-                return Said::Wrong(Fault::ProfileOutOfRange);
-            }
-            read_numbers(line, value as u8, end)
-        }
-    }
-}
-
-fn read_numbers(line: &[u8], profile: u8, from: usize) -> Said {
-    let mut numbers = [0u32; 8];
-    match numbers_behind(line, from, used_by(profile), &mut numbers) {
-        Labelled::Wrong(why) => Said::Wrong(why),
-        Labelled::Number { value: _, end } => {
-            if end < line.len() {
-                return Said::Wrong(Fault::TooManyNumbers);
-            }
-            said_of(house_of(profile, &numbers))
-        }
-    }
-}
-
-fn house_of(profile: u8, numbers: &[u32]) -> House
-    requires { ⌜ length (now numbers) ≡ 8 ⌝ }
+pub(crate) fn profile_from(line: &[u8], from: usize, numbers: &mut [u64]) -> Read
+    requires { ⌜ length (now numbers) ≡ 10 ⌝ }
 {
-    House {
-        profile,
-        hops: Hops(numbers[0]),
-        wanted: WantedDelay(numbers[1]),
-        interval: Interval(numbers[2]),
-        quota: Quota(numbers[3]),
-        rate: Rate(numbers[4]),
-        own_packet: Packet(numbers[5]),
-        longest_packet: Packet(numbers[6]),
-        link_rate: Rate(numbers[7]),
+    let first = number_from(line, from, numbers, 0);
+    let Read::To(end) = first else {
+        return first;
+    };
+    match numbers[0] {
+        0 => labelled_from(line, end, 5, numbers),
+        1 => labelled_from(line, end, 6, numbers),
+        2 => labelled_from(line, end, 9, numbers),
+        _ => Read::Wrong(Fault::PROFILE_OUT_OF_RANGE),
     }
 }
 
-// How many numbers a profile uses.
-fn used_by(profile: u8) -> usize
-    ensures { λ r. ⌜ r ≤ 8 ⌝ }
-{
-    match profile {
-        0 => 4,
-        1 => 5,
-        _ => 8,
-    }
-}
-
-// Answers where the last one ends.
-fn numbers_behind(line: &[u8], from: usize, count: usize, numbers: &mut [u32]) -> Labelled
+// The numbers behind the first, each with its label, up to a count.
+fn labelled_from(line: &[u8], from: usize, count: usize, numbers: &mut [u64]) -> Read
     requires { ⌜ count ≤ length (now numbers) ⌝ }
 {
     let mut end = from;
-    let mut k = 0;
+    let mut k = 1;
     while k < count {
-        match number_behind(line, end, k) {
-            Labelled::Wrong(why) => return Labelled::Wrong(why),
-            Labelled::Number { value, end: next } => {
-                numbers[k] = value;
-                end = next;
-            }
-        }
+        let label = behind_label(line, end, k, Fault::TOO_FEW_NUMBERS, Fault::UNKNOWN_WORD);
+        let Read::To(begins) = label else {
+            return label;
+        };
+        let number = number_from(line, begins, numbers, k);
+        let Read::To(next) = number else {
+            return number;
+        };
+        end = next;
         k += 1;
     }
-    Labelled::Number { value: 0, end }
+    if end < line.len() {
+        return Read::Wrong(Fault::TOO_MANY_NUMBERS);
+    }
+    Read::To(count)
 }
 
-// Behind a number come a space, the next one's word, a space and the next one.
-fn number_behind(line: &[u8], at: usize, k: usize) -> Labelled {
-    if line.len() <= at {
-        return Labelled::Wrong(Fault::TooFewNumbers);
+pub(crate) fn house_of(numbers: &[u64; 10]) -> House {
+    House {
+        profile: profile_of(numbers[0]),
+        hops: Hops(number_at(numbers, 1)),
+        wanted: WantedDelay(number_at(numbers, 2)),
+        interval: Interval(number_at(numbers, 3)),
+        quota: Quota(number_at(numbers, 4)),
+        rate: Rate(number_at(numbers, 5)),
+        own_packet: Packet(number_at(numbers, 6)),
+        longest_packet: Packet(number_at(numbers, 7)),
+        link_rate: Rate(number_at(numbers, 8)),
     }
-    if line[at] != SPACE {
-        return Labelled::Wrong(Fault::NotANumber);
-    }
-    let begins = at + 1;
-    let found = find(b"hops|wanted|m|Q|R|L|X|C", &line[begins..]);
-    if found.index != k {
-        return Labelled::Wrong(Fault::UnknownWord);
-    }
-    number_from(line, begins + found.behind)
 }
 
-fn said_of(house: House) -> Said {
-    if house.in_range() {
-        return Said::House(house);
+fn profile_of(number: u64) -> u8 {
+    match number {
+        0 => 0,
+        1 => 1,
+        _ => 2,
     }
-    Said::Wrong(fault_of(house))
-}
-
-// The ranges from left to right; what is left then is the length of the delayer.
-fn fault_of(house: House) -> Fault {
-    if !house.hops.in_range() {
-        return Fault::HopsOutOfRange;
-    }
-    if !house.wanted.in_range() {
-        return Fault::WantedOutOfRange;
-    }
-    if !house.interval.in_range() {
-        return Fault::IntervalOutOfRange;
-    }
-    if !house.quota.in_range() {
-        return Fault::QuotaOutOfRange;
-    }
-    // Profile 0 uses none of the numbers that are left.
-    if !house.rate.in_range() {
-        return Fault::RateOutOfRange;
-    }
-    if !house.own_packet.in_range() {
-        return Fault::PacketOutOfRange;
-    }
-    if !house.longest_packet.in_range() {
-        return Fault::PacketOutOfRange;
-    }
-    if !house.link_rate.in_range() {
-        return Fault::LinkRateOutOfRange;
-    }
-    Fault::DelayerTooLong
 }

@@ -5,10 +5,10 @@ use Rattle.compose.proofs.main.Statement.{statement}
 use Rattle.compose.proofs.main.Tie as tie
 
 abbrev Inv-loop : tie.InvT-loop
-Inv-loop block₀ line₀ input₀ draft₀ turns₀ block line input draft turns = input .length ≤ 1023
+Inv-loop block₀ line₀ input₀ path₀ draft₀ turns₀ block line input path draft turns = input .length ≤ 1023
 
 abbrev μ-loop : tie.MeasureT-loop
-μ-loop block₀ line₀ input₀ draft₀ turns₀ block line input draft turns = turns
+μ-loop block₀ line₀ input₀ path₀ draft₀ turns₀ block line input path draft turns = turns
 
 begin-requires : tie.Need-begin-requires Inv-loop μ-loop
 begin-requires c κs = search needs
@@ -25,8 +25,11 @@ advance-requires c κs = search needs
 said-in-requires : tie.Need-said-in-requires Inv-loop μ-loop
 said-in-requires c κs = search needs
 
-take-requires : tie.Need-take-requires Inv-loop μ-loop
-take-requires c κs = search needs
+path-behind-requires : tie.Need-path-behind-requires Inv-loop μ-loop
+path-behind-requires c κs = search needs
+
+draft-behind-requires : tie.Need-draft-behind-requires Inv-loop μ-loop
+draft-behind-requires c κs = search needs
 
 sub-turns : tie.Need-sub-turns Inv-loop μ-loop
 sub-turns c = search needs
@@ -57,7 +60,8 @@ main-spec =
     loop-holds
     advance-requires
     said-in-requires
-    take-requires
+    path-behind-requires
+    draft-behind-requires
     sub-turns
     loop-less
     loop-again
