@@ -8,7 +8,6 @@ use console::input::Input;
 use console::input::advance;
 use console::input::begin;
 use console::listing::list;
-use console::numbers::Numbers;
 use console::numbers::narrow;
 use console::numbers::numbers_of;
 use console::paper::print_page;
@@ -40,7 +39,6 @@ use text::decimal::decimal_at;
 use text::hexadecimal::Hexadecimal;
 use text::hexadecimal::hexadecimal_from;
 ghost use Prim.Native.Nat.{_≤_};
-ghost use lib.ListN.{length};
 
 const SPACE: u8 = 32;
 
@@ -67,6 +65,27 @@ const LIST: usize = 9;
 
 const UNKNOWN: usize = 10;
 
+// What can be wrong with a line, in the order of its table.
+const LINE_TOO_LONG: usize = 0;
+
+const UNKNOWN_COMMAND: usize = 1;
+
+const NOT_A_NUMBER: usize = 2;
+
+const NUMBER_TOO_LARGE: usize = 3;
+
+const NOT_HEXADECIMAL: usize = 4;
+
+const SHEET_TOO_LONG: usize = 5;
+
+// What a line asks for: the command, its numbers, 0 where there is none, and how many bytes its sheet has.
+struct Asked {
+    command: usize,
+    first: u64,
+    second: u64,
+    length: usize,
+}
+
 // The ledger and its records, the capacities that it was opened with, and whether a path was asked for.
 struct Book {
     ledger: Ledger,
@@ -75,65 +94,82 @@ struct Book {
     begun: bool,
 }
 
-// What a call answered, and the book then.
-struct Done {
-    verdict: Verdict,
-    rate: u64,
-    delay: u64,
-    book: Book,
-}
-
 fn main() {
     let mut block = [0u8; 4096];
     let mut line = [0u8; 1023];
+    let mut sheet = [0u8; 512];
     let mut input = begin();
-    let none = no_record();
-    let records = [none; 64];
-    let mut book = Book {
-        ledger: no_ledger(),
-        records,
-        capacities: [0; 16],
-        begun: false,
-    };
+    let mut book = no_book();
     // A proved loop has to end, and nothing says that the input does, so the loop counts down from a number that no input uses up.
     let mut turns = u64::MAX;
     while turns > 0 && !input.ended {
         input = advance(input, &mut block, &mut line);
         if input.whole {
-            book = answer_input(book, input, &line);
+            let asked = read_input(input, &line, &mut sheet);
+            book = answer(book, input.lines, asked, &sheet);
         }
         turns -= 1;
     }
 }
 
-// A line is whole, and is answered.
-fn answer_input(book: Book, input: Input, line: &[u8; 1023]) -> Book
+// No link has capacity yet, and no path stands.
+fn no_book() -> Book {
+    let none = no_record();
+    let records = [none; 64];
+    Book {
+        ledger: no_ledger(),
+        records,
+        capacities: [0; 16],
+        begun: false,
+    }
+}
+
+// A line is whole, and is read.
+fn read_input(input: Input, line: &[u8; 1023], sheet: &mut [u8; 512]) -> Asked
     requires { ⌜ input .length ≤ 1023 ⌝ }
+    ensures { λ r. ⌜ r .length ≤ 512 ⌝ }
 {
     let length = input.length;
     if input.too_long {
-        error(input.lines, b"line too long");
-        return book;
+        return wrong(input.lines, LINE_TOO_LONG);
     }
     let whole = &line[..];
-    answer_line(book, input.lines, &whole[0..length])
+    read_line(input.lines, &whole[0..length], sheet)
 }
 
-fn answer_line(book: Book, lines: u64, line: &[u8]) -> Book {
+// A line that is wrong is an error and asks for nothing.
+fn wrong(lines: u64, fault: usize) -> Asked
+    ensures { λ r. ⌜ r .length ≤ 512 ⌝ }
+{
+    error_of(
+        lines,
+        b"line too long|unknown command|not a number|number too large|not hexadecimal|sheet too long",
+        fault,
+    );
+    Asked {
+        command: UNKNOWN,
+        first: 0,
+        second: 0,
+        length: 0,
+    }
+}
+
+fn read_line(lines: u64, line: &[u8], sheet: &mut [u8; 512]) -> Asked
+    ensures { λ r. ⌜ r .length ≤ 512 ⌝ }
+{
     let found = command_in(line);
     let command = found.index;
     match command {
-        CAPACITY | RELEASE | SPARE | CONFIRM => answer_numbers(book, lines, found, line),
-        ADMIT | HOLD => answer_path(book, lines, found, line),
-        FIGURES | PAGE | READ => answer_sheet(book, lines, found, 0, line),
-        LIST => {
-            list_paths(book);
-            book
-        }
-        _ => {
-            error(lines, b"unknown command");
-            book
-        }
+        CAPACITY..=CONFIRM => read_numbers(lines, line, found),
+        ADMIT..=HOLD => read_path(lines, line, found, sheet),
+        FIGURES..=READ => read_sheet(lines, line, found, 0, sheet),
+        LIST => Asked {
+            command,
+            first: 0,
+            second: 0,
+            length: 0,
+        },
+        _ => wrong(lines, UNKNOWN_COMMAND),
     }
 }
 
@@ -153,55 +189,115 @@ fn command_in(line: &[u8]) -> Found {
     }
 }
 
-fn answer_numbers(book: Book, lines: u64, found: Found, line: &[u8]) -> Book {
-    let command = found.index;
-    let wanted = if command == CAPACITY { 2 } else { 1 };
+fn read_numbers(lines: u64, line: &[u8], found: Found) -> Asked
+    ensures { λ r. ⌜ r .length ≤ 512 ⌝ }
+{
+    let wanted = if found.index == CAPACITY { 2 } else { 1 };
     let numbers = numbers_of(lines, line, found.behind, wanted);
-    if !numbers.given {
-        return book;
-    }
-    match command {
-        CAPACITY => set_capacity(book, lines, numbers),
-        RELEASE => release_number(book, numbers.first),
-        CONFIRM => confirm_number(book, numbers.first),
-        _ => {
-            ask_spare(book, numbers.first);
-            book
-        }
+    let command = if numbers.given { found.index } else { UNKNOWN };
+    Asked {
+        command,
+        first: numbers.first,
+        second: numbers.second,
+        length: 0,
     }
 }
 
-// `capacity LINK CAPACITY`, before the first path is held: the ledger is opened anew.
-fn set_capacity(book: Book, lines: u64, numbers: Numbers) -> Book {
+// `hold NUMBER SHEET` and `admit NUMBER SHEET`
+fn read_path(lines: u64, line: &[u8], command: Found, sheet: &mut [u8; 512]) -> Asked
+    ensures { λ r. ⌜ r .length ≤ 512 ⌝ }
+{
+    let mut fault = NOT_A_NUMBER;
+    match decimal_at(line, command.behind) {
+        Decimal::NoDigit => {}
+        Decimal::TooLarge => fault = NUMBER_TOO_LARGE,
+        Decimal::Number { value, next } => {
+            if next < line.len() {
+                if line[next] == SPACE {
+                    let found = Found {
+                        index: command.index,
+                        behind: next + 1,
+                    };
+                    return read_sheet(lines, line, found, value, sheet);
+                }
+            }
+        }
+    }
+    wrong(lines, fault)
+}
+
+// The sheet of a command is in hexadecimal.
+fn read_sheet(lines: u64, line: &[u8], found: Found, path: u64, sheet: &mut [u8; 512]) -> Asked
+    ensures { λ r. ⌜ r .length ≤ 512 ⌝ }
+{
+    let mut fault = NOT_HEXADECIMAL;
+    match hexadecimal_from(line, found.behind, sheet) {
+        Hexadecimal::NotHexadecimal => {}
+        Hexadecimal::TooLong => fault = SHEET_TOO_LONG,
+        Hexadecimal::Length(length) => {
+            return Asked {
+                command: found.index,
+                first: path,
+                second: 0,
+                length,
+            };
+        }
+    }
+    wrong(lines, fault)
+}
+
+fn answer(mut book: Book, lines: u64, asked: Asked, sheet: &[u8; 512]) -> Book
+    requires { ⌜ asked .length ≤ 512 ⌝ }
+{
+    let length = asked.length;
+    let whole = &sheet[..];
+    let bytes = &whole[0..length];
+    let first = asked.first;
+    let command = asked.command;
+    match command {
+        CAPACITY => book = set_capacity(book, lines, asked),
+        RELEASE => book = release_number(book, first),
+        CONFIRM => book = confirm_number(book, first),
+        SPARE => ask_spare(book.ledger, first),
+        ADMIT..=HOLD => book = hold(book, asked, bytes),
+        FIGURES => list(bytes),
+        PAGE => print_page(bytes),
+        READ => write_back(bytes),
+        LIST => list_paths(book),
+        _ => {}
+    }
+    book
+}
+
+// `capacity LINK CAPACITY`, before the first path is held.
+fn set_capacity(book: Book, lines: u64, asked: Asked) -> Book {
     if book.begun {
         error(lines, b"capacities are set before the first path is held");
         return book;
     }
-    let link = narrow(numbers.first);
+    let link = narrow(asked.first);
     if Link::LARGEST < link {
         refused(Refusal::OutOfRange(0));
         return book;
     }
-    open_with(book, link, numbers.second)
+    let mut capacities = book.capacities;
+    capacities[link as usize] = narrow(asked.second);
+    open_with(book, capacities, asked)
 }
 
-fn open_with(book: Book, link: u32, capacity: u64) -> Book
-    requires { ⌜ link ≤ 15 ⌝ }
-{
-    let mut capacities = book.capacities;
-    capacities[link as usize] = narrow(capacity);
+// The ledger is opened anew.
+fn open_with(book: Book, capacities: [u32; 16], asked: Asked) -> Book {
     let lent = book.records;
     let fresh = open_book(capacities, lent);
     let opened = fresh.opened;
     let verdict = opened.verdict;
-    if let Verdict::Refused(why) = verdict {
-        refused(why);
+    let numbers = [asked.first, asked.second];
+    say(verdict, b"capacity | ", &numbers);
+    if let Verdict::Refused(_) = verdict {
         return book;
     }
-    let numbers = [link as u64, capacity];
-    row(b"capacity | ", &numbers);
-    let records = fresh.records;
     let ledger = opened.ledger;
+    let records = fresh.records;
     Book {
         ledger,
         records,
@@ -212,16 +308,21 @@ fn open_with(book: Book, link: u32, capacity: u64) -> Book
 
 // `release NUMBER`
 fn release_number(book: Book, path: u64) -> Book {
-    let before = book.ledger;
     let lent = book.records;
-    let done = release_path(before, lent, narrow(path));
+    let done = release_path(book.ledger, lent, narrow(path));
     let released = done.released;
+    let verdict = released.verdict;
     let ledger = released.ledger;
     let records = done.records;
-    let verdict = released.verdict;
+    let capacities = book.capacities;
     let numbers = [path];
     say(verdict, b"released ", &numbers);
-    with_ledger(book, ledger, records, book.begun)
+    Book {
+        ledger,
+        records,
+        capacities,
+        begun: book.begun,
+    }
 }
 
 // A refusal, or what was done.
@@ -234,146 +335,54 @@ fn say(verdict: Verdict, done: &[u8], numbers: &[u64]) {
 
 // `confirm NUMBER`
 fn confirm_number(book: Book, path: u64) -> Book {
-    let done = confirm(book, path);
-    let verdict = done.verdict;
     let numbers = [path];
-    say(verdict, b"confirmed ", &numbers);
-    done.book
+    confirm(book, path, b"confirmed ", &numbers)
 }
 
-fn confirm(book: Book, path: u64) -> Done {
-    let ledger = book.ledger;
+fn confirm(mut book: Book, path: u64, done: &[u8], numbers: &[u64]) -> Book {
     let lent = book.records;
-    let answer = confirm_path(ledger, lent, narrow(path));
-    let confirmed = answer.confirmed;
+    let answer = confirm_path(book.ledger, lent, narrow(path));
     let records = answer.records;
+    book.records = records;
+    let confirmed = answer.confirmed;
     let verdict = confirmed.verdict;
-    let next = with_ledger(book, ledger, records, book.begun);
-    Done {
-        verdict,
-        rate: 0,
-        delay: 0,
-        book: next,
-    }
-}
-
-fn with_ledger(book: Book, ledger: Ledger, records: [Record; 64], begun: bool) -> Book {
-    let capacities = book.capacities;
-    Book {
-        ledger,
-        records,
-        capacities,
-        begun,
-    }
+    say(verdict, done, numbers);
+    book
 }
 
 // `spare LINK`
-fn ask_spare(book: Book, link: u64) {
-    let asked = spare_rate(book.ledger, narrow(link));
+fn ask_spare(ledger: Ledger, link: u64) {
+    let asked = spare_rate(ledger, narrow(link));
     let verdict = asked.verdict;
-    match verdict {
-        Verdict::Refused(why) => refused(why),
-        Verdict::Accepted => {
-            let numbers = [link, asked.rate.0 as u64];
-            row(b"spare | ", &numbers);
-        }
-    }
+    let numbers = [link, asked.rate.0 as u64];
+    say(verdict, b"spare | ", &numbers);
 }
 
 // `hold NUMBER SHEET` and `admit NUMBER SHEET`
-fn answer_path(book: Book, lines: u64, command: Found, line: &[u8]) -> Book {
-    let mut fault = 0;
-    match decimal_at(line, command.behind) {
-        Decimal::NoDigit => {}
-        Decimal::TooLarge => fault = 1,
-        Decimal::Number { value, next } => {
-            if next < line.len() {
-                if line[next] == SPACE {
-                    let found = Found {
-                        index: command.index,
-                        behind: next + 1,
-                    };
-                    return answer_sheet(book, lines, found, value, line);
-                }
-            }
-        }
-    }
-    error_of(lines, b"not a number|number too large", fault);
-    book
-}
-
-// The sheet of a command is in hexadecimal.
-fn answer_sheet(book: Book, lines: u64, found: Found, path: u64, line: &[u8]) -> Book {
-    let mut bytes = [0u8; 512];
-    let mut fault = 0;
-    match hexadecimal_from(line, found.behind, &mut bytes) {
-        Hexadecimal::NotHexadecimal => {}
-        Hexadecimal::TooLong => fault = 1,
-        Hexadecimal::Length(n) => return answer_bytes(book, found.index, path, &bytes, n),
-    }
-    error_of(lines, b"not hexadecimal|sheet too long", fault);
-    book
-}
-
-// `figures SHEET`: the lines of the listing. `page SHEET`: the page. `read SHEET`: the sheet as it is written back.
-fn answer_bytes(book: Book, command: usize, path: u64, bytes: &[u8], n: usize) -> Book
-    requires { ⌜ n ≤ length (now bytes) ⌝ }
-{
-    let sheet = &bytes[0..n];
-    match command {
-        ADMIT => return admit_bytes(book, path, sheet),
-        HOLD => return hold_bytes(book, path, sheet),
-        FIGURES => list(sheet),
-        PAGE => print_page(sheet),
-        _ => write_back(sheet),
-    }
-    book
-}
-
-fn hold_bytes(book: Book, path: u64, sheet: &[u8]) -> Book {
-    let done = hold(book, path, sheet);
-    let verdict = done.verdict;
-    let numbers = [path, done.rate, done.delay];
-    say(verdict, b"held | rate | delay ", &numbers);
-    done.book
+fn hold(mut book: Book, asked: Asked, sheet: &[u8]) -> Book {
+    let path = asked.first;
+    let lent = book.records;
+    let answer = hold_path(book.ledger, lent, narrow(path), sheet);
+    let holding = answer.holding;
+    let verdict = holding.verdict;
+    let ledger = holding.ledger;
+    let records = answer.records;
+    book.ledger = ledger;
+    book.records = records;
+    book.begun = true;
+    let numbers = [path, holding.rate.0 as u64, holding.delay.0 as u64];
+    end_hold(book, asked, verdict, numbers)
 }
 
 // A path is admitted by being held and, if that is accepted, confirmed at once.
-fn admit_bytes(book: Book, path: u64, sheet: &[u8]) -> Book {
-    let held = hold(book, path, sheet);
-    let settled = settle(held, path);
-    let verdict = settled.verdict;
-    let numbers = [path, held.rate, held.delay];
-    say(verdict, b"admitted | rate | delay ", &numbers);
-    settled.book
-}
-
-fn hold(book: Book, path: u64, sheet: &[u8]) -> Done {
-    let before = book.ledger;
-    let lent = book.records;
-    let answer = hold_path(before, lent, narrow(path), sheet);
-    let holding = answer.holding;
-    let ledger = holding.ledger;
-    let records = answer.records;
-    let verdict = holding.verdict;
-    let next = with_ledger(book, ledger, records, true);
-    Done {
-        verdict,
-        rate: holding.rate.0 as u64,
-        delay: holding.delay.0 as u64,
-        book: next,
-    }
-}
-
-fn settle(held: Done, path: u64) -> Done {
-    let verdict = held.verdict;
-    match verdict {
-        Verdict::Refused(_) => held,
-        Verdict::Accepted => {
-            let book = held.book;
-            confirm(book, path)
+fn end_hold(book: Book, asked: Asked, held: Verdict, numbers: [u64; 3]) -> Book {
+    if asked.command == ADMIT {
+        if let Verdict::Accepted = held {
+            return confirm(book, asked.first, b"admitted | rate | delay ", &numbers);
         }
     }
+    say(held, b"held | rate | delay ", &numbers);
+    book
 }
 
 fn write_back(sheet: &[u8]) {

@@ -5,19 +5,16 @@ use Rattle.plan.proofs.main.Statement.{statement}
 use Rattle.plan.proofs.main.Tie as tie
 
 abbrev Inv-loop : tie.InvT-loop
-Inv-loop block₀ line₀ input₀ book₀ turns₀ block line input book turns = input .length ≤ 1023
+Inv-loop block₀ line₀ sheet₀ input₀ book₀ turns₀ block line sheet input book turns = input .length ≤ 1023
 
 abbrev μ-loop : tie.MeasureT-loop
-μ-loop block₀ line₀ input₀ book₀ turns₀ block line input book turns = turns
+μ-loop block₀ line₀ sheet₀ input₀ book₀ turns₀ block line sheet input book turns = turns
 
 begin-requires : tie.Need-begin-requires Inv-loop μ-loop
 begin-requires c κs = search needs
 
-no-record-requires : tie.Need-no-record-requires Inv-loop μ-loop
-no-record-requires c κs = search needs
-
-no-ledger-requires : tie.Need-no-ledger-requires Inv-loop μ-loop
-no-ledger-requires c κs = search needs
+no-book-requires : tie.Need-no-book-requires Inv-loop μ-loop
+no-book-requires c κs = search needs
 
 loop-holds : tie.Need-loop-holds Inv-loop μ-loop
 loop-holds c = search needs
@@ -25,8 +22,11 @@ loop-holds c = search needs
 advance-requires : tie.Need-advance-requires Inv-loop μ-loop
 advance-requires c κs = search needs
 
-answer-input-requires : tie.Need-answer-input-requires Inv-loop μ-loop
-answer-input-requires c κs = search needs
+read-input-requires : tie.Need-read-input-requires Inv-loop μ-loop
+read-input-requires c κs = search needs
+
+answer-requires : tie.Need-answer-requires Inv-loop μ-loop
+answer-requires c κs = search needs
 
 sub-turns : tie.Need-sub-turns Inv-loop μ-loop
 sub-turns c = search needs
@@ -50,11 +50,11 @@ main-spec =
     Inv-loop
     μ-loop
     begin-requires
-    no-record-requires
-    no-ledger-requires
+    no-book-requires
     loop-holds
     advance-requires
-    answer-input-requires
+    read-input-requires
+    answer-requires
     sub-turns
     loop-less
     loop-again
