@@ -103,7 +103,7 @@ fn stage_fits(stage: Stage, slot: Slots, words: &[u32], k: usize) -> bool
     usable(operator_of(stage, slot), operator_words(words, k))
 }
 
-// Whether stage k, behind the path's operators, is empty and its words are 0.
+// Whether stage k, behind the path's operators, is empty and its words are 0. Both are found out, and then there is one test.
 pub(crate) fn unused(stage: Stage, words: &[u32], k: usize) -> bool
     requires { ⌜ k < mostOperators ⌝ }
     ensures { λ r. ⌜ r ≡ stageUnused stage (now (words .entry)) k ⌝ }
@@ -111,10 +111,13 @@ pub(crate) fn unused(stage: Stage, words: &[u32], k: usize) -> bool
     if words.len() != crate::WORDS {
         return false;
     }
-    if !row_clear(operator_words(words, k)) {
-        return false;
-    }
-    join(stage) == 0
+    let stored = join(stage);
+    let set = if row_clear(operator_words(words, k)) {
+        0
+    } else {
+        1
+    };
+    (stored | set) == 0
 }
 
 // All that a stage stores, joined: 0 just where the stage is empty, as those behind the path's operators are.
