@@ -1,6 +1,7 @@
 // What a line of a path's text says by itself, wherever it stands.
 
 use crate::fault::Fault;
+use crate::numbers::Reached;
 use crate::numbers::Read;
 use crate::numbers::behind_label;
 use crate::numbers::number_from;
@@ -28,7 +29,7 @@ pub(crate) const UNIFORM: usize = 8;
 pub(crate) const ROWS: usize = 9;
 
 // The place of `link` among the labels.
-const LINK: usize = 0;
+const LINK_LABEL: usize = 0;
 
 // A part of a path is its word and its numbers, which are in their ranges.
 pub enum Said {
@@ -47,7 +48,7 @@ pub(crate) fn read_line(line: &[u8], numbers: &mut [u64; 10]) -> Said {
     let word = found.index;
     match read_numbers(word, line, found.behind, numbers) {
         Read::Wrong(why) => Said::Wrong(why),
-        Read::To(count) => said_of(word, count, numbers),
+        Read::Numbers(count) => said_of(word, count, numbers),
     }
 }
 
@@ -69,15 +70,15 @@ fn read_numbers(word: usize, line: &[u8], from: usize, numbers: &mut [u64]) -> R
 fn linked_from(line: &[u8], from: usize, numbers: &mut [u64]) -> Read
     requires { ⌜ length (now numbers) ≡ 10 ⌝ }
 {
-    let first = number_from(line, from, numbers, 0);
-    let Read::To(end) = first else {
-        return first;
+    let end = match number_from(line, from, numbers, 0) {
+        Reached::Byte(end) => end,
+        Reached::Wrong(why) => return Read::Wrong(why),
     };
-    let label = behind_label(line, end, LINK, Fault::LINK_MISSING, Fault::LINK_MISSING);
-    let Read::To(begins) = label else {
-        return label;
-    };
-    last_from(line, begins, numbers, 1)
+    let missing = Fault::LINK_MISSING;
+    match behind_label(line, end, LINK_LABEL, missing, missing) {
+        Reached::Byte(begins) => last_from(line, begins, numbers, 1),
+        Reached::Wrong(why) => Read::Wrong(why),
+    }
 }
 
 // The one number from an index on. Answers how many there are with those before it.
@@ -86,19 +87,19 @@ fn last_from(line: &[u8], from: usize, numbers: &mut [u64], k: usize) -> Read
 {
     let end = k + 2;
     let read = numbers_from(line, from, &mut numbers[k..end]);
-    let Read::To(n) = read else {
+    let Read::Numbers(n) = read else {
         return read;
     };
     if 1 < n {
         return Read::Wrong(Fault::TOO_MANY_NUMBERS);
     }
-    Read::To(k + 1)
+    Read::Numbers(k + 1)
 }
 
 // `smooth m Q`, `uniform m Q`, or `rows m Q m Q ..`: half of the numbers are quotas.
 fn rows_from(line: &[u8], from: usize, numbers: &mut [u64]) -> Read {
     let read = numbers_from(line, from, numbers);
-    let Read::To(n) = read else {
+    let Read::Numbers(n) = read else {
         return read;
     };
     if n % 2 == 1 {

@@ -12,28 +12,34 @@ ghost use lib.ListN.{length};
 
 const SPACE: u8 = 32;
 
-// How far a line was read: to a place in it, or to so many numbers; or what is wrong.
+// To which byte a line was read, or what is wrong.
+pub enum Reached {
+    Byte(usize),
+    Wrong(Fault),
+}
+
+// How many numbers were read, or what is wrong.
 pub enum Read {
-    To(usize),
+    Numbers(usize),
     Wrong(Fault),
 }
 
 // The number that begins at an index. Answers where it ends.
-pub(crate) fn number_from(line: &[u8], from: usize, numbers: &mut [u64], k: usize) -> Read
+pub(crate) fn number_from(line: &[u8], from: usize, numbers: &mut [u64], k: usize) -> Reached
     requires { ⌜ k < length (now numbers) ⌝ }
 {
     if line.len() < from {
-        return Read::Wrong(Fault::TOO_FEW_NUMBERS);
+        return Reached::Wrong(Fault::TOO_FEW_NUMBERS);
     }
     let why = match decimal_at(line, from) {
         Decimal::NoDigit => Fault::NOT_A_NUMBER,
         Decimal::TooLarge => Fault::NUMBER_TOO_LARGE,
         Decimal::Number { value, next } => {
             numbers[k] = value;
-            return Read::To(next);
+            return Reached::Byte(next);
         }
     };
-    Read::Wrong(why)
+    Reached::Wrong(why)
 }
 
 // The numbers from an index on, with nothing between them. Answers how many there are.
@@ -45,7 +51,7 @@ pub(crate) fn numbers_from(line: &[u8], from: usize, numbers: &mut [u64]) -> Rea
         Decimals::NotANumber => Fault::NOT_A_NUMBER,
         Decimals::TooLarge => Fault::NUMBER_TOO_LARGE,
         Decimals::TooMany => Fault::TOO_MANY_NUMBERS,
-        Decimals::Count(n) => return Read::To(n),
+        Decimals::Count(n) => return Read::Numbers(n),
     };
     Read::Wrong(why)
 }
@@ -58,18 +64,18 @@ pub(crate) fn behind_label(
     label: usize,
     none: Fault,
     other: Fault,
-) -> Read {
+) -> Reached {
     if line.len() <= end {
-        return Read::Wrong(none);
+        return Reached::Wrong(none);
     }
     if line[end] != SPACE {
-        return Read::Wrong(Fault::NOT_A_NUMBER);
+        return Reached::Wrong(Fault::NOT_A_NUMBER);
     }
     let found = find(b" link| hops| wanted| m| Q| R| L| X| C", &line[end..]);
     if found.index != label {
-        return Read::Wrong(other);
+        return Reached::Wrong(other);
     }
-    Read::To(end + found.behind)
+    Reached::Byte(end + found.behind)
 }
 
 // A number as a quantity takes it.

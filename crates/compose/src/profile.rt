@@ -1,6 +1,7 @@
 // A line that is a whole path: `profile P hops N wanted N m N Q N`, with `R N` in profiles 1 and 2 and `L N X N C N` in profile 2.
 
 use crate::fault::Fault;
+use crate::numbers::Reached;
 use crate::numbers::Read;
 use crate::numbers::behind_label;
 use crate::numbers::number_at;
@@ -20,9 +21,9 @@ ghost use lib.ListN.{length};
 pub(crate) fn profile_from(line: &[u8], from: usize, numbers: &mut [u64]) -> Read
     requires { ⌜ length (now numbers) ≡ 10 ⌝ }
 {
-    let first = number_from(line, from, numbers, 0);
-    let Read::To(end) = first else {
-        return first;
+    let end = match number_from(line, from, numbers, 0) {
+        Reached::Byte(end) => end,
+        Reached::Wrong(why) => return Read::Wrong(why),
     };
     match numbers[0] {
         0 => labelled_from(line, end, 5, numbers),
@@ -39,21 +40,20 @@ fn labelled_from(line: &[u8], from: usize, count: usize, numbers: &mut [u64]) ->
     let mut end = from;
     let mut k = 1;
     while k < count {
-        let label = behind_label(line, end, k, Fault::TOO_FEW_NUMBERS, Fault::UNKNOWN_WORD);
-        let Read::To(begins) = label else {
-            return label;
+        let begins = match behind_label(line, end, k, Fault::TOO_FEW_NUMBERS, Fault::UNKNOWN_WORD) {
+            Reached::Byte(begins) => begins,
+            Reached::Wrong(why) => return Read::Wrong(why),
         };
-        let number = number_from(line, begins, numbers, k);
-        let Read::To(next) = number else {
-            return number;
+        end = match number_from(line, begins, numbers, k) {
+            Reached::Byte(next) => next,
+            Reached::Wrong(why) => return Read::Wrong(why),
         };
-        end = next;
         k += 1;
     }
     if end < line.len() {
         return Read::Wrong(Fault::TOO_MANY_NUMBERS);
     }
-    Read::To(count)
+    Read::Numbers(count)
 }
 
 pub(crate) fn house_of(numbers: &[u64; 10]) -> House {

@@ -19,11 +19,11 @@ loop-holds c = search needs
 behind-label-requires : tie.Need-behind-label-requires Inv-loop μ-loop
 behind-label-requires c κs = search needs
 
-enum-known-label : tie.Need-enum-known-label Inv-loop μ-loop
-enum-known-label c = search needs
+enum-known-begins : tie.Need-enum-known-begins Inv-loop μ-loop
+enum-known-begins c = search needs
 
-enum-told : tie.Need-enum-told Inv-loop μ-loop
-enum-told c = search needs
+enum-known-why : tie.Need-enum-known-why Inv-loop μ-loop
+enum-known-why c = search needs
 
 same-length : tie.Need-same-length Inv-loop μ-loop
 same-length c = search needs
@@ -34,11 +34,11 @@ returns c = search needs
 number-from-requires : tie.Need-number-from-requires Inv-loop μ-loop
 number-from-requires c κs = search needs
 
-enum-known-number : tie.Need-enum-known-number Inv-loop μ-loop
-enum-known-number c = search needs
+enum-known-next : tie.Need-enum-known-next Inv-loop μ-loop
+enum-known-next c = search needs
 
-enum-told-2 : tie.Need-enum-told-2 Inv-loop μ-loop
-enum-told-2 c = search needs
+enum-known-why-2 : tie.Need-enum-known-why-2 Inv-loop μ-loop
+enum-known-why-2 c = search needs
 
 same-length-2 : tie.Need-same-length-2 Inv-loop μ-loop
 same-length-2 c = search needs
@@ -75,13 +75,13 @@ labelled-from-spec =
     μ-loop
     loop-holds
     behind-label-requires
-    enum-known-label
-    enum-told
+    enum-known-begins
+    enum-known-why
     same-length
     returns
     number-from-requires
-    enum-known-number
-    enum-told-2
+    enum-known-next
+    enum-known-why-2
     same-length-2
     returns-2
     add-k
