@@ -112,6 +112,7 @@ pub(crate) fn unused(stage: Stage, words: &[u32], k: usize) -> bool
         return false;
     }
     let stored = join(stage);
+    // 0, or 1 where a word is not.
     let set = if row_clear(operator_words(words, k)) {
         0
     } else {

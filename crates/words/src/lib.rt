@@ -89,7 +89,7 @@ fn at_most(count: usize, most: usize) -> usize
 // The words of a row, which is joined without a loop.
 const ROW: usize = 128;
 
-// Whether every word is 0: those in front of the rows, and then row by row. So the rows of words that stand behind others begin where those of the whole memory do, and no vector of them lies across two lines of the cache.
+// Whether every word is 0: those in front of the rows, and then row by row. So the rows of words that stand behind others begin where those of the whole memory do, and where that begins at a multiple of 16 bytes no vector of them lies across two lines of the cache.
 pub fn all_clear(words: &[u32]) -> bool
     ensures { λ r. ⌜ r ≡ every (clearAt (now (words .entry))) (length (now (words .entry))) ⌝ }
 {
