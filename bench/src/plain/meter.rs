@@ -1,7 +1,7 @@
 //! A meter: whether a slot's input keeps the declaration (sections 2, 6 and 7; document 02, item 6).
 
 use super::sheet::{Declaration, Row, Rows};
-use super::words::{all_zero, bits, sum, sum_and_bits};
+use super::words::{HALF_ROW, all_zero, bits, sum, sum_and_bits};
 use super::{LARGEST, Refusal};
 
 /// The words that a meter is lent.
@@ -31,7 +31,7 @@ fn room_in_rows(ring: &[u32], slot: u32, rows: &[Row]) -> Result<Option<u64>, Re
         slots = row.interval as usize;
         for part in [&mut before, &mut behind] {
             let (uncounted, words) = part.split_at(part.len() - further.min(part.len()));
-            let (sum, bits) = sum_and_bits(words);
+            let (sum, bits) = sum_and_bits::<HALF_ROW>(words);
             counted += sum;
             all_bits |= bits;
             further -= words.len();

@@ -87,16 +87,20 @@ fn at_most(count: usize, most: usize) -> usize
 }
 
 // The words of a row, which is joined without a loop.
-const ROW: usize = 128;
+const ROW: usize = 256;
 
-// Whether every word is 0: those in front of the rows, and then row by row. So the rows of words that stand behind others begin where those of the whole memory do, and where that begins at a multiple of 16 bytes no vector of them lies across two lines of the cache.
+// Whether every word is 0: the first row, and then row by row from where whole rows are left, which is within the first or behind it.
+// So the other rows of words that stand behind a ring begin where those of the whole memory do, and where that begins at a multiple of 16 bytes no vector of them lies across two lines of the cache.
 pub fn all_clear(words: &[u32]) -> bool
     ensures { λ r. ⌜ r ≡ every (clearAt (now (words .entry))) (length (now (words .entry))) ⌝ }
 {
-    let mut j = words.len() % ROW;
-    if !row_clear(&words[0..j]) {
+    if words.len() < ROW {
+        return row_clear(words);
+    }
+    if !row_clear(&words[0..ROW]) {
         return false;
     }
+    let mut j = (words.len() - 1) % ROW + 1;
     while j < words.len() {
         let end = j + ROW;
         if !row_clear(&words[j..end]) {

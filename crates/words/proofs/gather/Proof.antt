@@ -58,11 +58,11 @@ loop-again c =
     let at = c .before .before .before .before .before in
     let words = at .before .before .args .words .now in
     let (_, join, low) = at .loop .inv in
-    let inside : at .loop .j + 128 ≤ length words = omega (arith, at .loop .inv .0, c .before .before .before .before .loop-test .taken) in
+    let inside : at .loop .j + 256 ≤ length words = omega (arith, at .loop .inv .0, c .before .before .before .before .loop-test .taken) in
     let row = c .before .before .gather-row .ensures in (
       inside,
-      ap₂ bitOr join (ap (λ (g : Gathered). g .join) row) ∙ part-joined words (at .loop .j) (at .loop .j + 128) (omega arith) inside,
-      omega (arith, c .wrapping-add-u32 .ensures, low, ap (λ (g : Gathered). g .low) row, part-total words (at .loop .j) (at .loop .j + 128) (omega arith) inside),
+      ap₂ bitOr join (ap (λ (g : Gathered). g .join) row) ∙ part-joined words (at .loop .j) (at .loop .j + 256) (omega arith) inside,
+      omega (arith, c .wrapping-add-u32 .ensures, low, ap (λ (g : Gathered). g .low) row, part-total words (at .loop .j) (at .loop .j + 256) (omega arith) inside),
     )
 
 mul-gather-row-2 : tie.Need-mul-gather-row-2 Inv-loop μ-loop
