@@ -114,6 +114,8 @@ gcd-of-divisor m n large divides = le_antisymm (gcd-le m n large) (divisor-le m 
 -- a multiple of a that is g above one of b makes a multiple of b that is g above one of a
 combined-other : (a b g x y : ℕ) → 1 ≤ a → 1 ≤ b → x * a ≡ y * b + g → (x : ℕ) × (y : ℕ) × (x * b ≡ y * a + g)
 combined-other (suc a) (suc b) g x y _ _ e = (x * suc a + y * a, x * b + y * suc b, omega arith)
+combined-other zero b g x y x5 _ e = elim x5 [ ]
+combined-other (suc a) zero g x y _ x11 e = elim x11 [ ]
 
 -- x·n is g modulo m, for n of 1 or more
 pub gcd-combined : (m n : ℕ) → 1 ≤ m → 1 ≤ n → (x : ℕ) × (y : ℕ) × (x * n ≡ y * m + gcd m n)

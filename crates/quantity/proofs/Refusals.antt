@@ -62,11 +62,13 @@ none-or-first (c ∷ cs) = by-test c.stands refl (none-or-first cs)
 pub first-answered : {A : Type 0} (refused : Refusal → A) (result : A) (why : Refusal) (cs : List Case) → FirstIs cs why → first_of cs refused result ≡ refused why
 first-answered refused result why (c ∷ cs) (inl (e, same)) = rw e (ap refused same)
 first-answered refused result why (c ∷ cs) (inr (e, first)) = rw e (first-answered refused result why cs first)
+first-answered {A = A} refused result why [] x' = elim x' [ ]
 
 -- a first of a list is the first of a longer one
 pub first-of-more : (why : Refusal) (cs ds : List Case) → FirstIs cs why → FirstIs (cs ++ ds) why
 first-of-more why (c ∷ cs) ds (inl here) = inl here
 first-of-more why (c ∷ cs) ds (inr (e, first)) = inr (e, first-of-more why cs ds first)
+first-of-more why [] ds x' = elim x' [ ]
 
 -- and a first of two lists in a row is one of either
 pub first-of-each : (why : Refusal) (cs ds : List Case) → FirstIs (cs ++ ds) why → FirstIs cs why ⊎ FirstIs ds why

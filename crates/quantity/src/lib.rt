@@ -1,5 +1,7 @@
 // The quantities of document 01, section 1: each kind of number is a type of its own and carries its own least and largest value.
 
+#![tactic(auto)]
+
 ghost use Rattle.std.specs.Prelude.{◌≡◌};
 ghost use Rattle.quantity.specs.Quantities.{slots_sum, units_sum, rates_sum, units_over};
 ghost use Rattle.quantity.specs.Ranges.{in_range, checked_interval, checked_quota, checked_rate, checked_delay, checked_wanted_delay, checked_link, checked_path_number, checked_link_capacity, checked_hops, checked_packet, interval_range, quota_range, rate_range, delay_range, wanted_delay_range, link_range, path_number_range, link_capacity_range, hops_range, packet_range};
