@@ -12,25 +12,25 @@ use ledger::opening::{Opened, open};
 use ledger::release::{Released, release};
 use ledger::{Ledger, Record};
 
-#[derive(Drop)]
+#[derive(Clone, Copy)]
 pub struct NewBook {
     pub opened: Opened,
     pub records: [Record; 64],
 }
 
-#[derive(Drop)]
+#[derive(Clone, Copy)]
 pub struct HeldPath {
     pub holding: Holding,
     pub records: [Record; 64],
 }
 
-#[derive(Drop)]
+#[derive(Clone, Copy)]
 pub struct ConfirmedPath {
     pub confirmed: Confirmed,
     pub records: [Record; 64],
 }
 
-#[derive(Drop)]
+#[derive(Clone, Copy)]
 pub struct ReleasedPath {
     pub released: Released,
     pub records: [Record; 64],

@@ -3,7 +3,7 @@
 use console::words::error_of;
 
 // The place of a fault's words in their table. The first are those of a quantity out of its range, in the order of the quantities.
-#[derive(Drop)]
+#[derive(Clone, Copy)]
 pub struct Fault(pub usize);
 
 impl Fault {

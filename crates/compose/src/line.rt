@@ -25,7 +25,7 @@ pub(crate) const ROWS: usize = 9;
 const LINK_LABEL: usize = 0;
 
 // A part of a path is its word and its numbers, which are in their ranges.
-#[derive(Drop)]
+#[derive(Clone, Copy)]
 pub enum Said {
     Nothing,
     Hexadecimal,

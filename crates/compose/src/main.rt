@@ -32,7 +32,7 @@ const NOTHING: usize = 18;
 const WRONG: usize = 19;
 
 // Which line of the path comes next; whether there are many paths, in hexadecimal, whether one was answered, and whether no line is read any more.
-#[derive(Drop)]
+#[derive(Clone, Copy)]
 struct Draft {
     next: usize,
     many: bool,

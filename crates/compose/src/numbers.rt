@@ -10,14 +10,14 @@ use text::decimal::{Decimal, Decimals, decimal_at, decimals_from};
 const SPACE: u8 = 32;
 
 // To which byte a line was read, or what is wrong.
-#[derive(Drop)]
+#[derive(Clone, Copy)]
 pub enum Reached {
     Byte(usize),
     Wrong(Fault),
 }
 
 // How many numbers were read, or what is wrong.
-#[derive(Drop)]
+#[derive(Clone, Copy)]
 pub enum Read {
     Numbers(usize),
     Wrong(Fault),

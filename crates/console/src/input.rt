@@ -9,7 +9,7 @@ const LINE_FEED: u8 = 10;
 
 // The place in the block that was read and the block's end; the line's number, its bytes so far, whether it has more than there are places,
 // and whether it is whole; and whether the input has ended.
-#[derive(Drop)]
+#[derive(Clone, Copy)]
 pub struct Input {
     pub at: usize,
     pub count: usize,
@@ -114,7 +114,7 @@ fn gather_block(input: Input, block: &[u8], line: &mut [u8; 1023]) -> Input
 }
 
 // The bytes of a line so far, and whether the last one found no place.
-#[derive(Drop)]
+#[derive(Clone, Copy)]
 struct Length {
     length: usize,
     full: bool,

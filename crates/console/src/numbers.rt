@@ -6,7 +6,7 @@ use crate::words::error_of;
 use text::decimal::{Decimals, decimals_from};
 
 // The numbers of a command, one or two; of one, the second is 0.
-#[derive(Drop)]
+#[derive(Clone, Copy)]
 pub struct Numbers {
     pub given: bool,
     pub first: u64,

@@ -10,14 +10,14 @@ const BAR: u8 = 124;
 const SPACE: u8 = 32;
 
 // Where a word stands in its table.
-#[derive(Drop)]
+#[derive(Clone, Copy)]
 struct Span {
     from: usize,
     end: usize,
 }
 
 // Which word a line begins with, and where the line goes on behind the word and a space; behind the last index there is none.
-#[derive(Drop)]
+#[derive(Clone, Copy)]
 pub struct Found {
     pub index: usize,
     pub behind: usize,

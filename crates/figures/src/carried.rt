@@ -17,14 +17,14 @@ use flow::{Declaration, Kind};
 use quantity::{Delay, Interval, Rate, Slots, Units};
 
 // P, the least filter rate so far, if a filter has come, with the burst at it and the slots in which it sends that burst.
-#[derive(Drop)]
+#[derive(Clone, Copy)]
 pub enum LeastRate {
     NoFilter,
     Least(Rate, Units, Slots),
 }
 
 // The class; whether a filter or delayer has come, from which on the class stays; e, the sum of d so far; P.
-#[derive(Drop)]
+#[derive(Clone, Copy)]
 pub struct Carried {
     pub class: FlowClass,
     pub filtering: bool,

@@ -14,7 +14,7 @@ use quantity::divisor::gcd;
 use quantity::{Interval, Rate, Slots, Units};
 
 // Smooth or uniform (m, Q). Behind a change of interval Q may be larger than a declared quota. Rows are the declaration's, and have no (m, Q) of their own.
-#[derive(Drop)]
+#[derive(Clone, Copy)]
 pub struct FlowClass {
     pub kind: Kind,
     pub interval: Interval,

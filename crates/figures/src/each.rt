@@ -22,7 +22,7 @@ use quantity::{Delay, Interval, Rate, Slots, Units};
 const LARGEST_CHANGED_QUOTA: u64 = 67_108_863;
 
 // What one operator comes to: what is carried behind it and its figure, or why it is refused. Nothing of the figure stands in the place of a refusal: such a number is put together from its parts, which takes time.
-#[derive(Drop)]
+#[derive(Clone, Copy)]
 pub enum Planned {
     Fits(Carried, Figure),
     Refused(Refusal),

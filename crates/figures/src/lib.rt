@@ -23,14 +23,14 @@ mod class;
 mod each;
 
 // An operator's capacity and its own delay.
-#[derive(Drop)]
+#[derive(Clone, Copy)]
 pub struct Figure {
     pub capacity: Units,
     pub delay: Slots,
 }
 
 // The path that was read, the figures of its operators and its delay. Beside a refusal they are the empty path and 0.
-#[derive(Drop)]
+#[derive(Clone, Copy)]
 pub struct PathFigures {
     pub verdict: Verdict,
     pub path: PathValue,
@@ -39,7 +39,7 @@ pub struct PathFigures {
 }
 
 // What planning a path comes to. Beside a refusal the figures and the delay are 0.
-#[derive(Drop)]
+#[derive(Clone, Copy)]
 struct PlannedPath {
     verdict: Verdict,
     figures: [Figure; 16],

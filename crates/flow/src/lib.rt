@@ -1,5 +1,7 @@
 // What a source may send (document 01, sections 1 and 2; document 02, item 6).
 
+#![tactic(auto)]
+
 ghost use Rattle.std.specs.Prelude.{◌≡◌, suc, ◌-◌, get_or};
 ghost use Rattle.quantity.specs.Choice.{both, either};
 ghost use Rattle.quantity.specs.Sums.{every};
@@ -11,7 +13,7 @@ use quantity::{Interval, Quota};
 pub mod bound;
 
 // Section 2's two classes of flows, and several rows, all of them binding.
-#[derive(Drop)]
+#[derive(Clone, Copy)]
 pub enum Kind {
     Smooth,
     Uniform,
@@ -19,14 +21,14 @@ pub enum Kind {
 }
 
 // A row: at most so many units in any so many neighbouring slots.
-#[derive(Drop)]
+#[derive(Clone, Copy)]
 pub struct DeclaredRow {
     pub interval: Interval,
     pub quota: Quota,
 }
 
 // What a source may send: smooth or uniform by interval and quota, or by the first `count` rows.
-#[derive(Drop)]
+#[derive(Clone, Copy)]
 pub struct Declaration {
     pub kind: Kind,
     pub interval: Interval,

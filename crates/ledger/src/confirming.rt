@@ -13,13 +13,13 @@ use quantity::{CheckedPathNumber, PathNumber};
 use sheet::read::Verdict;
 
 // What is answered. The ledger is as it was, confirmed or not.
-#[derive(Drop)]
+#[derive(Clone, Copy)]
 pub struct Confirmed {
     pub verdict: Verdict,
 }
 
 // What is decided: the answer, and the place of the record to mark, 64 where there is none.
-#[derive(Drop)]
+#[derive(Clone, Copy)]
 pub struct Marking {
     pub confirmed: Confirmed,
     pub at: usize,

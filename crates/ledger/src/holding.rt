@@ -25,7 +25,7 @@ use sheet::PathValue;
 use sheet::read::Verdict;
 
 // What the path reserves, its delay, and the ledger with it. Beside a refusal they are 0, and the ledger is as it was.
-#[derive(Drop)]
+#[derive(Clone, Copy)]
 pub struct Holding {
     pub verdict: Verdict,
     pub ledger: Ledger,
@@ -34,7 +34,7 @@ pub struct Holding {
 }
 
 // What is decided: the answer, and the record to append with its place, 64 where there is none.
-#[derive(Drop)]
+#[derive(Clone, Copy)]
 pub struct Appending {
     pub holding: Holding,
     pub at: usize,

@@ -27,7 +27,7 @@ const HELD: u32 = 0;
 const CONFIRMED: u32 = 1;
 
 // A path that stands: its number, what it reserves on each link that it names, these links as 16 bits, bit i for link i, and its mark, 0 while it is held and 1 once it is confirmed.
-#[derive(Drop)]
+#[derive(Clone, Copy)]
 pub struct Record {
     pub number: PathNumber,
     pub rate: Rate,
@@ -36,7 +36,7 @@ pub struct Record {
 }
 
 // The capacities of the sixteen links, what the paths that stand reserve on each, and how many stand. Their records are lent.
-#[derive(Drop)]
+#[derive(Clone, Copy)]
 pub struct Ledger {
     pub capacities: [LinkCapacity; 16],
     pub totals: [Rate; 16],

@@ -13,14 +13,14 @@ use quantity::{CheckedLinkCapacity, LinkCapacity, Rate};
 use sheet::read::Verdict;
 
 // The new ledger. Beside a refusal it has no capacity.
-#[derive(Drop)]
+#[derive(Clone, Copy)]
 pub struct Opened {
     pub verdict: Verdict,
     pub ledger: Ledger,
 }
 
 // What is decided: the answer, how many records are cleared, and the clear record.
-#[derive(Drop)]
+#[derive(Clone, Copy)]
 pub struct Clearing {
     pub opened: Opened,
     pub count: usize,
@@ -62,7 +62,7 @@ fn decide(capacities: [u32; 16], lent: usize) -> Clearing
 }
 
 // Whether every capacity is in its range, and then the ledger that has them.
-#[derive(Drop)]
+#[derive(Clone, Copy)]
 struct Checked {
     fit: bool,
     ledger: Ledger,

@@ -15,14 +15,14 @@ use quantity::{CheckedPathNumber, PathNumber, Rate};
 use sheet::read::Verdict;
 
 // The ledger without the path. Beside a refusal it is as it was.
-#[derive(Drop)]
+#[derive(Clone, Copy)]
 pub struct Released {
     pub verdict: Verdict,
     pub ledger: Ledger,
 }
 
 // What is decided: the answer, the place to close up, 64 where there is none, and the clear record.
-#[derive(Drop)]
+#[derive(Clone, Copy)]
 pub struct Releasing {
     pub released: Released,
     pub at: usize,

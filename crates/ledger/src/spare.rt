@@ -13,14 +13,14 @@ use sheet::read::Verdict;
 use std::num::wrapping_sub_u32;
 
 // The rate that a link has to spare. Beside a refusal it is 0.
-#[derive(Drop)]
+#[derive(Clone, Copy)]
 pub struct Spare {
     pub verdict: Verdict,
     pub rate: Rate,
 }
 
 // Whether the links can be used, and what each has to spare then.
-#[derive(Drop)]
+#[derive(Clone, Copy)]
 struct Spares {
     fit: bool,
     rates: [Rate; 16],

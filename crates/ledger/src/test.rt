@@ -16,7 +16,7 @@ use std::num::{wrapping_add_u32, wrapping_sub_u32};
 const HALF: usize = 32;
 
 // Whether what is lent and stored can be used; then the place of the number that was asked for, the count where it does not stand, and its record, the clear one there.
-#[derive(Drop)]
+#[derive(Clone, Copy)]
 pub struct Tested {
     pub usable: bool,
     pub at: usize,

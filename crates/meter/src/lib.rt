@@ -11,7 +11,7 @@ use quantity::{Slots, Units};
 pub mod parts;
 
 // The state of a meter: its next slot's number and, under a smooth declaration, the block's total.
-#[derive(Drop)]
+#[derive(Clone, Copy)]
 pub struct SourceMeter {
     pub declaration: Declaration,
     pub slot: Slots,
@@ -19,21 +19,21 @@ pub struct SourceMeter {
 }
 
 // The most that a slot's input may be.
-#[derive(Drop)]
+#[derive(Clone, Copy)]
 pub enum Room {
     AtMost(Units),
     Refused(Refusal),
 }
 
 // Whether a meter takes an input.
-#[derive(Drop)]
+#[derive(Clone, Copy)]
 pub enum Intake {
     Taken,
     Refused(Refusal),
 }
 
 // What a meter answers to an input: the next state beside it, or the one that was given where the input is refused. (An enum cannot hold the rows' array.)
-#[derive(Drop)]
+#[derive(Clone, Copy)]
 pub struct Metered {
     pub intake: Intake,
     pub state: SourceMeter,

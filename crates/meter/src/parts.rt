@@ -22,7 +22,7 @@ use words::Gathered;
 const WORDS: usize = 1024;
 
 // What is known of the next input: what it has to be below, the block's total before it, and the word that it is noted in; where there is a block there is none, and 1,024 stands for that.
-#[derive(Drop)]
+#[derive(Clone, Copy)]
 pub struct Awaited {
     pub below: Units,
     pub block: Units,
@@ -30,7 +30,7 @@ pub struct Awaited {
 }
 
 // What counting answers.
-#[derive(Drop)]
+#[derive(Clone, Copy)]
 pub enum Counted {
     Below(Awaited),
     Unusable,
@@ -103,7 +103,7 @@ pub fn block_behind(awaited: Awaited, input: Units) -> Units
 }
 
 // What one pass over the words finds under several rows: the words joined, what the input has to be below where none of them is large, and its word.
-#[derive(Drop)]
+#[derive(Clone, Copy)]
 struct RowsBelow {
     join: u32,
     least: u64,
@@ -214,7 +214,7 @@ fn counted_by_scan(state: SourceMeter, words: &[u32]) -> Counted
 }
 
 // The sum of the words, unless what is lent and stored cannot be used.
-#[derive(Drop)]
+#[derive(Clone, Copy)]
 enum Stored {
     Words(u64),
     Unusable,

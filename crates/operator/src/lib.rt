@@ -10,7 +10,7 @@ pub mod ring;
 pub mod single;
 
 // An operator with its number (section 3).
-#[derive(Drop)]
+#[derive(Clone, Copy)]
 pub enum Operator {
     Limiter(Rate),
     Compactor(Interval),
@@ -36,7 +36,7 @@ impl Operator {
 
 // The state of a single operator: its next slot's number, section 3's b and a filter's h.
 // A delayer's b is in its words alone; what an operator doesn't use is 0.
-#[derive(Drop)]
+#[derive(Clone, Copy)]
 pub struct SingleOperator {
     pub operator: Operator,
     pub slot: Slots,

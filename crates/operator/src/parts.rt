@@ -23,14 +23,14 @@ const WORDS: usize = 64;
 pub(crate) const ON_THE_WAY: u64 = 18_253_610_991;
 
 // Section 3's b, unless what is lent and stored cannot be used.
-#[derive(Drop)]
+#[derive(Clone, Copy)]
 pub enum Stored {
     Holds(Units),
     Unusable,
 }
 
 // What a decision answers: the output, what stays and a filter's h then.
-#[derive(Drop)]
+#[derive(Clone, Copy)]
 pub enum Decided {
     Sends {
         output: Units,
@@ -43,7 +43,7 @@ pub enum Decided {
 }
 
 // What keeping answers: the next state.
-#[derive(Drop)]
+#[derive(Clone, Copy)]
 pub enum Kept {
     Next(SingleOperator),
     Unfit,

@@ -25,7 +25,7 @@ const WRAP: u64 = 4_294_967_296;
 
 // The state of an operator within a path: as a single one's, with a delayer's totals of what entered and of what left, 32 bits and wrapping.
 // What an operator doesn't use is 0.
-#[derive(Drop)]
+#[derive(Clone, Copy)]
 pub struct PathOperator {
     pub operator: Operator,
     pub slot: Slots,
@@ -36,7 +36,7 @@ pub struct PathOperator {
 }
 
 // What advancing answers: the output, whether what stays is within the limit, the operator once it has sent, its slot not counted yet, and the word that its total is noted in.
-#[derive(Drop)]
+#[derive(Clone, Copy)]
 pub enum Advanced {
     Sends {
         output: Units,

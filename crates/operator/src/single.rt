@@ -9,14 +9,14 @@ use quantity::Units;
 use quantity::refusal::Refusal;
 
 // What a step's output may be.
-#[derive(Drop)]
+#[derive(Clone, Copy)]
 pub enum Bounds {
     Outputs { least: Units, greatest: Units },
     Refused(Refusal),
 }
 
 // What a step answers: the output and the next state.
-#[derive(Drop)]
+#[derive(Clone, Copy)]
 pub enum Stepped {
     Sent { output: Units, next: SingleOperator },
     Refused(Refusal),

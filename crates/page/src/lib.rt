@@ -16,7 +16,7 @@ mod line;
 const LINE_LENGTH: usize = 61;
 
 // What making a page answers: the page's length.
-#[derive(Drop)]
+#[derive(Clone, Copy)]
 pub enum Paged {
     Length(usize),
     Refused(Refusal),

@@ -59,7 +59,7 @@ const NOT_HEXADECIMAL: usize = 4;
 const SHEET_TOO_LONG: usize = 5;
 
 // What a line asks for: the command, its numbers, 0 where there is none, and how many bytes its sheet has.
-#[derive(Drop)]
+#[derive(Clone, Copy)]
 struct Asked {
     command: usize,
     first: u64,
@@ -68,7 +68,7 @@ struct Asked {
 }
 
 // The ledger and its records, the capacities that it was opened with, and whether a path was asked for.
-#[derive(Drop)]
+#[derive(Clone, Copy)]
 struct Book {
     ledger: Ledger,
     records: [Record; 64],

@@ -10,7 +10,7 @@ pub mod divisor;
 pub mod refusal;
 
 // A number of slots, or a slot's number.
-#[derive(Drop)]
+#[derive(Clone, Copy)]
 pub struct Slots(pub u32);
 
 impl Slots {
@@ -30,7 +30,7 @@ impl Slots {
 }
 
 // A number of units.
-#[derive(Drop)]
+#[derive(Clone, Copy)]
 pub struct Units(pub u64);
 
 impl Units {
@@ -57,10 +57,10 @@ fn within(value: u32, least: u32, largest: u32) -> bool
 }
 
 // An interval m, in slots.
-#[derive(Drop)]
+#[derive(Clone, Copy)]
 pub struct Interval(pub u32);
 
-#[derive(Drop)]
+#[derive(Clone, Copy)]
 pub enum CheckedInterval {
     InRange(Interval),
     OutOfRange,
@@ -89,10 +89,10 @@ impl Interval {
 }
 
 // A declared quota Q, in units.
-#[derive(Drop)]
+#[derive(Clone, Copy)]
 pub struct Quota(pub u32);
 
-#[derive(Drop)]
+#[derive(Clone, Copy)]
 pub enum CheckedQuota {
     InRange(Quota),
     OutOfRange,
@@ -121,10 +121,10 @@ impl Quota {
 }
 
 // A rate R, in units per slot.
-#[derive(Drop)]
+#[derive(Clone, Copy)]
 pub struct Rate(pub u32);
 
-#[derive(Drop)]
+#[derive(Clone, Copy)]
 pub enum CheckedRate {
     InRange(Rate),
     OutOfRange,
@@ -171,10 +171,10 @@ impl Rate {
 }
 
 // The delay d of a delayer, in slots.
-#[derive(Drop)]
+#[derive(Clone, Copy)]
 pub struct Delay(pub u32);
 
-#[derive(Drop)]
+#[derive(Clone, Copy)]
 pub enum CheckedDelay {
     InRange(Delay),
     OutOfRange,
@@ -203,10 +203,10 @@ impl Delay {
 }
 
 // The delay wanted of a path, in slots.
-#[derive(Drop)]
+#[derive(Clone, Copy)]
 pub struct WantedDelay(pub u32);
 
-#[derive(Drop)]
+#[derive(Clone, Copy)]
 pub enum CheckedWantedDelay {
     InRange(WantedDelay),
     OutOfRange,
@@ -235,10 +235,10 @@ impl WantedDelay {
 }
 
 // A link's number.
-#[derive(Drop)]
+#[derive(Clone, Copy)]
 pub struct Link(pub u32);
 
-#[derive(Drop)]
+#[derive(Clone, Copy)]
 pub enum CheckedLink {
     InRange(Link),
     OutOfRange,
@@ -267,10 +267,10 @@ impl Link {
 }
 
 // A path's number in a ledger.
-#[derive(Drop)]
+#[derive(Clone, Copy)]
 pub struct PathNumber(pub u32);
 
-#[derive(Drop)]
+#[derive(Clone, Copy)]
 pub enum CheckedPathNumber {
     InRange(PathNumber),
     OutOfRange,
@@ -299,10 +299,10 @@ impl PathNumber {
 }
 
 // A link's capacity, in units per slot: what its paths may reserve together.
-#[derive(Drop)]
+#[derive(Clone, Copy)]
 pub struct LinkCapacity(pub u32);
 
-#[derive(Drop)]
+#[derive(Clone, Copy)]
 pub enum CheckedLinkCapacity {
     InRange(LinkCapacity),
     OutOfRange,
@@ -331,10 +331,10 @@ impl LinkCapacity {
 }
 
 // How many hops a house profile has.
-#[derive(Drop)]
+#[derive(Clone, Copy)]
 pub struct Hops(pub u32);
 
-#[derive(Drop)]
+#[derive(Clone, Copy)]
 pub enum CheckedHops {
     InRange(Hops),
     OutOfRange,
@@ -363,10 +363,10 @@ impl Hops {
 }
 
 // The length of a longest packet, in units.
-#[derive(Drop)]
+#[derive(Clone, Copy)]
 pub struct Packet(pub u32);
 
-#[derive(Drop)]
+#[derive(Clone, Copy)]
 pub enum CheckedPacket {
     InRange(Packet),
     OutOfRange,

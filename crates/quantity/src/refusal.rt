@@ -4,7 +4,7 @@ ghost use Rattle.std.specs.Prelude.{◌≡◌};
 ghost use Rattle.quantity.specs.Refusals.{refusal_number, refusal_place};
 
 // The place is the field's first byte, counted from the sheet's start, or the operator's index.
-#[derive(Drop)]
+#[derive(Clone, Copy)]
 pub enum Refusal {
     // 1: lent memory, a value, an amount or a slot number that cannot be used.
     Unusable,

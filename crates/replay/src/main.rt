@@ -16,7 +16,7 @@ use text::hexadecimal::{Hexadecimal, hexadecimal_from};
 use text::line::starts_with;
 
 // The run, whether there is one, and whether the program goes on.
-#[derive(Drop)]
+#[derive(Clone, Copy)]
 struct Replay {
     run: Run,
     opened: bool,

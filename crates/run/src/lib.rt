@@ -29,7 +29,7 @@ const OPERATORS: usize = 16;
 
 // An operator of the path with section 3's b, a filter's h, and a delayer's totals of what entered and of what left, 32 bits wide and wrapping.
 // A delayer's b is the difference of its totals; what an operator does not use is 0.
-#[derive(Drop)]
+#[derive(Clone, Copy)]
 pub struct Stage {
     pub operator: Operator,
     pub held: Units,
@@ -40,7 +40,7 @@ pub struct Stage {
 
 // What a slot uses: the declaration, the next slot's number, the block's total under a smooth declaration,
 // and the first `count` stages. The stages behind them are empty.
-#[derive(Drop)]
+#[derive(Clone, Copy)]
 pub struct Run {
     pub declaration: Declaration,
     pub slot: Slots,

@@ -16,7 +16,7 @@ use sheet::PathValue;
 use sheet::read::Verdict;
 
 // The run of an accepted sheet. Beside a refusal it is the empty one.
-#[derive(Drop)]
+#[derive(Clone, Copy)]
 pub struct Opened {
     pub verdict: Verdict,
     pub run: Run,

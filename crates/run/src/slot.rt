@@ -20,14 +20,14 @@ use quantity::{Slots, Units};
 use sheet::read::Verdict;
 
 // What a slot call answers: the last operator's output, or why it is refused.
-#[derive(Drop)]
+#[derive(Clone, Copy)]
 pub enum Outcome {
     Sent(Units),
     Refused(Refusal),
 }
 
 // The next run beside it: the one that was given, where the call is refused.
-#[derive(Drop)]
+#[derive(Clone, Copy)]
 pub struct Slotted {
     pub outcome: Outcome,
     pub run: Run,

@@ -14,7 +14,7 @@ use operator::ring::{Advanced, PathOperator, advance};
 use quantity::{Slots, Units};
 
 // What the operators so far have told: whether all can be used and would store no more than the limit, the first whose choice is above, 16 if none is, and what arrives at the next.
-#[derive(Drop)]
+#[derive(Clone, Copy)]
 pub struct Progress {
     pub usable: bool,
     pub fits: bool,

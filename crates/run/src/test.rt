@@ -17,7 +17,7 @@ use quantity::{Slots, Units};
 use words::row_clear;
 
 // The path's operators, none where what is lent and stored cannot be used, and what is known of the next input.
-#[derive(Drop)]
+#[derive(Clone, Copy)]
 pub struct Begun {
     pub count: usize,
     pub awaited: Awaited,

@@ -13,7 +13,7 @@ use quantity::refusal::Refusal;
 use sheet::read::Verdict;
 
 // Section 3's b of each operator, and 0 behind them. Beside a refusal all are 0.
-#[derive(Drop)]
+#[derive(Clone, Copy)]
 pub struct Watched {
     pub verdict: Verdict,
     pub held: [Units; 16],

@@ -44,14 +44,14 @@ const HOUSE_TAG: u8 = 0x04;
 const HOUSE_WIDTH: usize = 22;
 
 // An operator of a path and the link that it is on.
-#[derive(Drop)]
+#[derive(Clone, Copy)]
 pub struct LinkedOperator {
     pub operator: Operator,
     pub link: Link,
 }
 
 // A house profile (document 02, item 2): which it is, its hops, the delay wanted, m, Q, R, the own longest packet L, the longest packet of all X and the link rate C.
-#[derive(Drop)]
+#[derive(Clone, Copy)]
 pub struct House {
     pub profile: u8,
     pub hops: Hops,
@@ -74,14 +74,14 @@ impl House {
 }
 
 // A path is written out in fields 01 or 05, 02 and 03, or it is a house profile.
-#[derive(Drop)]
+#[derive(Clone, Copy)]
 pub enum Form {
     Fields,
     House(House),
 }
 
 // A path is its declaration, its delay wanted and the first `count` of its operators. In the house form these are what the nine numbers stand for.
-#[derive(Drop)]
+#[derive(Clone, Copy)]
 pub struct PathValue {
     pub form: Form,
     pub declaration: Declaration,

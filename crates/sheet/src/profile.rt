@@ -19,14 +19,14 @@ use quantity::{
 };
 
 // What the reader of the body answers.
-#[derive(Drop)]
+#[derive(Clone, Copy)]
 pub(crate) enum ReadHouse {
     Fits(House),
     OutOfRange,
 }
 
 // R, L, X and C. One that the profile does not use is 0, and no number of its kind.
-#[derive(Drop)]
+#[derive(Clone, Copy)]
 struct Rates {
     rate: Rate,
     own_packet: Packet,
@@ -34,7 +34,7 @@ struct Rates {
     link_rate: Rate,
 }
 
-#[derive(Drop)]
+#[derive(Clone, Copy)]
 enum ReadRates {
     Fits(Rates),
     OutOfRange,

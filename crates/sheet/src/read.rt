@@ -28,27 +28,27 @@ use quantity::{
 };
 
 // What reading a sheet answers. Beside a refusal the path is the empty one.
-#[derive(Drop)]
+#[derive(Clone, Copy)]
 pub enum Verdict {
     Accepted,
     Refused(Refusal),
 }
 
-#[derive(Drop)]
+#[derive(Clone, Copy)]
 pub struct ReadSheet {
     pub verdict: Verdict,
     pub path: PathValue,
 }
 
 // Whether the field that is due has begun and is whole.
-#[derive(Drop)]
+#[derive(Clone, Copy)]
 enum Due {
     Whole,
     Refused(Refusal),
 }
 
 // What the first field declares, and the byte behind it. Beside a refusal all is empty.
-#[derive(Drop)]
+#[derive(Clone, Copy)]
 struct ReadFirst {
     due: Due,
     declaration: Declaration,
@@ -56,7 +56,7 @@ struct ReadFirst {
 }
 
 // What a sheet says before its operators, and where these begin. Beside a refusal all is empty.
-#[derive(Drop)]
+#[derive(Clone, Copy)]
 struct ReadHead {
     due: Due,
     declaration: Declaration,
@@ -65,26 +65,26 @@ struct ReadHead {
 }
 
 // What the readers of the bodies answer. Beside numbers out of range the declaration is the empty one.
-#[derive(Drop)]
+#[derive(Clone, Copy)]
 struct ReadDeclaration {
     fits: bool,
     declaration: Declaration,
 }
 
-#[derive(Drop)]
+#[derive(Clone, Copy)]
 enum ReadRow {
     Fits(DeclaredRow),
     OutOfRange,
 }
 
 // `OutOfRange` stands first: the tests of the five kinds' numbers then become one, against a table.
-#[derive(Drop)]
+#[derive(Clone, Copy)]
 enum ReadOperator {
     OutOfRange,
     Fits(Operator),
 }
 
-#[derive(Drop)]
+#[derive(Clone, Copy)]
 enum ReadLinked {
     Fits(LinkedOperator),
     OutOfRange,

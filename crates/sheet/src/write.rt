@@ -21,14 +21,14 @@ use quantity::WantedDelay;
 use quantity::refusal::Refusal;
 
 // What writing a sheet answers: the sheet's length.
-#[derive(Drop)]
+#[derive(Clone, Copy)]
 pub enum Written {
     Length(usize),
     Refused(Refusal),
 }
 
 // What writing the operators answers: where the last one ends.
-#[derive(Drop)]
+#[derive(Clone, Copy)]
 enum WrittenOperators {
     End(usize),
     OutOfRange,

@@ -10,7 +10,7 @@ ghost use Rattle.text.specs.DecimalRows.{row_from, decimals_from, numbers_after}
 use crate::SPACE;
 
 // A number and the index behind its last digit.
-#[derive(Drop)]
+#[derive(Clone, Copy)]
 pub enum Decimal {
     Number { value: u64, next: usize },
     NoDigit,
@@ -18,7 +18,7 @@ pub enum Decimal {
 }
 
 // How many numbers a text is, or its first fault from left to right.
-#[derive(Drop)]
+#[derive(Clone, Copy)]
 pub enum Decimals {
     Count(usize),
     NotANumber,
@@ -27,7 +27,7 @@ pub enum Decimals {
 }
 
 // A number with one digit more.
-#[derive(Drop)]
+#[derive(Clone, Copy)]
 enum Extended {
     Number(u64),
     TooLarge,

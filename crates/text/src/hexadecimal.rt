@@ -8,20 +8,20 @@ ghost use Rattle.text.specs.Hexadecimals.{is_hexadecimal_digit, digit_value, byt
 use crate::SPACE;
 
 // How many bytes a text is; that it is something else; that it is more bytes than there are places.
-#[derive(Drop)]
+#[derive(Clone, Copy)]
 pub enum Hexadecimal {
     Length(usize),
     NotHexadecimal,
     TooLong,
 }
 
-#[derive(Drop)]
+#[derive(Clone, Copy)]
 enum Digit {
     Value(u8),
     Other,
 }
 
-#[derive(Drop)]
+#[derive(Clone, Copy)]
 enum TwoDigits {
     Byte(u8),
     Other,

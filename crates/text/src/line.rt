@@ -4,7 +4,7 @@ ghost use Rattle.std.specs.Prelude.{◌≡◌};
 ghost use Rattle.text.specs.Lines.{gathered_of, line_after, begins_with};
 
 // How many bytes the line has now; Full: there is no place for one more.
-#[derive(Drop)]
+#[derive(Clone, Copy)]
 pub enum Gathered {
     To(usize),
     Full,

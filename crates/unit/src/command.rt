@@ -35,7 +35,7 @@ pub(crate) const ROOM: usize = 18;
 pub(crate) const UNKNOWN: usize = 19;
 
 // A command and its numbers; of one, the second is 0.
-#[derive(Drop)]
+#[derive(Clone, Copy)]
 pub struct Command {
     pub index: usize,
     pub first: u64,

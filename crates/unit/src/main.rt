@@ -34,7 +34,7 @@ mod single;
 mod words;
 
 // Which unit there is.
-#[derive(Drop)]
+#[derive(Clone, Copy)]
 enum Which {
     Missing,
     Alone,
@@ -42,7 +42,7 @@ enum Which {
 }
 
 // The unit there is. An enum cannot hold the array of a meter's rows, so both states stand here, and only that of the unit is looked at.
-#[derive(Drop)]
+#[derive(Clone, Copy)]
 struct Unit {
     which: Which,
     single: SingleOperator,

@@ -1,5 +1,7 @@
 // Amounts stored in fields and in lent words: parts of the calls of the operators and of the meter, which turn their answers into refusal 1 (document 01, sections 6 and 7).
 
+#![tactic(auto)]
+
 ghost use Rattle.std.specs.Prelude.{◌≡◌, ◌<◌, ◌≤◌, true, not, [], ◌∷◌, length, ◌==◌, nat_lt};
 ghost use Rattle.quantity.specs.Choice.{both, any_of};
 ghost use Rattle.quantity.specs.Sums.{total, every};
@@ -12,14 +14,14 @@ use quantity::{Slots, Units};
 use std::num::wrapping_add_u32;
 
 // Whether there are at most 1,024 words and each fits, of which the first so many are used; and then their sum, else 0.
-#[derive(Drop)]
+#[derive(Clone, Copy)]
 pub struct Scanned {
     pub fits: bool,
     pub units: u64,
 }
 
 // What one pass over words gathers: the words joined by "or", and the low 32 bits of their sum.
-#[derive(Drop)]
+#[derive(Clone, Copy)]
 pub struct Gathered {
     pub join: u32,
     pub low: u32,

@@ -12,7 +12,7 @@ use quantity::LinkCapacity;
 use sheet::read::Verdict;
 
 // A ledger with its records.
-#[derive(Drop)]
+#[derive(Clone, Copy)]
 struct Book {
     ledger: Ledger,
     records: [Record; 64],

@@ -1,0 +1,73 @@
+-- The four tests in turn; then the table of the rows, handed over as pairs.
+use mathlib.Core.Path.{◌≡◌, refl, sym, ◌∙◌, ap, subst}
+use mathlib.Core.Bool.{true}
+use Prim.Native.Nat.{ℕ, ◌<◌}
+use native.Mathlib.Omega.{arith}
+use lib.ListN.{length}
+use borrow.Author.Tests.{le-leb, lt-leb, not-false}
+use Rattle.quantity.specs.Sums.{list_of}
+use Rattle.flow.specs.Bounds.{boundable, bound_filled, pair_at, RowInside, Sized}
+use Rattle.flow.specs.Declarations.{has_rows, several_at, declaration_in_range}
+use Rattle.flow.specs.declared.Declaration.{Declaration}
+use Rattle.flow.proofs.Declarations.{several-inside, rows_inside, rows_at, rows-count, most-same}
+use Rattle.flow.proofs.bound.fill.Goals as goal
+use Rattle.flow.proofs.bound.fill.Goals.{Else-not-in_range, Start}
+
+pub returns-then-length-lt-SHORTEST : goal.returns-then-length-lt-SHORTEST
+unfolding boundable bound_filled
+returns-then-length-lt-SHORTEST c = rw (lt-leb _ _ c.if-length-lt-SHORTEST.true) (refl, refl)
+
+pub returns-then-length-gt-LENGTH : goal.returns-then-length-gt-LENGTH
+unfolding boundable bound_filled
+returns-then-length-gt-LENGTH c = rw (le-leb _ _ c.if-length-lt-SHORTEST.false, lt-leb _ _ c.if-length-gt-LENGTH.true) (refl, refl)
+
+pub returns-then-not-has_rows : goal.returns-then-not-has_rows
+unfolding boundable bound_filled
+returns-then-not-has_rows c = rw (le-leb _ _ c.if-length-lt-SHORTEST.false, le-leb _ _ c.if-length-gt-LENGTH.false, sym c.has_rows.ensures ∙ c.if-not-has_rows.true) (refl, refl)
+
+pub returns-then-not-in_range : goal.returns-then-not-in_range
+unfolding boundable bound_filled
+returns-then-not-in_range c =
+    rw (
+      le-leb _ _ c.if-length-lt-SHORTEST.false,
+      le-leb _ _ c.if-length-gt-LENGTH.false,
+      sym c.has_rows.ensures ∙ c.if-not-has_rows.false,
+      sym c.in_range.ensures ∙ c.if-not-in_range.true,
+    ) (refl, refl)
+
+-- what the four tests leave
+module _ (c : Else-not-in_range) where
+  abbrev start : Start
+  start = c.before.before.before.before.before.before.before
+
+  several : has_rows start.args.declaration.kind ≡ true
+  several = sym c.before.before.before.has-rows.ensures ∙ not-false _ c.before.before.if3.false
+
+  inside : declaration_in_range start.args.declaration ≡ true
+  inside = sym c.before.in-range.ensures ∙ not-false _ c.if4.false
+
+  sized : Sized start.args.table.now
+  sized = record { long = c.before.before.before.before.before.if1.false; short = c.before.before.before.before.if2.false }
+
+row_at : (declared : Declaration) → has_rows declared.kind ≡ true → declaration_in_range declared ≡ true → (i : ℕ) → i < declared.count → RowInside (several_at declared i)
+row_at declared several inside i less = rw (rows_at declared several i) at (rows_inside declared inside i (rw (rows-count declared several) less))
+
+pub fill_rows-requires : goal.fill_rows-requires
+fill_rows-requires c =
+    let declared = (start (goal.at.fill_rows-requires c).Else-not-in_range).args.declaration in
+    let counted = several-inside declared (inside (goal.at.fill_rows-requires c).Else-not-in_range) (several (goal.at.fill_rows-requires c).Else-not-in_range) in (
+      sized (goal.at.fill_rows-requires c).Else-not-in_range,
+      omega (arith, counted.0),
+      counted.1,
+      λ i less. subst RowInside (sym (c.pairs.ensures i (omega (arith, counted.1)))) (row_at declared (several (goal.at.fill_rows-requires c).Else-not-in_range) (inside (goal.at.fill_rows-requires c).Else-not-in_range) i less),
+    )
+
+pub returns : goal.returns
+unfolding boundable bound_filled
+returns c =
+    let declared = (start (goal.at.returns c).Else-not-in_range).args.declaration in
+    let counted = several-inside declared (inside (goal.at.returns c).Else-not-in_range) (several (goal.at.returns c).Else-not-in_range) in
+    let pairs = c.pairs in
+    let same = most-same (pair_at pairs.result) (several_at declared) declared.count (λ i less. pairs.ensures i (omega (arith, counted.1))) in
+    rw (le-leb _ _ (sized (goal.at.returns c).Else-not-in_range).long, le-leb _ _ (sized (goal.at.returns c).Else-not-in_range).short, several (goal.at.returns c).Else-not-in_range, inside (goal.at.returns c).Else-not-in_range)
+    (refl, c.fill_rows.ensures ∙ ap (λ (most : ℕ → ℕ). list_of most (length (start (goal.at.returns c).Else-not-in_range).args.table.now)) same)

@@ -1,0 +1,44 @@
+-- A constant interval is the row's own.
+use Rattle.flow.proofs.bound.with_row.Goals as goal
+
+pub returns-in-2 : goal.returns-in-2
+returns-in-2 c = cc
+
+pub returns-in-3 : goal.returns-in-3
+returns-in-3 c = cc
+
+pub returns-in-4 : goal.returns-in-4
+returns-in-4 c = cc
+
+pub returns-in-5 : goal.returns-in-5
+returns-in-5 c = cc
+
+pub returns-in-6 : goal.returns-in-6
+returns-in-6 c = cc
+
+pub returns-in-7 : goal.returns-in-7
+returns-in-7 c = cc
+
+pub returns-in-8 : goal.returns-in-8
+returns-in-8 c = cc
+
+pub returns-in-9 : goal.returns-in-9
+returns-in-9 c = cc
+
+pub returns-in-10 : goal.returns-in-10
+returns-in-10 c = cc
+
+pub returns-in-11 : goal.returns-in-11
+returns-in-11 c = cc
+
+pub returns-in-12 : goal.returns-in-12
+returns-in-12 c = cc
+
+pub returns-in-13 : goal.returns-in-13
+returns-in-13 c = cc
+
+pub returns-in-14 : goal.returns-in-14
+returns-in-14 c = cc
+
+pub returns-in-15 : goal.returns-in-15
+returns-in-15 c = cc
