@@ -1,5 +1,4 @@
 -- A count is answered where the row has no fault, and then it is stored; else there is a fault, and nothing changes.
-use native.Mathlib.Omega.{arith}
 use lib.ListN.{length}
 use Rattle.text.specs.declared.decimal.Decimals.{Decimals}
 use Rattle.text.specs.DecimalRows.{decimals_from, numbers_after}

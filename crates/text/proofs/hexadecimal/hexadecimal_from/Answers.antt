@@ -1,6 +1,5 @@
 -- The row is judged first; what does not fit, or is no row of bytes, is refused, and else it is stored.
 use mathlib.Core.Path.{◌≡◌, sym, ap, ◌∙◌}
-use native.Mathlib.Omega.{arith}
 use lib.ListN.{length, drop}
 use Rattle.text.specs.declared.hexadecimal.Hexadecimal.{Hexadecimal}
 use Rattle.text.specs.Rows.{answer_of}
@@ -41,8 +40,7 @@ store-requires c =
 
 pub returns : goal.returns
 unfolding hexadecimal_from
-returns c =
-    (
-      sym c.in-Length.is ∙ c.judge-answer.ensures ∙ sym (ap (answer_of Hexadecimal.Length) (whole (goal.at.returns c).Else-bytes-length)),
-      c.store.ensures,
-    )
+returns c = (
+  sym c.in-Length.is ∙ c.judge-answer.ensures ∙ sym (ap (answer_of Hexadecimal.Length) (whole (goal.at.returns c).Else-bytes-length)),
+  c.store.ensures,
+)
