@@ -10,10 +10,8 @@ use Rattle.quantity.specs.Sums.{every}
 use Rattle.quantity.proofs.Sums.{every-next}
 use Rattle.flow.specs.declared.DeclaredRow.{DeclaredRow}
 use Rattle.flow.specs.Declarations.{most_rows, empty_row, row_of, row_clear, rows_clear_from}
+use Rattle.flow.proofs.rows_clear.Invariants.{unused}
 use Rattle.flow.proofs.rows_clear.Goals as goal
-
-abbrev unused : ℕ → List DeclaredRow → ℕ → Bool
-unused from rows i = either (ltb i from) (row_clear (row_of (get_or rows i empty_row)))
 
 pub loop-i-init : goal.loop-i-init
 unfolding every
@@ -23,11 +21,11 @@ pub loop-i-preserved : goal.loop-i-preserved
 loop-i-preserved c =
     (
       omega arith,
-      c.and-clear.ensures ∙ ap₂ both c.loop-i.invariant.1 (c.or.ensures ∙ ap (either (ltb c.loop-i.i c.args.from)) c.is_clear.ensures) ∙ sym (every-next (unused c.args.from c.args.t1) c.loop-i.i),
+      c.and-clear.ensures ∙ ap₂ both c.loop-i.invariant.1 (c.or.ensures ∙ ap (either (ltb c.loop-i.i c.args.from)) c.is_clear.ensures) ∙ sym (every-next (unused c.args.from c.args.rows) c.loop-i.i),
     )
 
 pub returns : goal.returns
 unfolding rows_clear_from
 returns c =
     let all : c.loop-i.i ≡ most_rows = omega arith in
-    c.loop-i.invariant.1 ∙ ap (every (unused c.args.from c.args.t1)) all
+    c.loop-i.invariant.1 ∙ ap (every (unused c.args.from c.args.rows)) all
