@@ -1,16 +1,10 @@
 use mathlib.Core.Path.{◌≡◌, refl, sym, ◌∙◌, ap, ap₂}
-use mathlib.Core.Bool.{Bool}
-use mathlib.Core.List.{List}
-use Prim.Native.Nat.{ℕ, ◌-◌}
 use native.Mathlib.Omega.{arith}
-use lib.ListN.{get_or}
 use borrow.Author.Tests.{le-leb, lt-leb}
 use Rattle.quantity.specs.Choice.{both}
 use Rattle.quantity.specs.Sums.{every}
 use Rattle.quantity.specs.Ranges.{in_range}
 use Rattle.quantity.proofs.Sums.{every-next}
-use Rattle.flow.specs.declared.DeclaredRow.{DeclaredRow}
-use Rattle.flow.specs.Declarations.{empty_row, row_of, row_in_range}
 use Rattle.flow.proofs.rows_in_range.Invariants.{fits}
 use Rattle.flow.proofs.rows_in_range.Goals as goal
 
@@ -27,12 +21,11 @@ unfolding every
 loop-i-init c = (omega arith, omega arith, refl)
 
 pub loop-i-preserved : goal.loop-i-preserved
-loop-i-preserved c =
-    (
-      c.loop-i.invariant.0,
-      omega arith,
-      c.and-fit.ensures ∙ ap₂ both c.loop-i.invariant.2 c.in_range.ensures ∙ sym (every-next (fits c.args.rows) c.loop-i.i),
-    )
+loop-i-preserved c = (
+  c.loop-i.invariant.0,
+  omega arith,
+  c.and-fit.ensures ∙ ap₂ both c.loop-i.invariant.2 c.in_range.ensures ∙ sym (every-next (fits c.args.rows) c.loop-i.i),
+)
 
 pub returns : goal.returns
 unfolding in_range

@@ -1,7 +1,7 @@
 use mathlib.Core.Path.{◌≡◌, refl, sym, ◌∙◌, ap, ap₂}
-use mathlib.Core.Bool.{Bool, false}
+use mathlib.Core.Bool.{false}
 use mathlib.Core.List.{List}
-use Prim.Native.Nat.{ℕ, suc, ◌-◌}
+use Prim.Native.Nat.{ℕ, ◌-◌}
 use native.Mathlib.Numerals.{add-one}
 use native.Mathlib.Omega.{arith}
 use lib.ListN.{get_or, length, get_or-eq_default}
@@ -26,12 +26,11 @@ unfolding every
 loop-i-init c = (omega arith, omega arith, refl)
 
 pub loop-i-preserved : goal.loop-i-preserved
-loop-i-preserved c =
-    (
-      c.loop-i.invariant.0,
-      omega arith,
-      c.and-rise.ensures ∙ ap₂ both c.loop-i.invariant.2 (c.rises.ensures ∙ ap (λ (j : ℕ). rises (row_of (get_or c.args.rows c.loop-i.i empty_row)) (row_of (get_or c.args.rows j empty_row))) (add-one c.loop-i.i)) ∙ sym (every-next (follows c.args.rows) c.loop-i.i),
-    )
+loop-i-preserved c = (
+  c.loop-i.invariant.0,
+  omega arith,
+  c.and-rise.ensures ∙ ap₂ both c.loop-i.invariant.2 (c.rises.ensures ∙ ap (λ (j : ℕ). rises (row_of (get_or c.args.rows c.loop-i.i empty_row)) (row_of (get_or c.args.rows j empty_row))) (add-one c.loop-i.i)) ∙ sym (every-next (follows c.args.rows) c.loop-i.i),
+)
 
 pub returns : goal.returns
 returns c =
