@@ -13,12 +13,12 @@ use Rattle.meter.proofs.parts.counted_by_scan.Goals.{Else-not-in_order, Else-not
 -- where words were found, the meter can be used, and their sum was found
 usable : (c : In-Words-2) → meter_unusable c.args.state c.args.words.now ≡ false
 usable c =
-    picked-false _ _ _ (sym c.units-1.given.1 ∙ c.stored_in.ensures)
+    picked-false _ _ _ (sym c.in-Words.is ∙ c.stored_in.ensures)
     (λ e. let never : ◌≡◌ {A = ℕ} 0 1 = cc in omega arith)
 
-summed : (c : In-Words-2) → c.units-1.given.0.0 ≡ total (word_at c.args.words.now) meter_word_count
+summed : (c : In-Words-2) → c.in-Words.units ≡ total (word_at c.args.words.now) meter_word_count
 summed c =
-    let found = sym c.units-1.given.1 ∙ c.stored_in.ensures ∙ pick-false _ _ _ (usable c) in
+    let found = sym c.in-Words.is ∙ c.stored_in.ensures ∙ pick-false _ _ _ (usable c) in
     cc
 
 -- past the second test the declaration is in range, and past the third in order
@@ -40,7 +40,7 @@ awaited_in_ring-requires c = (c.requires, usable (goal.at.awaited_in_ring-requir
 pub returns-in-Unusable : goal.returns-in-Unusable
 returns-in-Unusable c =
     counted-unusable _ _
-    (picked-true _ _ _ (sym c.enum_told-1.given.1 ∙ c.stored_in.ensures) (λ e. let never : ◌≡◌ {A = ℕ} 0 1 = cc in omega arith))
+    (picked-true _ _ _ (sym c.in-Unusable.is ∙ c.stored_in.ensures) (λ e. let never : ◌≡◌ {A = ℕ} 0 1 = cc in omega arith))
 
 pub returns-else-not-in_order : goal.returns-else-not-in_order
 returns-else-not-in_order c =

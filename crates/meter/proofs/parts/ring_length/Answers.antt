@@ -5,18 +5,18 @@ use Rattle.meter.proofs.UsableMeter.{ring-smooth, ring-uniform, ring-several, ri
 use Rattle.meter.proofs.parts.ring_length.Goals as goal
 
 pub returns-then-count-eq0 : goal.returns-then-count-eq0
-returns-then-count-eq0 c = sym (ring-several-none _ c.enum_told-in-Rows-1.given.1 c.if-count-eq0.true)
+returns-then-count-eq0 c = sym (ring-several-none _ c.in-Rows.is c.if-count-eq0.true)
 
 pub returns-then-count-gt4 : goal.returns-then-count-gt4
-returns-then-count-gt4 c = sym (ring-several-beyond _ c.enum_told-in-Rows-1.given.1 c.if-count-gt4.true)
+returns-then-count-gt4 c = sym (ring-several-beyond _ c.in-Rows.is c.if-count-gt4.true)
 
 pub returns-in-Smooth : goal.returns-in-Smooth
-returns-in-Smooth c = sym (ring-smooth _ c.enum_told-1.given.1)
+returns-in-Smooth c = sym (ring-smooth _ c.in-Smooth.is)
 
 pub returns-in-Uniform : goal.returns-in-Uniform
-returns-in-Uniform c = sym (ring-uniform _ c.enum_told-in-Uniform-1.given.1)
+returns-in-Uniform c = sym (ring-uniform _ c.in-Uniform.is)
 
 pub returns-else-count-gt4 : goal.returns-else-count-gt4
 returns-else-count-gt4 c =
     ap (λ (row : Row). row.interval) c.last_row-last.ensures
-    ∙ sym (ring-several _ c.enum_told-in-Rows-1.given.1 (omega arith) (omega arith))
+    ∙ sym (ring-several _ c.in-Rows.is (omega arith) (omega arith))

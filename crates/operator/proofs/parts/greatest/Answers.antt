@@ -9,20 +9,20 @@ use Rattle.operator.proofs.parts.greatest.Goals as goal
 
 pub returns-in-Limiter : goal.returns-in-Limiter
 unfolding least_output greatest_output limiter_least limiter_greatest compactor_least compactor_greatest expander_greatest filter_greatest delayer_greatest
-returns-in-Limiter c t x input low_same there-same = rw c.enum_told-1.given.1 (rw c.enum_told-1.given.1 at low_same)
+returns-in-Limiter c t x input low_same there-same = rw c.in-Limiter.is (rw c.in-Limiter.is at low_same)
 
 pub returns-in-Compactor : goal.returns-in-Compactor
 unfolding least_output greatest_output limiter_least limiter_greatest compactor_least compactor_greatest expander_greatest filter_greatest delayer_greatest
-returns-in-Compactor c t x input low_same there-same = rw c.enum_told-in-Compactor-1.given.1 (rw c.enum_told-in-Compactor-1.given.1 at low_same)
+returns-in-Compactor c t x input low_same there-same = rw c.in-Compactor.is (rw c.in-Compactor.is at low_same)
 
 pub returns-in-Expander : goal.returns-in-Expander
 unfolding least_output greatest_output limiter_least limiter_greatest compactor_least compactor_greatest expander_greatest filter_greatest delayer_greatest
-returns-in-Expander c t x input low_same there-same = rw c.enum_told-in-Expander-1.given.1 there-same
+returns-in-Expander c t x input low_same there-same = rw c.in-Expander.is there-same
 
 pub returns-in-Filter : goal.returns-in-Filter
 unfolding least_output greatest_output limiter_least limiter_greatest compactor_least compactor_greatest expander_greatest filter_greatest delayer_greatest
-returns-in-Filter c t x input low_same there-same = rw c.enum_told-in-Filter-1.given.1 there-same
+returns-in-Filter c t x input low_same there-same = rw c.in-Filter.is there-same
 
 pub returns-in-Delayer : goal.returns-in-Delayer
 unfolding least_output greatest_output limiter_least limiter_greatest compactor_least compactor_greatest expander_greatest filter_greatest delayer_greatest
-returns-in-Delayer c t x input low_same there-same = rw c.enum_told-in-Delayer-1.given.1 there-same
+returns-in-Delayer c t x input low_same there-same = rw c.in-Delayer.is there-same

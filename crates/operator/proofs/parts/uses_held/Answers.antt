@@ -5,20 +5,20 @@ use Rattle.operator.proofs.parts.uses_held.Goals as goal
 
 pub returns-in-Delayer : goal.returns-in-Delayer
 unfolding uses_held
-returns-in-Delayer c = sym (ap uses_held c.enum_told-1.given.1)
+returns-in-Delayer c = sym (ap uses_held c.in-Delayer.is)
 
 pub returns-in-Limiter : goal.returns-in-Limiter
 unfolding uses_held
-returns-in-Limiter c = sym (ap uses_held c.enum_told-in-Limiter-1.given.1)
+returns-in-Limiter c = sym (ap uses_held c.in-Limiter.is)
 
 pub returns-in-Compactor : goal.returns-in-Compactor
 unfolding uses_held
-returns-in-Compactor c = sym (ap uses_held c.enum_told-in-Compactor-1.given.1)
+returns-in-Compactor c = sym (ap uses_held c.in-Compactor.is)
 
 pub returns-in-Expander : goal.returns-in-Expander
 unfolding uses_held
-returns-in-Expander c = sym (ap uses_held c.enum_told-in-Expander-1.given.1)
+returns-in-Expander c = sym (ap uses_held c.in-Expander.is)
 
 pub returns-in-Filter : goal.returns-in-Filter
 unfolding uses_held
-returns-in-Filter c = sym (ap uses_held c.enum_told-in-Filter-1.given.1)
+returns-in-Filter c = sym (ap uses_held c.in-Filter.is)

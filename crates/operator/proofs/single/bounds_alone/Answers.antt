@@ -8,8 +8,8 @@ use Rattle.operator.proofs.single.bounds_alone.Goals.{Else-not-number_in_range, 
 
 found : (c : In-Holds-2) →
     let start = c.args in
-    Usable start.state start.words.now × (c.held-1.given.0.0.0 ≡ (holds start.state start.words.now).b)
-found c = stored-holds _ _ (sym c.held-1.given.1 ∙ c.stored_in.ensures)
+    Usable start.state start.words.now × (c.in-Holds.held.0 ≡ (holds start.state start.words.now).b)
+found c = stored-holds _ _ (sym c.in-Holds.is ∙ c.stored_in.ensures)
 
 passed : (c : In-Holds-2) →
     let start = c.args in
@@ -27,10 +27,7 @@ returns-then-not-number_in_range c = bounds-outside _ _ _ (passed (goal.at.retur
 
 pub least-low-requires : goal.least-low-requires
 least-low-requires c =
-    let (stored, same) = found (goal.at.least-low-requires c).In-Holds-2 in (
-      (inside (goal.at.least-low-requires c).Else-not-number_in_range, stored.sized, stored.slot_left),
-      (omega (arith, b-le _ _ stored), beside-le _ _ stored, omega (arith, c.if-input-gt-LARGEST.false)),
-    )
+    let (stored, same) = found (goal.at.least-low-requires c).In-Holds-2 in record { operator_value = (inside (goal.at.least-low-requires c).Else-not-number_in_range, stored.sized, stored.slot_left); held_le_largest_amount = (omega (arith, b-le _ _ stored), beside-le _ _ stored, omega (arith, c.if-input-gt-LARGEST.false)) }
 
 pub overflow_add-held : goal.overflow_add-held
 overflow_add-held c =
@@ -38,11 +35,11 @@ overflow_add-held c =
     omega (arith, b-le _ _ stored, c.if-input-gt-LARGEST.false)
 
 pub returns-in-Unusable : goal.returns-in-Unusable
-returns-in-Unusable c = bounds-unusable _ _ _ (unusable-stored _ _ _ (stored-is-unusable _ _ (sym c.enum_told-1.given.1 ∙ c.stored_in.ensures)))
+returns-in-Unusable c = bounds-unusable _ _ _ (unusable-stored _ _ _ (stored-is-unusable _ _ (sym c.in-Unusable.is ∙ c.stored_in.ensures)))
 
 pub returns-else-not-number_in_range : goal.returns-else-not-number_in_range
 returns-else-not-number_in_range c =
     let same = (found (goal.at.returns-else-not-number_in_range c).In-Holds-2).1 in
-    let low = c.least-low.ensures.0 ∙ least-held _ _ _ _ same in
+    let low = c.least-low.ensures.value ∙ least-held _ _ _ _ same in
     bounds-outputs _ _ _ (passed (goal.at.returns-else-not-number_in_range c).In-Holds-2) (inside (goal.at.returns-else-not-number_in_range c).Else-not-number_in_range) _ _ low
     (c.greatest-high.ensures _ _ _ low (ap (λ (b : ℕ). b + c.args.input.0) same))
