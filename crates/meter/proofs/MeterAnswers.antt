@@ -133,7 +133,7 @@ module _ (x : SourceMeter) (words : List ℕ) (input : ℕ) where
     unfolding meter_of meter_words_after
     take-refused why answered stands =
         rw first-test
-        (sym (stands _ _ _) ∙ after-count x words (refused_with x) _ answered, sym (stands _ _ _) ∙ after-count x words (λ why. words) _ answered)
+        (sym (stands Metered (refused_with x) _) ∙ after-count x words (refused_with x) _ answered, sym (stands (List ℕ) (λ why. words) _) ∙ after-count x words (λ why. words) _ answered)
 
     pub take-unusable : Counted.Unusable ≡ counted_of x words → Answers (refused_with x Unusable) words
     take-unusable answered = take-refused Unusable answered (λ A refused rest. refl)
