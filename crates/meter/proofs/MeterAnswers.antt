@@ -1,5 +1,5 @@
 -- What a meter answers, from what its parts answer: the room that it finds, and what it answers to an input and leaves in its words.
-use Rattle.std.proofs.Common.{◌≡◌, ℕ, ◌+◌, ◌-◌, ◌<◌, ◌≤◌, true, false, not, ltb, List, [], ◌∷◌, sym, refl, ap, ◌∙◌, arith, le-ltb, lt-ltb}
+use Rattle.std.proofs.Common.{◌≡◌, ℕ, ◌+◌, ◌-◌, ◌<◌, ◌≤◌, true, false, not, ltb, List, ◌∷◌, sym, refl, ap, ◌∙◌, arith, le-ltb, lt-ltb}
 use borrow.Author.Tests.{not-false}
 use Rattle.quantity.specs.Choice.{either}
 use Rattle.quantity.specs.Limits.{largest_amount, last_slot}

@@ -82,8 +82,8 @@ loop-i-init c =
     let row = c.last_row-last.result in
     -- what the last row leaves is not 0, so this is known of the rows before it
     let known : Rising given.words.now row.interval.0 (given.state.slot.0 % row.interval.0) given.state.declaration.count given.state.declaration.rows =
-        rising given.state given.words.now (usable last) (ranged last) c.requires.3 c.requires.0 row.interval.0 (ringed last) row.quota.0
-        (quota-last last) (λ none. c.if-least-eq0.false (leaves_last (goal.at.loop-i-init c).After-left_below-least ∙ none))
+    rising given.state given.words.now (usable last) (ranged last) c.requires.3 c.requires.0 row.interval.0 (ringed last) row.quota.0
+    (quota-last last) (λ none. c.if-least-eq0.false (leaves_last (goal.at.loop-i-init c).After-left_below-least ∙ none))
     in
     (known, omega arith, λ before. known.large 0 (omega arith), sym (total-zero _), sym (least-from-none _ _))
 

@@ -1,4 +1,4 @@
-use Rattle.std.proofs.Common.{◌≡◌, ℕ, ◌-◌, ◌%◌, ◌<◌, min, ap, ◌∙◌, arith}
+use Rattle.std.proofs.Common.{◌≡◌, ℕ, ◌%◌, ◌<◌, min, ap, ◌∙◌, arith}
 use Rattle.meter.proofs.VisitedRows.{Visiting, visiting, visited-none, visited-next, visited-fits, visited-least}
 use Rattle.meter.proofs.parts.rows_below.Goals as goal
 use Rattle.meter.proofs.parts.rows_below.Goals.{After-ring_length-ring}
