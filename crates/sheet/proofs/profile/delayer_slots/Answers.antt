@@ -33,7 +33,7 @@ overflow_cast-result c =
     let args = c.args in
     let pre = c.requires in
     rw (c.product-whole.ensures, c.product.ensures, c.product-2.ensures)
-    (omega (arith, slots-le args.own-packet.0 args.longest-packet.0 args.rate.0 args.link-rate.0 pre.2 pre.4))
+    (omega (arith, slots-le args.own_packet.0 args.longest_packet.0 args.rate.0 args.link_rate.0 pre.2 pre.4))
 
 pub returns : goal.returns
 unfolding round_up

@@ -15,5 +15,5 @@ pub returns-in_default : goal.returns-in_default
 unfolding hop_length
 returns-in_default c =
     let profile = c.args.house.profile in
-    let others = c.in_default.rest in
+    let others = c.in_default.in_default-own.rest in
     simp (ne_eqb profile 0 others.0.1, ne_eqb profile 1 others.1)

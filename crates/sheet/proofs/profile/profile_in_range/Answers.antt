@@ -27,11 +27,11 @@ returns-else-in_range c = rw c.in-1.is (both_left _ _ c.in_range.ensures c.if-in
 pub returns-then-in_range-2 : goal.returns-then-in_range-2
 unfolding profile_in_range
 returns-then-in_range-2 c =
-    let others = c.in_default.rest in
+    let others = c.in_default.in_default-own.rest in
     rw (ne_eqb _ 0 others.0.1, ne_eqb _ 1 others.1) (both-taken _ _ c.in_range-in_default.ensures c.packets_in_range.ensures c.if-in_range-2.true)
 
 pub returns-else-in_range-2 : goal.returns-else-in_range-2
 unfolding profile_in_range
 returns-else-in_range-2 c =
-    let others = c.in_default.rest in
+    let others = c.in_default.in_default-own.rest in
     rw (ne_eqb _ 0 others.0.1, ne_eqb _ 1 others.1) (both_left _ _ c.in_range-in_default.ensures c.if-in_range-2.false)

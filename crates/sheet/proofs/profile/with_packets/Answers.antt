@@ -45,18 +45,19 @@ delayer_slots-slots-requires c =
     rw ((own (goal.at.delayer_slots-slots-requires c).In-InRange).1, (longest (goal.at.delayer_slots-slots-requires c).In-InRange-checked).1, (carrying (goal.at.delayer_slots-slots-requires c).In-InRange-checked-2).1)
     (le-largest packet_range _ (own (goal.at.delayer_slots-slots-requires c).In-InRange).0, le-largest packet_range _ (longest (goal.at.delayer_slots-slots-requires c).In-InRange-checked).0, least-le rate_range _ R, le-largest rate_range _ R, least-le rate_range _ (carrying (goal.at.delayer_slots-slots-requires c).In-InRange-checked-2).0, le-largest rate_range _ (carrying (goal.at.delayer_slots-slots-requires c).In-InRange-checked-2).0)
 
-slots : (c : After-delayer_slots-slots) → c.delayer_slots-slots.result ≡ delayer_slots (house_in c.args.body.now)
+slots : (c : After-delayer_slots-slots)
+    → (let h = house_in c.args.body.now in (c.in-InRange.own ≡ h.own_packet) × (c.in-InRange-checked.longest ≡ h.longest_packet) × (c.in-InRange-checked-2.carrying ≡ h.link_rate))
+    → c.delayer_slots-slots.result ≡ delayer_slots (house_in c.args.body.now)
 unfolding delayer_slots
-slots c =
-    rw (← (own c.before.before.before.before.before.before.before.before.before.before.before.before).1, ← (longest c.before.before.before.before.before.before.before).1, ← (carrying c.before.before).1, ← c.requires.1) c.delayer_slots-slots.ensures
+slots c (own_is, longest_is, carrying_is) = rw (← own_is, ← longest_is, ← carrying_is, ← c.requires.1) c.delayer_slots-slots.ensures
 
 pub returns-in_default-checked-3 : goal.returns-in_default-checked-3
 unfolding packets_in_range
 returns-in_default-checked-3 c =
-    rw ((own (goal.at.returns-in_default-checked-3 c).In-InRange).0, (longest (goal.at.returns-in_default-checked-3 c).In-InRange-checked).0, (carrying (goal.at.returns-in_default-checked-3 c).In-InRange-checked-2).0, (delay-told (slots (goal.at.returns-in_default-checked-3 c).After-delayer_slots-slots) c.checked-4.ensures).outside c.in_default-checked-3.is)
+    rw ((own (goal.at.returns-in_default-checked-3 c).In-InRange).0, (longest (goal.at.returns-in_default-checked-3 c).In-InRange-checked).0, (carrying (goal.at.returns-in_default-checked-3 c).In-InRange-checked-2).0, (delay-told (slots (goal.at.returns-in_default-checked-3 c).After-delayer_slots-slots ((own (goal.at.returns-in_default-checked-3 c).In-InRange).1, (longest (goal.at.returns-in_default-checked-3 c).In-InRange-checked).1, (carrying (goal.at.returns-in_default-checked-3 c).In-InRange-checked-2).1)) c.checked-4.ensures).outside c.in_default-checked-3.is)
 
 pub returns : goal.returns
 unfolding packets_in_range
 returns c =
-    let (d-in, d-is) = (delay-told (slots (goal.at.returns c).After-delayer_slots-slots) c.checked-4.ensures).within c.in-InRange-checked-3.is in
+    let (d-in, d-is) = (delay-told (slots (goal.at.returns c).After-delayer_slots-slots ((own (goal.at.returns c).In-InRange).1, (longest (goal.at.returns c).In-InRange-checked).1, (carrying (goal.at.returns c).In-InRange-checked-2).1)) c.checked-4.ensures).within c.in-InRange-checked-3.is in
     rw ((own (goal.at.returns c).In-InRange).0, (longest (goal.at.returns c).In-InRange-checked).0, (carrying (goal.at.returns c).In-InRange-checked-2).0, d-in, (own (goal.at.returns c).In-InRange).1, (longest (goal.at.returns c).In-InRange-checked).1, (carrying (goal.at.returns c).In-InRange-checked-2).1)

@@ -1,5 +1,6 @@
 -- At each `return` the tests that led there say which conditions of the field stand.
-use mathlib.Core.Path.{sym, ◌∙◌}
+use mathlib.Core.Path.{sym, ap, ◌∙◌}
+use mathlib.Core.Bool.{not}
 use native.Mathlib.Omega.{arith}
 use Rattle.sheet.proofs.ReadLaws.{any, missing, begun, header-cut, header-whole, body-cut}
 use Rattle.sheet.proofs.read.cut_off_at.Goals as goal
@@ -16,7 +17,7 @@ pub returns-then-not-due : goal.returns-then-not-due
 returns-then-not-due c =
     let a = c.args in
     let s = a.sheet.now in
-    simp (begun s a.at (omega arith), header-whole s a.at (omega arith), sym c.is_due-due.ensures ∙ c.if-not-due.true)
+    simp (begun s a.at (omega arith), header-whole s a.at (omega arith), sym c.is_due-due.ensures ∙ ap not c.if-not-due.true)
 
 pub returns : goal.returns
 returns c =
@@ -25,6 +26,6 @@ returns c =
     simp (
       begun s a.at (omega arith),
       header-whole s a.at (omega arith),
-      sym c.is_due-due.ensures ∙ c.if-not-due.false,
+      sym c.is_due-due.ensures ∙ ap not c.if-not-due.false,
       body-cut s a.at (any a.tag a.width) (omega arith),
     )

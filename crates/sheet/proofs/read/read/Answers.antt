@@ -40,9 +40,10 @@ near c = head-inside c.args.sheet.now c.read_head-head.ensures c.in_default.is
 -- and decide what is read
 decided : (c : In_default)
     → let sheet = c.args.sheet.now in let head = c.read_head-head.result in due_at sheet head.end head.declaration head.wanted 15 head.end ≡ read_sheet sheet
+unfolding in_house_form
 decided c =
     let sheet = c.args.sheet.now in
-    sym (head_passed sheet c.read_head-head.ensures c.in_default.is) ∙ read-in-fields sheet (in-fields c.before.before)
+    sym (head_passed sheet c.read_head-head.ensures c.in_default.is) ∙ read-in-fields sheet (rw (← c.first_tag.ensures) (ne_eqb _ _ c.if-first_tag-eq-HOUSE_TAG.false))
 
 pub overflow_sub-sheet : goal.overflow_sub-sheet
 overflow_sub-sheet c = (near (goal.at.overflow_sub-sheet c).In_default).1
@@ -103,7 +104,9 @@ stored : (c : In-Fits)
     → let head = c.read_head-head.result in Passed c.args.sheet.now head.end head.declaration head.wanted (set c.loop-why.operators c.loop-why.count c.in-Fits.linked) (c.loop-why.count + 1) (c.loop-why.at + 3 + 6)
 stored c =
     let head = c.read_head-head.result in
-    let (fits, same) = ((told _ _ _ _ (λ k e. cc) (λ j k e. cc) (rw (handed-body c.args.sheet.now c.loop-why.at 6) at c.read_linked.ensures))).within c.in-Fits.is in
+    let body = body_at c.args.sheet.now c.loop-why.at 6 in
+    let answered : Told (operator_fits body) (operator_in body) ReadLinked.Fits ReadLinked.OutOfRange c.read_linked.result = told _ _ _ _ (λ k e. cc) (λ j k e. cc) (rw (handed-body c.args.sheet.now c.loop-why.at 6) at c.read_linked.ensures) in
+    let (fits, same) = answered.within c.in-Fits.is in
     operator-passes c.args.sheet.now head.end head.declaration head.wanted _ _ _ c.loop-why.invariant c.field_at.ensures c.in_default-field_at.is fits _ same _ (omega arith)
 
 -- how many operators begin

@@ -1,6 +1,7 @@
 -- The field is judged by its header, then by its body; one row is in order.
 use mathlib.Core.Path.{◌≡◌, refl, sym, ap, ◌∙◌}
 use mathlib.Core.Bool.{true}
+use borrow.Author.Tests.{not-true, not-false}
 use Rattle.quantity.proofs.Laws.{pick_true}
 use Rattle.sheet.specs.Bodies.{part, declaration_in, declaration_fits}
 use Rattle.sheet.specs.Fields.{declaration_format, body_at}
@@ -35,12 +36,12 @@ pub returns-then-not-read : goal.returns-then-not-read
 returns-then-not-read c =
     let sheet = c.args.sheet.now in
     c.first_refused-then-not-read.ensures
-    ∙ sym (first-body-refuses sheet declaration_format (first-of-one sheet c.requires) (declaration_in (body_at sheet 0 7)) (declared-of-one sheet c.requires) c.field_at.ensures c.in_default.is (fits (goal.at.returns-then-not-read c).After-read_declaration-read ∙ c.if-not-read.true))
+    ∙ sym (first-body-refuses sheet declaration_format (first-of-one sheet c.requires) (declaration_in (body_at sheet 0 7)) (declared-of-one sheet c.requires) c.field_at.ensures c.in_default.is (fits (goal.at.returns-then-not-read c).After-read_declaration-read ∙ not-true _ c.if-not-read.true))
 
 pub returns : goal.returns
 returns c =
     let sheet = c.args.sheet.now in
     let body = body_at sheet 0 7 in
-    let inside : declaration_fits body ≡ true = fits (goal.at.returns c).After-read_declaration-read ∙ c.if-not-read.false in
+    let inside : declaration_fits body ≡ true = fits (goal.at.returns c).After-read_declaration-read ∙ not-false _ c.if-not-read.false in
     rw (declared (goal.at.returns c).After-read_declaration-read inside)
     (sym (first_passes sheet declaration_format (first-of-one sheet c.requires) (declaration_in body) (declared-of-one sheet c.requires) c.field_at.ensures c.in_default.is inside (one-in-order body)))

@@ -62,5 +62,5 @@ returns-in-OutOfRange-checked-4 c = rw (c.in-4.is, (delay-told refl c.checked-in
 
 pub returns-in_default : goal.returns-in_default
 returns-in_default c =
-    let others = c.in_default.rest in
+    let others = c.in_default.in_default-own.rest in
     absurd (omega (arith, c.if-kind-gt4.false, others.0.0.0.0.1, others.0.0.0.1, others.0.0.1, others.0.1, others.1))

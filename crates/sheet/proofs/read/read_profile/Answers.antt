@@ -76,50 +76,46 @@ pub returns-in-Refused-ended : goal.returns-in-Refused-ended
 returns-in-Refused-ended c =
     c.without_path-in-Refused-ended.ensures ∙ sym (house-end-refuses c.args.sheet.now c.field_at.ensures c.in_default.is (house-fits (goal.at.returns-in-Refused-ended c).In-Fits) c.ended.ensures c.in-Refused-ended.is)
 
--- where the body was found to fit
-abbrev fitted : tie.After-hop-length invariant-loop decreases-loop → tie.After-known-told2 invariant-loop decreases-loop
-fitted c = c.before.before.before.before.before.before.before.before.before
-
 -- how many operators there are
-counted : (c : After-hop_length) → let house = (fitted c).before.house.given.0.0 in length (house_path house).operators ≡ house.hops.0 * c.hop_length.result
+counted : (c : After-hop_length) → let house = c.in-Fits.house in length (house_path house).operators ≡ house.hops.0 * c.hop_length.result
 counted c =
-    let house = (fitted c).before.house.given.0.0 in
+    let house = c.in-Fits.house in
     length-house_operators house ∙ ap (λ (n : ℕ). house.hops.0 * n) (sym c.hop_length.ensures)
 
-few : (c : After-hop_length) → (fitted c).before.house.given.0.0.hops.0 * c.hop_length.result ≤ 15
-few c = rw (counted c) at (house-few (fitted c).before.house.given.0.0 (in-range (fitted c)))
+few : (c : After-hop_length) → house_in_range c.in-Fits.house ≡ true → c.in-Fits.house.hops.0 * c.hop_length.result ≤ 15
+few c ranged = rw (counted c) at (house-few c.in-Fits.house ranged)
 
 pub overflow_mul-count : goal.overflow_mul-count
-overflow_mul-count c = omega (arith, few (goal.at.overflow_mul-count c).After-hop_length)
+overflow_mul-count c = omega (arith, few (goal.at.overflow_mul-count c).After-hop_length (in-range (goal.at.overflow_mul-count c).In-Fits))
 
 pub loop-k-init : goal.loop-k-init
 unfolding list_of
-loop-k-init c = (few (goal.at.loop-k-init c).After-hop_length, omega arith, rw (fitted (goal.at.loop-k-init c).After-hop_length).before.before.before.before.before.before.before.before.no-linked-operator.ensures)
+loop-k-init c = (few (goal.at.loop-k-init c).After-hop_length (in-range (goal.at.loop-k-init c).In-Fits), omega arith, rw c.no_linked_operator-none.ensures)
 
 pub house_operator-requires : goal.house_operator-requires
-house_operator-requires c = (in-range (fitted (goal.at.house_operator-requires c).After-hop_length), omega arith)
+house_operator-requires c = (in-range (goal.at.house_operator-requires c).In-Fits, omega arith)
 
 pub loop-k-preserved : goal.loop-k-preserved
 unfolding list_of
 loop-k-preserved c =
-    let house = (fitted (goal.at.loop-k-preserved c).After-hop_length).before.house.given.0.0 in
+    let house = c.in-Fits.house in
     let k = c.loop-k.k in
     let stored = filled_next no_linked_operator 16 (list_of (house_operator house) k) (house_operator house k) k (length-list_of (house_operator house) k) (omega arith) in
     (omega arith, omega arith, rw (c.house_operator.ensures, c.loop-k.invariant.2, add-one) stored)
 
 -- what is filled is the path of the nine numbers
 filled-path : (c : After-of_one_row-declaration)
-    → let house = (fitted c.before.before.before).before.house.given.0.0 in ◌≡◌ {A = PathValue} (record { form = Form.House house; declaration = c.of_one_row-declaration.result; wanted = house.wanted; count = house.hops.0 * c.hop_length.result; operators = c.loop-k.operators }) (house_value house)
+    → let house = c.in-Fits.house in ◌≡◌ {A = PathValue} (record { form = Form.House house; declaration = c.of_one_row-declaration.result; wanted = house.wanted; count = house.hops.0 * c.hop_length.result; operators = c.loop-k.operators }) (house_value house)
 unfolding house_value house_path
 filled-path c =
-    let house = (fitted c.before.before.before).before.house.given.0.0 in
+    let house = c.in-Fits.house in
     let done : c.loop-k.k ≡ house.hops.0 * hop_length house = rw (← c.hop_length.ensures) (omega arith) in
     let operators = rw done at c.loop-k.invariant.2 in
-    rw (c.of_one_row-declaration.ensures, ← (let house = (fitted c).before.house.given.0.0 in
+    rw (c.of_one_row-declaration.ensures, ← (let house = c.in-Fits.house in
     length-house_operators house ∙ ap (λ (n : ℕ). house.hops.0 * n) (sym c.hop_length.ensures)), operators)
 
 pub returns : goal.returns
 returns c =
-    let fits = fitted (goal.at.returns c).After-hop_length in
+    let fits = (goal.at.returns c).In-Fits in
     rw (c.accepted.ensures, filled-path (goal.at.returns c).After-of_one_row-declaration, house-is fits)
-    (sym (house-accepted fits.before.before.before.before.before.before.before.before.before.before.args.sheet.now fits.before.before.before.before.before.before.before.field_at.ensures fits.before.before.before.before.before.enum_told.given.1 (house-fits fits) c.ended.ensures c.in_default-ended.is))
+    (sym (house-accepted c.args.sheet.now c.field_at.ensures c.in_default.is (house-fits fits) c.ended.ensures c.in_default-ended.is))

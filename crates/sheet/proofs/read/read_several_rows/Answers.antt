@@ -3,6 +3,7 @@ use Prim.Native.Nat.{ℕ, ◌+◌, ◌*◌, ◌≤◌}
 use mathlib.Core.Path.{◌≡◌, refl, sym, ap, ◌∙◌}
 use mathlib.Core.Bool.{true, false}
 use native.Mathlib.Omega.{arith}
+use borrow.Author.Tests.{not-true, not-false}
 use lib.ListN.{length}
 use Rattle.quantity.proofs.Laws.{pick_true}
 use Rattle.flow.specs.Declarations.{rows_in_order}
@@ -76,13 +77,13 @@ pub returns-then-not-read : goal.returns-then-not-read
 returns-then-not-read c =
     let sheet = c.args.sheet.now in
     let count = c.rows_given-count.result in
-    c.first_refused-then-not-read.ensures ∙ sym (first-body-refuses sheet (rows_format count) (format (goal.at.returns-then-not-read c).After-rows_given-count) (rows_in count (body_at sheet 0 (count * 6))) (declared_rows (goal.at.returns-then-not-read c).After-rows_given-count) c.field_at.ensures c.in_default.is (fits (goal.at.returns-then-not-read c).After-read_rows-read ∙ c.if-not-read.true))
+    c.first_refused-then-not-read.ensures ∙ sym (first-body-refuses sheet (rows_format count) (format (goal.at.returns-then-not-read c).After-rows_given-count) (rows_in count (body_at sheet 0 (count * 6))) (declared_rows (goal.at.returns-then-not-read c).After-rows_given-count) c.field_at.ensures c.in_default.is (fits (goal.at.returns-then-not-read c).After-read_rows-read ∙ not-true _ c.if-not-read.true))
 
 pub returns-then-not-in_order : goal.returns-then-not-in_order
 returns-then-not-in_order c =
     let sheet = c.args.sheet.now in
     let count = c.rows_given-count.result in
-    let within = fits (goal.at.returns-then-not-in_order c).After-read_rows-read ∙ c.if-not-read.false in
+    let within = fits (goal.at.returns-then-not-in_order c).After-read_rows-read ∙ not-false _ c.if-not-read.false in
     let falls : rows_in_order (rows_in count (body_at sheet 0 (count * 6))) ≡ false = ap rows_in_order (sym (declared (goal.at.returns-then-not-in_order c).After-read_rows-read within)) ∙ sym c.in_order.ensures ∙ c.if-not-in_order.true in
     c.first_refused-then-not-in_order.ensures ∙ sym (first-order-refuses sheet (rows_format count) (format (goal.at.returns-then-not-in_order c).After-rows_given-count) (rows_in count (body_at sheet 0 (count * 6))) (declared_rows (goal.at.returns-then-not-in_order c).After-rows_given-count) c.field_at.ensures c.in_default.is within falls)
 
@@ -90,6 +91,6 @@ pub returns : goal.returns
 returns c =
     let sheet = c.args.sheet.now in
     let count = c.rows_given-count.result in
-    let within = fits (goal.at.returns c).After-read_rows-read ∙ c.if-not-read.false in
+    let within = fits (goal.at.returns c).After-read_rows-read ∙ not-false _ c.if-not-read.false in
     let rises : rows_in_order (rows_in count (body_at sheet 0 (count * 6))) ≡ true = ap rows_in_order (sym (declared (goal.at.returns c).After-read_rows-read within)) ∙ sym c.in_order.ensures ∙ c.if-not-in_order.false in
     rw (declared (goal.at.returns c).After-read_rows-read within) (sym (first_passes sheet (rows_format count) (format (goal.at.returns c).After-rows_given-count) (rows_in count (body_at sheet 0 (count * 6))) (declared_rows (goal.at.returns c).After-rows_given-count) c.field_at.ensures c.in_default.is within rises))

@@ -16,13 +16,13 @@ use Rattle.sheet.proofs.write.write_fields.Goals.{After-in_range, After-wanted_a
 pub returns-then-count-eq0 : goal.returns-then-count-eq0
 returns-then-count-eq0 c =
     let a = c.args in
-    let wrong : (a.path.count ≡ 0) ⊎ (16 < a.path.count) = ⊎_elim (λ w. inl w.taken) (λ w. inr (ltb-true _ _ w.1.taken)) c.then-count-eq0.branch in
+    let wrong : (a.path.count ≡ 0) ⊎ (16 < a.path.count) = elim c.then-count-eq0.either [ inl zero ↦ inl zero | inr w ↦ inr w.1 ] in
     wrong-count a.path a.sheet.now c.requires.0 c.requires.1 wrong
 
 -- behind the first two tests
 counted : (c : After-in_range) → Counted c.args.path c.args.sheet.now
 counted c =
-    record { full = c.requires.0; fields = c.requires.1; some = c.if-count-eq0.false; few = ltb-false _ _ c.if-count-gt16.false }
+    record { full = c.requires.0; fields = c.requires.1; some = c.if-count-eq0.false; few = c.if-count-gt16.false }
 
 pub returns-then-not-in_range : goal.returns-then-not-in_range
 returns-then-not-in_range c = wrong-declaration _ _ (counted (goal.at.returns-then-not-in_range c).After-in_range) (sym c.in_range.ensures ∙ c.if-not-in_range.true)
@@ -36,7 +36,7 @@ returns-then-not-in_order c = wrong-order _ _ (counted (goal.at.returns-then-not
 
 -- behind the tests of the declaration
 declared : (c : Else-not-in_order) → Declared c.args.path c.args.sheet.now
-declared c = record { counted = (record { full = c.requires.0; fields = c.requires.1; some = c.if-count-eq0.false; few = ltb-false _ _ c.if-count-gt16.false }); inside = (sym c.in_range.ensures ∙ c.if-not-in_range.false); rises = sym c.in_order.ensures ∙ c.if-not-in_order.false }
+declared c = record { counted = (record { full = c.requires.0; fields = c.requires.1; some = c.if-count-eq0.false; few = c.if-count-gt16.false }); inside = (sym c.in_range.ensures ∙ c.if-not-in_range.false); rises = sym c.in_order.ensures ∙ c.if-not-in_order.false }
 
 pub returns-then-not-in_range-2 : goal.returns-then-not-in_range-2
 returns-then-not-in_range-2 c =
