@@ -1,4 +1,4 @@
-use Prim.Native.Nat.{ℕ, ◌-◌, ◌*◌, ◌≤◌}
+use Prim.Native.Nat.{ℕ, ◌*◌, ◌≤◌}
 use mathlib.Core.Path.{◌≡◌, refl, sym, ap, ◌∙◌}
 use mathlib.Core.Bool.{Bool, true, false}
 use native.Mathlib.Numerals.{add-one}
@@ -111,8 +111,12 @@ filled-path c =
     let house = c.in-Fits.house in
     let done : c.loop-k.k ≡ house.hops.0 * hop_length house = rw (← c.hop_length.ensures) (omega arith) in
     let operators = rw done at c.loop-k.invariant.2 in
-    rw (c.of_one_row-declaration.ensures, ← (let house = c.in-Fits.house in
-    length-house_operators house ∙ ap (λ (n : ℕ). house.hops.0 * n) (sym c.hop_length.ensures)), operators)
+    rw (
+      c.of_one_row-declaration.ensures,
+      ← (let house = c.in-Fits.house in
+          length-house_operators house ∙ ap (λ (n : ℕ). house.hops.0 * n) (sym c.hop_length.ensures)),
+      operators,
+    )
 
 pub returns : goal.returns
 returns c =
