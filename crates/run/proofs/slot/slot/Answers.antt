@@ -1,0 +1,305 @@
+use mathlib.Core.Path.{◌≡◌, refl, ap, sym, ◌∙◌}
+use mathlib.Core.Bool.{Bool, true, false}
+use mathlib.Core.List.{List}
+use mathlib.Core.Logic.{◌⊎◌, inl, inr, ⊎_elim}
+use Prim.Native.Nat.{ℕ, ◌+◌, ◌-◌, ◌≤◌, ◌<◌}
+use native.Mathlib.Omega.{arith}
+use lib.Dec.{eqb}
+use lib.ListN.{length, get_or, length-map, length-replicate}
+use borrow.Author.Tests.{not-true, not-false}
+use Rattle.quantity.specs.Choice.{both}
+use Rattle.quantity.specs.Limits.{most_operators}
+use Rattle.quantity.specs.Sums.{every}
+use Rattle.quantity.specs.declared.Slots.{Slots}
+use Rattle.quantity.specs.declared.Units.{Units}
+use Rattle.quantity.proofs.Laws.{pick_true, pick-false}
+use Rattle.quantity.proofs.Sums.{every-on}
+use Rattle.run.specs.declared.Run.{Run}
+use Rattle.run.specs.declared.Stage.{Stage}
+use Rattle.run.specs.Calls.{Call, call_of}
+use Rattle.operator.specs.Single.{word_count}
+use Rattle.operator.specs.Ring.{ring_noted}
+use Rattle.words.specs.Stored.{word_noted}
+use Rattle.run.specs.Runs.{operator_at_word, no_stage, operator_of, meter_in}
+use Rattle.run.specs.Slots.{slotted_of, words_slotted}
+use Rattle.run.specs.Steps.{awaited_in, unused_behind, accepted_by, run_advanced, with_part, block_written, run_written}
+use Rattle.run.proofs.UsableRun.{slot-left}
+use Rattle.run.proofs.TestLaws.{unused-told, unused-first, unused-all, used-at}
+use Rattle.run.proofs.MovingLaws.{Begins, begins, few, counted, input-le, Moving, moving-start, moving-sent, moving-unusable, moving-above}
+use Rattle.run.proofs.WriteLaws.{metered-size, metered-same, written_start, written_next, words-end}
+use Rattle.run.proofs.SlotLaws.{Refusing, Taking, judged-told, answer-refused, answer-taken}
+use Rattle.run.proofs.slot.slot.Goals as goal
+use Rattle.run.proofs.slot.slot.Invariants.{with_stages}
+use Rattle.run.proofs.slot.slot.Goals.{After-accepted-taken, After-begin-begun, After-judge-verdict, After-outcome_of, In-loop-k, Joined-not-taken, Joined-taken, Start}
+
+contradiction : {t : Bool} → t ≡ true → t ≡ false → ⊥
+contradiction e f = let z : ◌≡◌ {A = ℕ} 0 1 = cc in omega arith
+
+-- the stages are sixteen
+full : (s : Start) → length s.args.run.stages ≡ most_operators
+full s = sym (length-map s.args.run.stages _) ∙ s.well-formed.0.1.1.1.1.1.1.0.1.0.1
+
+-- where there is an operator, all before the operators fits
+begun : (c : In-loop-k) → let a = c.args in Begins a.run a.words.now a.input a.choices.now c.begin-begun.result
+begun c = begins _ _ _ _ c.begin-begun.ensures c.loop-k-test.true
+
+most : (c : After-begin-begun) → c.begin-begun.result.count ≤ most_operators
+most c = few _ _ _ _ c.begin-begun.ensures
+
+-- What is judged.
+
+judged : (c : After-judge-verdict) →
+    let a = c.args in
+    let c.before.before.before.before.before = c.loop-k in
+    Refusing a.run a.words.now (call_of a.input a.choices.now) c.judge-verdict.result ⊎ Taking a.run a.words.now (call_of a.input a.choices.now) c.judge-verdict.result c.begin-begun.result.count c.progress c.stages-1 c.places
+judged c =
+    let ends : c.loop-k.k ≡ c.begin-begun.result.count = omega (arith, c.loop-k-test.false, c.loop-k.invariant.0) in
+    let words = c.args.words.now in
+    let last = c.loop-k-2 in
+    let tested : eqb last.k most_operators ≡ every (unused_behind c.begin-begun.result.count c.loop-k.stages words) most_operators =
+    ⊎_elim (λ w. unused-all _ _ _ last.k last.invariant.1 w.left last.invariant.2) (λ w. used-at _ _ _ last.k last.invariant.0 w.0.taken (sym w.3.ensures ∙ not-true _ w.4.taken)) c.loop-k-2-test.branch
+    in
+    let moved : Moving c.args.run c.args.words.now (call_of c.args.input c.args.choices.now) c.begin-begun.result.count c.begin-begun.result.count c.loop-k.progress c.loop-k.stages c.loop-k.places = rw ends at c.loop-k.invariant.1 in
+    judged-told _ _ _ _ c.begin-begun.ensures moved (c.and-usable.ensures ∙ ap (both c.loop-k.progress.usable) tested) c.judge-verdict.ensures
+
+took : (c : After-accepted-taken) → c.accepted-taken.result ≡ true →
+    let a = c.args in
+    let l = c.loop-k in
+    Taking a.run a.words.now (call_of a.input a.choices.now) c.judge-verdict.result c.begin-begun.result.count l.progress l.stages l.places
+unfolding accepted_by
+took c taken-so = ⊎_elim (λ refusing. absurd (contradiction taken-so (c.accepted-taken.ensures ∙ ap accepted_by refusing.refused))) (λ taking. taking) ((let ends : c.loop-k.k ≡ c.begin-begun.result.count = omega (arith, c.loop-k-test.false, c.loop-k.invariant.0) in
+    let words = c.args.words.now in
+    let last = c.loop-k-2 in
+    let tested : eqb last.k most_operators ≡ every (unused_behind c.begin-begun.result.count c.loop-k.stages words) most_operators =
+    ⊎_elim (λ w. unused-all _ _ _ last.k last.invariant.1 w.left last.invariant.2) (λ w. used-at _ _ _ last.k last.invariant.0 w.0.taken (sym w.3.ensures ∙ not-true _ w.4.taken)) c.loop-k-2-test.branch
+    in
+    let moved : Moving c.args.run c.args.words.now (call_of c.args.input c.args.choices.now) c.begin-begun.result.count c.begin-begun.result.count c.loop-k.progress c.loop-k.stages c.loop-k.places = rw ends at c.loop-k.invariant.1 in
+    judged-told _ _ _ _ c.begin-begun.ensures moved (c.and-usable.ensures ∙ ap (both c.loop-k.progress.usable) tested) c.judge-verdict.ensures))
+
+left : (c : After-accepted-taken) → c.accepted-taken.result ≡ false → let a = c.args in Refusing a.run a.words.now (call_of a.input a.choices.now) c.judge-verdict.result
+unfolding accepted_by
+left c left_so = ⊎_elim (λ refusing. refusing) (λ taking. absurd (contradiction (c.accepted-taken.ensures ∙ ap accepted_by taking.accepted) left_so)) ((let ends : c.loop-k.k ≡ c.begin-begun.result.count = omega (arith, c.loop-k-test.false, c.loop-k.invariant.0) in
+    let words = c.args.words.now in
+    let last = c.loop-k-2 in
+    let tested : eqb last.k most_operators ≡ every (unused_behind c.begin-begun.result.count c.loop-k.stages words) most_operators =
+    ⊎_elim (λ w. unused-all _ _ _ last.k last.invariant.1 w.left last.invariant.2) (λ w. used-at _ _ _ last.k last.invariant.0 w.0.taken (sym w.3.ensures ∙ not-true _ w.4.taken)) c.loop-k-2-test.branch
+    in
+    let moved : Moving c.args.run c.args.words.now (call_of c.args.input c.args.choices.now) c.begin-begun.result.count c.begin-begun.result.count c.loop-k.progress c.loop-k.stages c.loop-k.places = rw ends at c.loop-k.invariant.1 in
+    judged-told _ _ _ _ c.begin-begun.ensures moved (c.and-usable.ensures ∙ ap (both c.loop-k.progress.usable) tested) c.judge-verdict.ensures))
+
+-- and has begun
+begun-taken : (c : After-accepted-taken) → c.accepted-taken.result ≡ true →
+    let a = c.args in
+    Begins a.run a.words.now a.input a.choices.now c.begin-begun.result
+begun-taken c taken-so =
+    let taking = took c taken-so in
+    begins _ _ _ _ c.begin-begun.ensures {k = 0} (omega (arith, taking.operators, taking.fits.some))
+
+-- the stages then
+stages-taken : (c : Joined-not-taken) → c.accepted-taken.result ≡ true → c.if-not-taken.stages ≡ c.loop-k.stages
+stages-taken c taken-so = ⊎_elim (λ w. absurd (contradiction taken-so (not-true _ w.0.taken))) (λ w. w.1) c.if-not-taken.branch
+
+stages-left : (c : Joined-not-taken) → c.accepted-taken.result ≡ false → c.if-not-taken.stages ≡ c.args.run.stages
+stages-left c left_so = ⊎_elim (λ w. w.2) (λ w. absurd (contradiction (not-false _ w.0.left) left_so)) c.if-not-taken.branch
+
+stages-long : (c : Joined-not-taken) → length c.if-not-taken.stages ≡ most_operators
+stages-long c = ⊎_elim (λ w. ap length w.2 ∙ (sym (length-map c.args.run.stages _) ∙ c.well-formed.0.1.1.1.1.1.1.0.1.0.1)) (λ w. ap length w.1 ∙ c.loop-k.invariant.1.long) c.if-not-taken.branch
+
+-- what is noted of operator k
+noted-then : (c : Joined-not-taken) → c.accepted-taken.result ≡ true → let a = c.args in
+    (k : ℕ) → k < a.run.count → (ws : List ℕ) → word_noted ws (get_or c.loop-k.places k 0) (get_or c.if-not-taken.stages k no_stage).entered ≡ ring_noted (operator_of (get_or c.if-not-taken.stages k no_stage) a.run.slot) ws
+noted-then c taken-so k less ws = rw (stages-taken c taken-so) ((took c.before taken-so).noted k less ws)
+
+-- what is written is of a slot that is taken, and of the path's operators
+writes : (c : Joined-taken) → {k : ℕ} → k < c.if-taken.end → (c.accepted-taken.result ≡ true) × (c.if-taken.end ≡ c.begin-begun.result.count)
+writes c less = ⊎_elim (λ w. (w.0.taken, w.1)) (λ w. absurd (let none = w.1 in omega arith)) c.if-taken.branch
+
+end-most : (c : Joined-taken) → c.if-taken.end ≤ most_operators
+end-most c = ⊎_elim (λ w. let all = w.1 in omega (arith, (few _ _ _ _ c.begin-begun.ensures))) (λ w. let none = w.1 in omega arith) c.if-taken.branch
+
+pub loop-k-init : goal.loop-k-init
+loop-k-init c = (omega arith, moving-start _ _ _ _ c.begin-begun.ensures (full (goal.at.loop-k-init c).Start) c.first_progress-progress.ensures _ (length-replicate most_operators word_count))
+
+pub offset_bounds-stages-k : goal.offset_bounds-stages-k
+offset_bounds-stages-k c = omega (arith, c.loop-k-test.true, most (goal.at.offset_bounds-stages-k c).After-begin-begun)
+
+pub bounds-stages-k : goal.bounds-stages-k
+bounds-stages-k c = omega (arith, c.loop-k-test.true, most (goal.at.bounds-stages-k c).After-begin-begun, c.loop-k.invariant.1.long)
+
+pub offset_bounds-choices-k : goal.offset_bounds-choices-k
+offset_bounds-choices-k c = omega (arith, c.loop-k-test.true, most (goal.at.offset_bounds-choices-k c).After-begin-begun)
+
+pub bounds-choices-k : goal.bounds-choices-k
+bounds-choices-k c = let known = begun (goal.at.bounds-choices-k c).In-loop-k in omega (arith, c.loop-k-test.true, known.count, counted known.ready)
+
+pub advance_stage-advanced-requires : goal.advance_stage-advanced-requires
+advance_stage-advanced-requires c = ((begun (goal.at.advance_stage-advanced-requires c).In-loop-k).ready.fits.sized, omega (arith, c.loop-k-test.true, most (goal.at.advance_stage-advanced-requires c).After-begin-begun))
+
+pub offset_bounds-stages-k-in-Sends : goal.offset_bounds-stages-k-in-Sends
+offset_bounds-stages-k-in-Sends c = omega (arith, c.loop-k-test.true, most (goal.at.offset_bounds-stages-k-in-Sends c).After-begin-begun)
+
+pub bounds-stages-k-in-Sends : goal.bounds-stages-k-in-Sends
+bounds-stages-k-in-Sends c = omega (arith, c.loop-k-test.true, most (goal.at.bounds-stages-k-in-Sends c).After-begin-begun, c.loop-k.invariant.1.long)
+
+pub offset_bounds-places-k : goal.offset_bounds-places-k
+offset_bounds-places-k c = omega (arith, c.loop-k-test.true, most (goal.at.offset_bounds-places-k c).After-begin-begun)
+
+pub bounds-places-k : goal.bounds-places-k
+bounds-places-k c = omega (arith, c.loop-k-test.true, most (goal.at.bounds-places-k c).After-begin-begun, c.loop-k.invariant.1.wide)
+
+pub overflow_add-k : goal.overflow_add-k
+overflow_add-k c = omega (arith, c.loop-k-test.true, most (goal.at.overflow_add-k c).After-begin-begun)
+
+pub loop-k-smaller : goal.loop-k-smaller
+loop-k-smaller c = omega (arith, c.loop-k-test.true)
+
+pub loop-k-preserved : goal.loop-k-preserved
+loop-k-preserved c =
+    let known = begun (goal.at.loop-k-preserved c).In-loop-k in
+    let moving = c.loop-k.invariant.1 in
+    let here : c.loop-k.k < c.args.run.count = omega (arith, c.loop-k-test.true, known.count) in (
+      omega (arith, c.loop-k-test.true),
+      ⊎_elim
+          (λ w. rw (w.5, w.6, w.7) (moving-sent known.ready moving here (sym w.1.given.1 ∙ c.advance_stage-advanced.ensures) w.3.ensures w.4.ensures))
+          (⊎_elim
+          (λ w. rw (w.3, w.4, w.5) (moving-unusable known.ready moving here (sym w.1.given.1 ∙ c.advance_stage-advanced.ensures) w.2.ensures))
+          (λ w. rw (w.3, w.4, w.5) (moving-above known.ready moving here (sym w.1.given.1 ∙ c.advance_stage-advanced.ensures) w.2.ensures)))
+          c.match-advanced.branch,
+    )
+
+pub loop-k-2-init : goal.loop-k-2-init
+loop-k-2-init c =
+    let ends : c.loop-k.k ≡ c.begin-begun.result.count = omega (arith, c.loop-k-test.false, c.loop-k.invariant.0) in
+    (omega (arith, ends), omega (arith, ends, most (goal.at.loop-k-2-init c).After-begin-begun), rw ends (unused-first _ _ _))
+
+pub offset_bounds-stages-k-in-loop-k-2 : goal.offset_bounds-stages-k-in-loop-k-2
+offset_bounds-stages-k-in-loop-k-2 c = omega (arith, c.loop-k-2-test.true)
+
+pub bounds-stages-k-in-loop-k-2 : goal.bounds-stages-k-in-loop-k-2
+bounds-stages-k-in-loop-k-2 c = omega (arith, c.loop-k-2-test.true, c.loop-k.invariant.1.long)
+
+pub unused-requires : goal.unused-requires
+unused-requires c = omega (arith, c.loop-k-2-test.true)
+
+pub overflow_add-k-in-loop-k-2 : goal.overflow_add-k-in-loop-k-2
+overflow_add-k-in-loop-k-2 c = omega (arith, c.loop-k-2-test.true)
+
+pub loop-k-2-smaller : goal.loop-k-2-smaller
+loop-k-2-smaller c = omega (arith, c.loop-k-2-test.true)
+
+pub loop-k-2-preserved : goal.loop-k-2-preserved
+loop-k-2-preserved c = (
+  omega (arith, c.loop-k-2.invariant.0),
+  omega (arith, c.loop-k-2-test.true),
+  every-on _ _ c.loop-k-2.invariant.2 (unused-told _ _ _ _ c.loop-k-2.invariant.0 ∙ sym c.unused.ensures ∙ c.if-not-unused.false),
+)
+
+pub write_meter-block-requires : goal.write_meter-block-requires
+write_meter-block-requires c taken-so = ((took (goal.at.write_meter-block-requires c).After-accepted-taken taken-so).fits.sized, input-le (begun-taken (goal.at.write_meter-block-requires c).After-accepted-taken taken-so).ready)
+
+pub loop-k-3-init : goal.loop-k-3-init
+loop-k-3-init c = (
+  omega arith,
+  λ taken-so. written_start _ _ (metered-size _ _ _ (took (goal.at.loop-k-3-init c).After-accepted-taken taken-so).fits.sized (c.write_meter-block.ensures.value taken-so).1),
+  λ left_so. refl,
+)
+
+pub offset_bounds-stages-k-in-loop-k-3 : goal.offset_bounds-stages-k-in-loop-k-3
+offset_bounds-stages-k-in-loop-k-3 c = omega (arith, c.loop-k-3-test.true, end-most (goal.at.offset_bounds-stages-k-in-loop-k-3 c).Joined-taken)
+
+pub bounds-stages-k-in-loop-k-3 : goal.bounds-stages-k-in-loop-k-3
+bounds-stages-k-in-loop-k-3 c = omega (arith, c.loop-k-3-test.true, end-most (goal.at.bounds-stages-k-in-loop-k-3 c).Joined-taken, stages-long (goal.at.bounds-stages-k-in-loop-k-3 c).Joined-not-taken)
+
+pub offset_bounds-places-k-in-loop-k-3 : goal.offset_bounds-places-k-in-loop-k-3
+offset_bounds-places-k-in-loop-k-3 c = omega (arith, c.loop-k-3-test.true, end-most (goal.at.offset_bounds-places-k-in-loop-k-3 c).Joined-taken)
+
+pub bounds-places-k-in-loop-k-3 : goal.bounds-places-k-in-loop-k-3
+bounds-places-k-in-loop-k-3 c = omega (arith, c.loop-k-3-test.true, end-most (goal.at.bounds-places-k-in-loop-k-3 c).Joined-taken, c.loop-k.invariant.1.wide)
+
+pub write_total-requires : goal.write_total-requires
+write_total-requires c =
+    let (taken-so, ends) = writes (goal.at.write_total-requires c).Joined-taken c.loop-k-3-test.true in
+    ((c.loop-k-3.invariant.1 taken-so).sized, omega (arith, c.loop-k-3-test.true, end-most (goal.at.write_total-requires c).Joined-taken))
+
+pub overflow_add-k-in-loop-k-3 : goal.overflow_add-k-in-loop-k-3
+overflow_add-k-in-loop-k-3 c = omega (arith, c.loop-k-3-test.true, end-most (goal.at.overflow_add-k-in-loop-k-3 c).Joined-taken)
+
+pub loop-k-3-smaller : goal.loop-k-3-smaller
+loop-k-3-smaller c = omega (arith, c.loop-k-3-test.true)
+
+pub loop-k-3-preserved : goal.loop-k-3-preserved
+loop-k-3-preserved c =
+    let here = c.loop-k-3-test.true in
+    let (taken-so, ends) = writes (goal.at.loop-k-3-preserved c).Joined-taken here in
+    let taking = took (goal.at.loop-k-3-preserved c).After-accepted-taken taken-so in
+    let named : c.loop-k-3.k < c.args.run.count = omega (arith, here, ends, taking.operators) in (
+      omega (arith, here),
+      λ _. written_next (c.loop-k-3.invariant.1 taken-so) (omega (arith, here, end-most (goal.at.loop-k-3-preserved c).Joined-taken))
+          (c.write_total.ensures ∙ ap (λ (ws : List ℕ). with_part (operator_at_word c.loop-k-3.k) ws c.loop-k-3.words) (noted-then (goal.at.loop-k-3-preserved c).Joined-not-taken taken-so _ named _)),
+      λ left_so. absurd (contradiction taken-so left_so),
+    )
+
+pub next_slot-requires : goal.next_slot-requires
+next_slot-requires c taken-so = slot-left _ _ (took (goal.at.next_slot-requires c).After-accepted-taken taken-so).fits
+
+true-or-false : (t : Bool) → (t ≡ true) ⊎ (t ≡ false)
+true-or-false true = inl refl
+true-or-false false = inr refl
+
+-- the run that is answered
+run-same : (run : Run) {slot : Slots} {block : Units} {stages : List Stage} → slot ≡ run.slot → block ≡ run.block → stages ≡ run.stages
+    → record { declaration = run.declaration; slot = slot; block = block; count = run.count; stages = stages } ≡ run
+run-same run slots blocks same = rw (slots, blocks, same)
+
+run-next : (run : Run) (words : List ℕ) (call : Call) {slot : Slots} {block : Units} {stages : List Stage} → slot ≡ record { 0 = run.slot.0 + 1 } → block ≡ block_written run words call.input → stages ≡ (run_advanced run words call).stages
+    → record { declaration = run.declaration; slot = slot; block = block; count = run.count; stages = stages } ≡ run_written (run_advanced run words call) words call.input
+unfolding run_written run_advanced block_written awaited_in meter_in
+run-next run words call slots blocks same = rw (slots, blocks, same)
+
+advanced-same : (run : Run) (words : List ℕ) (call : Call) {stages : List Stage} → stages ≡ (run_advanced run words call).stages → with_stages run stages ≡ run_advanced run words call
+unfolding run_advanced
+advanced-same run words call same = ap (with_stages run) same
+
+pub shape_of-words : goal.shape_of-words
+shape_of-words c = by-taken c.accepted-taken.result refl
+  where
+    by-taken : (t : Bool) → c.accepted-taken.result ≡ t → length c.loop-k-3.words ≡ length c.args.words.now
+    by-taken true taken-so = (c.loop-k-3.invariant.1 taken-so).sized ∙ sym (took (goal.at.shape_of-words c).After-accepted-taken taken-so).fits.sized
+    by-taken false left_so = ap length (c.loop-k-3.invariant.2 left_so ∙ (c.write_meter-block.ensures.value_2 left_so).1)
+
+-- the answer, and what the words are then
+taken-answer : (c : After-outcome_of) → c.accepted-taken.result ≡ true →
+    let a = c.args in
+    let call = call_of a.input a.choices.now in
+    (record { outcome = c.outcome_of.result; run = record { declaration = a.run.declaration; slot = c.next_slot.result; block = c.write_meter-block.result; count = a.run.count; stages = c.if-not-taken.stages } } ≡ slotted_of a.run a.words.now call)
+    × (c.loop-k-3.words ≡ words_slotted a.run a.words.now call)
+unfolding meter_in
+taken-answer c taken-so =
+    let a = c.args in
+    let call = call_of a.input a.choices.now in
+    let taking = took c.before.before.before.before.before.before.before.before.before.before.before.before taken-so in
+    let written = c.write_meter-block.ensures.value taken-so in
+    let known = (begun-taken c.before.before.before.before.before.before.before.before.before.before.before.before taken-so).awaited in
+    let metered = metered-same a.run a.words.now a.input known written.0 written.1 in
+    let stages-same : c.if-not-taken.stages ≡ (run_advanced a.run a.words.now call).stages = stages-taken c.before.before.before.before.before.before.before.before.before.before.before taken-so ∙ taking.stages_next in
+    let advanced = advanced-same a.run a.words.now call stages-same in
+    let ends : c.loop-k-3.k ≡ a.run.count =
+    ⊎_elim (λ w. let all = w.1 in omega (arith, c.loop-k-3-test.false, c.loop-k-3.invariant.0, taking.operators)) (λ w. absurd (contradiction taken-so w.0.left)) c.if-taken.branch
+    in
+    let words-then = words-end (with_stages a.run c.if-not-taken.stages) a.words.now a.input.0 taking.fits.sized metered.1 ends (c.loop-k-3.invariant.1 taken-so) in
+    answer-taken _ _ _ taking c.outcome_of.ensures
+    (run-next a.run a.words.now call (c.next_slot.ensures ∙ pick_true _ _ _ taken-so) metered.0 stages-same) (rw advanced at words-then)
+
+left-answer : (c : After-outcome_of) → c.accepted-taken.result ≡ false →
+    let a = c.args in
+    let call = call_of a.input a.choices.now in
+    (record { outcome = c.outcome_of.result; run = record { declaration = a.run.declaration; slot = c.next_slot.result; block = c.write_meter-block.result; count = a.run.count; stages = c.if-not-taken.stages } } ≡ slotted_of a.run a.words.now call)
+    × (c.loop-k-3.words ≡ words_slotted a.run a.words.now call)
+left-answer c left_so =
+    let a = c.args in
+    let kept = c.write_meter-block.ensures.value_2 left_so in
+    answer-refused _ _ _ (left c.before.before.before.before.before.before.before.before.before.before.before.before left_so) _ c.outcome_of.ensures
+    (run-same a.run (c.next_slot.ensures ∙ pick-false _ _ _ left_so) kept.0 (stages-left c.before.before.before.before.before.before.before.before.before.before.before left_so)) (c.loop-k-3.invariant.2 left_so ∙ kept.1)
+
+pub returns : goal.returns
+returns c = ⊎_elim (λ taken-so. taken-answer (goal.at.returns c).After-outcome_of taken-so) (λ left_so. left-answer (goal.at.returns c).After-outcome_of left_so) (true-or-false c.accepted-taken.result)
