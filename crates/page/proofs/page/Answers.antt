@@ -18,18 +18,18 @@ judged : (c : After-figures-answer) {verdict : Verdict} → c.figures-answer.res
 judged c told = sym (ap (λ (answer : PathFigures). answer.verdict) c.figures-answer.ensures) ∙ told
 
 accepted : (c : In_default) → (figures_of c.args.sheet.now).verdict ≡ Verdict.Accepted
-accepted c = judged c.before.before c.in_default.is
+accepted c = sym (ap (λ (answer : PathFigures). answer.verdict) c.figures-answer.ensures) ∙ c.in_default.is
 
 -- the operator whose line comes next
 next : (c : In-loop-k) → c.loop-k.k < length (path_in c.args.sheet.now).operators
-next c = omega (arith, count_same c.args.sheet.now ((judged c.before.before c.in_default.is)) c.figures-answer.ensures)
+next c = omega (arith, count_same c.args.sheet.now (sym (ap (λ (answer : PathFigures). answer.verdict) c.figures-answer.ensures) ∙ c.in_default.is) c.figures-answer.ensures)
 
 few : (c : In-loop-k) → c.loop-k.k ≤ 15
-few c = omega (arith, next c, few-operators c.args.sheet.now ((judged c.before.before c.in_default.is)))
+few c = omega (arith, next c, few-operators c.args.sheet.now (sym (ap (λ (answer : PathFigures). answer.verdict) c.figures-answer.ensures) ∙ c.in_default.is))
 
 -- behind the loop all of them are stored
 all : (c : After-loop-k) → c.loop-k.k ≡ length (path_in c.args.sheet.now).operators
-all c = omega (arith, count_same c.args.sheet.now ((judged c.before.before c.in_default.is)) c.figures-answer.ensures)
+all c = omega (arith, count_same c.args.sheet.now (sym (ap (λ (answer : PathFigures). answer.verdict) c.figures-answer.ensures) ∙ c.in_default.is) c.figures-answer.ensures)
 
 pub returns-then-lent-ne1037 : goal.returns-then-lent-ne1037
 returns-then-lent-ne1037 c = paging-unsized c.args.sheet.now c.args.lent.now c.if-lent-ne1037.true

@@ -19,7 +19,7 @@ pub put_digits-requires-2 : goal.put_digits-requires-2
 put_digits-requires-2 c = (le_trans (length-decimal _ 3 (omega (arith, c.requires))) (omega arith), omega (arith, c.requires, c.put_kind.auto.lent, c.put_digits.auto.lent, c.put_spaces.auto.lent))
 
 pub put_digits-requires-3 : goal.put_digits-requires-3
-put_digits-requires-3 c = (le_trans (length-decimal _ 19 (omega (arith, c.well-formed))) (omega arith), omega (arith, c.requires, c.put_digits-2.auto.lent, c.put_kind.auto.lent, c.put_digits.auto.lent, c.put_spaces.auto.lent))
+put_digits-requires-3 c = (le_trans (length-decimal _ 19 (omega (arith, c.well_formed))) (omega arith), omega (arith, c.requires, c.put_digits-2.auto.lent, c.put_kind.auto.lent, c.put_digits.auto.lent, c.put_spaces.auto.lent))
 
 pub put_digits-requires-4 : goal.put_digits-requires-4
 put_digits-requires-4 c = (le_trans (length-decimal _ 19 (omega arith)) (omega arith), omega (arith, c.requires, c.put_digits-3.auto.lent, c.put_digits-2.auto.lent, c.put_kind.auto.lent, c.put_digits.auto.lent, c.put_spaces.auto.lent))
@@ -36,5 +36,5 @@ returns c =
     let capacity = c.args.figure.capacity.0 in
     let delay = c.args.figure.delay.0 in
     line-put c.args.lent.now c.args.at (number index) (text (get_or kind_names (operator_byte operator) [])) (number link) (number capacity) (number delay)
-    (length-decimal index 3 (omega (arith, c.requires))) (name-fits operator) (length-decimal link 3 (omega (arith, c.requires))) (length-decimal capacity 19 (omega (arith, c.well-formed))) (length-decimal delay 19 (omega (arith, c.well-formed)))
+    (length-decimal index 3 (omega (arith, c.requires))) (name-fits operator) (length-decimal link 3 (omega (arith, c.requires))) (length-decimal capacity 19 (omega (arith, c.well_formed))) (length-decimal delay 19 (omega (arith, c.well_formed)))
     c.put_spaces.ensures c.put_digits.ensures c.put_kind.ensures c.put_digits-2.ensures c.put_digits-3.ensures c.put_digits-4.ensures

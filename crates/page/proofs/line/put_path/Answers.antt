@@ -10,7 +10,7 @@ use Rattle.page.proofs.Lines.{begins_at, line-put}
 use Rattle.page.proofs.line.put_path.Goals as goal
 
 pub put_digits-requires : goal.put_digits-requires
-put_digits-requires c = (le_trans (length-decimal _ 19 (omega (arith, c.well-formed))) (omega arith), omega arith)
+put_digits-requires c = (le_trans (length-decimal _ 19 (omega (arith, c.well_formed))) (omega arith), omega arith)
 
 pub put_digits-requires-2 : goal.put_digits-requires-2
 put_digits-requires-2 c = (le_trans (length-decimal _ 19 (omega arith)) (omega arith), omega (arith, c.requires, c.put_digits.auto.lent, c.put_characters.auto.lent, c.put_spaces.auto.lent))
@@ -24,5 +24,5 @@ returns c =
     let capacity = c.args.capacity.0 in
     let delay = c.args.delay.0 in
     line-put c.args.lent.now c.args.at blank (text path_name) blank (number capacity) (number delay)
-    (omega arith) (omega arith) (omega arith) (length-decimal capacity 19 (omega (arith, c.well-formed))) (length-decimal delay 19 (omega (arith, c.well-formed)))
+    (omega arith) (omega arith) (omega arith) (length-decimal capacity 19 (omega (arith, c.well_formed))) (length-decimal delay 19 (omega (arith, c.well_formed)))
     c.put_spaces.ensures refl c.put_characters.ensures refl c.put_digits.ensures c.put_digits-2.ensures
