@@ -7,53 +7,35 @@ use Rattle.figures.specs.Answers.{figures_of}
 use Rattle.figures.specs.declared.PathFigures.{PathFigures}
 use Rattle.ledger.specs.declared.Record.{Record}
 use Rattle.ledger.specs.Ledgers.{ledger_unusable}
-use Rattle.ledger.specs.Steps.{Decidable, tested_of}
+use Rattle.ledger.specs.Steps.{tested_of}
 use Rattle.ledger.proofs.Deciding.{number-inside, number-outside, tested-refuses}
 use Rattle.ledger.proofs.DecidingHold.{accepted-inside, accepted-path, accepted-delay, accepted-decidable, standing, holding-outside, holding-unusable, holding-refused, holding-standing}
 use Rattle.ledger.proofs.holding.decide.Goals as goal
-use Rattle.ledger.proofs.holding.decide.Goals.{After-delay-1, After-figures-answer, Else-not-tested, In-InRange}
-
--- the places passed: the call, the number in its range
-abbrev start : tie.After-number → tie.Start
-start c = c.before.before.before.before
-
-abbrev numbered : tie.Else1 → tie.After-number
-numbered c = c.before.before.before
-
-abbrev begun : tie.Else1 → tie.Start
-begun c = start (numbered c)
-
--- what was tested is what these records answer
-abbrev Of : tie.Start → List Record → Type 0
-Of c records = c.args.tested ≡ tested_of c.args.ledger records c.args.number
+use Rattle.ledger.proofs.holding.decide.Goals.{After-figures-answer, Else-not-tested, In-InRange}
 
 -- the number that was checked
-checked : (c : In-InRange) → (in_range path_number_range (start c).args.number ≡ true) × (c.in-InRange.number.0 ≡ (start c).args.number)
-checked c = number-inside (start c).args.number c.checked.ensures c.in-InRange.is
+checked : (c : In-InRange) → (in_range path_number_range c.args.number ≡ true) × (c.in-InRange.number.0 ≡ c.args.number)
+checked c = number-inside c.args.number c.checked.ensures c.in-InRange.is
 
 -- the ledger can be used
-usable : (c : Else-not-tested) (records : List Record) → Of (begun c) records → ledger_unusable (begun c).args.ledger records ≡ false
-usable c records of = let args = (begun c).args in sym (tested-refuses args.ledger records args.number of) ∙ c.if-not-tested.false
+usable : (c : Else-not-tested) (records : List Record) → c.args.tested ≡ tested_of c.args.ledger records c.args.number → ledger_unusable c.args.ledger records ≡ false
+usable c records of = sym (tested-refuses c.args.ledger records c.args.number of) ∙ c.if-not-tested.false
 
 -- the verdict that was matched is that on the sheet's figures
-judged : (c : After-figures-answer) {verdict : Verdict} → c.figures-answer.result.verdict ≡ verdict → (figures_of (begun c.before).args.sheet.now).verdict ≡ verdict
+judged : (c : After-figures-answer) {verdict : Verdict} → c.figures-answer.result.verdict ≡ verdict → (figures_of c.args.sheet.now).verdict ≡ verdict
 judged c told = sym (ap (λ (answer : PathFigures). answer.verdict) c.figures-answer.ensures) ∙ told
-
--- what is required of the ledger and of the sheet's path
-required : (c : After-delay-1) → Decidable (begun c.before.before.before.before.before).args.ledger c.figures-answer.result.path
-required c =
-    let at = begun c.before.before.before.before.before in
-    let (records, of) = at.pre in
-    accepted-decidable at.args.sheet.now (judged c.before.before.before.before c.in-Accepted.is) c.figures-answer.ensures at.args.ledger records (usable c.before.before.before.before.before records of)
 
 pub returns-then-not-tested : goal.returns-then-not-tested
 returns-then-not-tested c records of =
-    let args = (start (goal.at.returns-then-not-tested c).In-InRange).args in
+    let args = c.args in
     c.refused-then-not-tested.ensures
     ∙ holding-unusable args.ledger records args.number args.sheet.now (checked (goal.at.returns-then-not-tested c).In-InRange).0 (sym (tested-refuses args.ledger records args.number of) ∙ c.if-not-tested.true)
 
 pub decide_standing-requires : goal.decide_standing-requires
-decide_standing-requires c = required (goal.at.decide_standing-requires c).After-delay-1
+decide_standing-requires c =
+    let (records, of) = c.requires in
+    let accepted = judged (goal.at.decide_standing-requires c).After-figures-answer c.in-Accepted.is in
+    accepted-decidable c.args.sheet.now accepted c.figures-answer.ensures c.args.ledger records (usable (goal.at.decide_standing-requires c).Else-not-tested records of)
 
 pub returns-in-OutOfRange : goal.returns-in-OutOfRange
 returns-in-OutOfRange c records of =
@@ -63,14 +45,14 @@ returns-in-OutOfRange c records of =
 
 pub returns-in-Refused : goal.returns-in-Refused
 returns-in-Refused c records of =
-    let args = (begun (goal.at.returns-in-Refused c).Else-not-tested).args in
+    let args = c.args in
     c.refused-in-Refused.ensures
-    ∙ holding-refused args.ledger records args.number args.sheet.now (checked (numbered (goal.at.returns-in-Refused c).Else-not-tested)).0 (usable (goal.at.returns-in-Refused c).Else-not-tested records of) (judged (goal.at.returns-in-Refused c).After-figures-answer c.in-Refused.is)
+    ∙ holding-refused args.ledger records args.number args.sheet.now (checked (goal.at.returns-in-Refused c).In-InRange).0 (usable (goal.at.returns-in-Refused c).Else-not-tested records of) (judged (goal.at.returns-in-Refused c).After-figures-answer c.in-Refused.is)
 
 pub returns-in-Accepted : goal.returns-in-Accepted
 returns-in-Accepted c records of =
-    let args = (begun (goal.at.returns-in-Accepted c).Else-not-tested).args in
-    let (inside, same) = checked (numbered (goal.at.returns-in-Accepted c).Else-not-tested) in
+    let args = c.args in
+    let (inside, same) = checked (goal.at.returns-in-Accepted c).In-InRange in
     let sheet = args.sheet.now in
     let accepted = judged (goal.at.returns-in-Accepted c).After-figures-answer c.in-Accepted.is in
     let answered = c.figures-answer.ensures in

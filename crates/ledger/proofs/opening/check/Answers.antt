@@ -1,4 +1,4 @@
-use Rattle.std.proofs.Common.{◌≡◌, ◌-◌, false, ap, ◌∙◌, arith}
+use Rattle.std.proofs.Common.{◌≡◌, false, ap, ◌∙◌, arith}
 use Rattle.ledger.specs.declared.Ledger.{Ledger}
 use Rattle.ledger.specs.declared.opening.Checked.{Checked}
 use Rattle.ledger.specs.Ledgers.{link_count}
@@ -20,4 +20,4 @@ loop-link-preserved c =
 pub returns : goal.returns
 returns c =
     let ends : c.loop-link.link ≡ link_count = omega (arith, c.loop-link.invariant.few) in
-    passed-all c.args.capacities (rw ends (goal.at.returns c).At-loop-link c.loop-link.invariant)
+    passed-all c.args.capacities (rw ends at c.loop-link.invariant)

@@ -1,5 +1,5 @@
 -- Each way out by the test of the links, and by that of the one asked about.
-use Rattle.std.proofs.Common.{◌≡◌, true, false, sym, ap, ◌∙◌, arith}
+use Rattle.std.proofs.Common.{◌≡◌, true, false, not, sym, ap, ◌∙◌, arith}
 use Rattle.quantity.specs.Ranges.{in_range, link_range}
 use Rattle.quantity.proofs.Laws.{le-largest}
 use Rattle.ledger.specs.Spare.{links_unusable, spare_of}
@@ -10,14 +10,11 @@ use Rattle.ledger.proofs.spare.spare_rate.Goals.{Else-not-spares, In-InRange}
 
 -- the links were found to be usable
 usable : (c : Else-not-spares) → links_unusable c.args.ledger ≡ false
-usable c = sym (spares-refuse c.args.ledger c.spare_rates-spares.ensures) ∙ c.if-not-spares.false
+usable c = sym (spares-refuse c.args.ledger c.spare_rates-spares.ensures) ∙ ap not c.if-not-spares.false
 
 -- and the link in its range
-abbrev passed : tie.After-link → tie.Else1
-passed c = c.before.before.before
-
-checked : (c : In-InRange) → let number = (passed c).before.before.args.link in (in_range link_range number ≡ true) × (c.in-InRange.link.0 ≡ number)
-checked c = link-inside (passed c).before.before.args.link c.checked.ensures c.in-InRange.is
+checked : (c : In-InRange) → (in_range link_range c.args.link ≡ true) × (c.in-InRange.link.0 ≡ c.args.link)
+checked c = link-inside c.args.link c.checked.ensures c.in-InRange.is
 
 inside : (c : In-InRange) → in_range link_range c.in-InRange.link.0 ≡ true
 inside c = ap (in_range link_range) (checked c).1 ∙ (checked c).0
@@ -25,7 +22,7 @@ inside c = ap (in_range link_range) (checked c).1 ∙ (checked c).0
 pub returns-then-not-spares : goal.returns-then-not-spares
 returns-then-not-spares c =
     let args = c.args in
-    c.refused.ensures ∙ spare-unusable args.ledger args.link (sym (spares-refuse args.ledger c.spare_rates-spares.ensures) ∙ c.if-not-spares.true)
+    c.refused.ensures ∙ spare-unusable args.ledger args.link (sym (spares-refuse args.ledger c.spare_rates-spares.ensures) ∙ ap not c.if-not-spares.true)
 
 pub bounds-spares-link : goal.bounds-spares-link
 bounds-spares-link c = omega (arith, le-largest link_range _ (inside (goal.at.bounds-spares-link c).In-InRange))
@@ -38,5 +35,5 @@ returns-in-OutOfRange c =
 
 pub returns-in-InRange : goal.returns-in-InRange
 returns-in-InRange c =
-    let found = (passed (goal.at.returns-in-InRange c).In-InRange).before in
-    spare-found found.before.args.ledger _ (usable (passed (goal.at.returns-in-InRange c).In-InRange)) (inside (goal.at.returns-in-InRange c).In-InRange) found.spare-rates.ensures ∙ ap (spare_of found.before.args.ledger) (checked (goal.at.returns-in-InRange c).In-InRange).1
+    spare-found c.args.ledger _ (usable (goal.at.returns-in-InRange c).Else-not-spares) (inside (goal.at.returns-in-InRange c).In-InRange) c.spare_rates-spares.ensures
+    ∙ ap (spare_of c.args.ledger) (checked (goal.at.returns-in-InRange c).In-InRange).1

@@ -7,4 +7,4 @@ use Rattle.ledger.proofs.test.excess_of_standing.Goals as goal
 pub returns : goal.returns
 returns c =
     let entry = c.args.entry in
-    excess-of-standing entry c.wrapping_sub_u32.result (left-wraps entry.rate.0 1 (omega arith) (omega arith) c.wrapping_sub_u32.ensures)
+    excess-of-standing entry c.wrapping_sub_u32.result (left-wraps entry.rate.0 1 (omega arith) (omega arith) c.wrapping_sub_u32.ensures.value)

@@ -1,4 +1,4 @@
-use Rattle.std.proofs.Common.{◌-◌, length, get_or, sym, arith, below_none, below_more}
+use Rattle.std.proofs.Common.{length, get_or, sym, arith, below_none, below_more}
 use Rattle.ledger.proofs.Numbers.{place_of}
 use Rattle.ledger.proofs.test.find.Goals as goal
 

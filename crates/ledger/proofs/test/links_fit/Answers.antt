@@ -1,4 +1,4 @@
-use Rattle.std.proofs.Common.{◌≡◌, ℕ, ◌-◌, eqb, leb, sym, refl, ap, ◌∙◌, ap₂, arith}
+use Rattle.std.proofs.Common.{◌≡◌, ℕ, eqb, leb, sym, refl, ap, ◌∙◌, ap₂, arith}
 use Rattle.quantity.specs.Choice.{both}
 use Rattle.quantity.specs.Sums.{every}
 use Rattle.quantity.proofs.Sums.{every-next}

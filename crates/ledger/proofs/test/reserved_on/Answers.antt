@@ -1,4 +1,4 @@
-use Rattle.std.proofs.Common.{◌≡◌, ℕ, ◌+◌, ◌-◌, ◌%◌, ◌^◌, get_or, sym, ap, ◌∙◌, ⊎_elim, arith, eq-eqb, ne_eqb}
+use Rattle.std.proofs.Common.{◌≡◌, ℕ, ◌+◌, ◌%◌, ◌^◌, get_or, sym, ap, ◌∙◌, arith, eq-eqb, ne_eqb}
 use native.Mathlib.Nat.{mod-add-mod}
 use Rattle.quantity.specs.Choice.{pick}
 use Rattle.quantity.proofs.Sums.{total-zero, total-next}
@@ -7,6 +7,7 @@ use Rattle.ledger.specs.Records.{has_link}
 use Rattle.ledger.specs.Ledgers.{record_count}
 use Rattle.ledger.specs.Steps.{sum_on}
 use Rattle.ledger.proofs.test.reserved_on.Goals as goal
+use Rattle.ledger.proofs.test.reserved_on.Goals.{then-links-j-eq1, else-links-j-eq1}
 
 pub loop-j-init : goal.loop-j-init
 unfolding sum_on
@@ -20,8 +21,8 @@ loop-j-preserved c =
     let links = args.links.now in
     let j = c.loop-j.j in
     let here : c.if-links-j-eq1.share ≡ pick (has_link (get_or links j 0) args.link) (get_or rates j 0) 0 =
-    ⊎_elim (λ w. w.1 ∙ sym (pick_true _ (get_or rates j 0) 0 (eq-eqb _ _ w.0.taken))) (λ w. w.1 ∙ sym (pick-false _ (get_or rates j 0) 0 (ne_eqb _ _ w.0.left))) c.if-links-j-eq1.branch in
-    (omega arith, c.wrapping_add_u32-sum.ensures ∙ ap (λ (n : ℕ). (n + c.if-links-j-eq1.share) % 2 ^ 32) c.loop-j.invariant.1 ∙ mod-add-mod _ (2 ^ 32) _ ∙ ap (λ (n : ℕ). (sum_on rates links j args.link + n) % 2 ^ 32) here ∙ ap (λ (n : ℕ). n % 2 ^ 32) (sym (total-next _ j)))
+    elim c.if-links-j-eq1.branch [ then-links-j-eq1 w ↦ w.share-is ∙ sym (pick_true _ (get_or rates j 0) 0 (eq-eqb _ _ w.if-links-j-eq1.true)) | else-links-j-eq1 w ↦ w.share-is ∙ sym (pick-false _ (get_or rates j 0) 0 (ne_eqb _ _ w.if-links-j-eq1.false)) ] in
+    (omega arith, c.wrapping_add_u32-sum.ensures.value ∙ ap (λ (n : ℕ). (n + c.if-links-j-eq1.share) % 2 ^ 32) c.loop-j.invariant.1 ∙ mod-add-mod _ (2 ^ 32) _ ∙ ap (λ (n : ℕ). (sum_on rates links j args.link + n) % 2 ^ 32) here ∙ ap (λ (n : ℕ). n % 2 ^ 32) (sym (total-next _ j)))
 
 pub returns : goal.returns
 returns c =

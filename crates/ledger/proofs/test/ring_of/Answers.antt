@@ -1,4 +1,4 @@
-use Rattle.std.proofs.Common.{◌≡◌, ℕ, ◌-◌, refl, ◌∙◌, arith}
+use Rattle.std.proofs.Common.{◌≡◌, ℕ, refl, ◌∙◌, arith}
 use lib.ListN.{length-replicate}
 use Rattle.ledger.specs.Ledgers.{record_count}
 use Rattle.ledger.specs.Steps.{ring_size}
@@ -22,4 +22,4 @@ loop-k-preserved c = (omega arith, more-next c.loop-j.ring c.loop-k.k c.loop-k.i
 pub returns : goal.returns
 returns c =
     let done : c.loop-j.j ≡ record_count = omega arith in
-    written_all 0 (once_more c.loop-j.ring) ring_size c.loop-k.invariant.1 (omega arith) ∙ ring-written _ (rw done (goal.at.returns c).At-loop-j c.loop-j.invariant.1)
+    written_all 0 (once_more c.loop-j.ring) ring_size c.loop-k.invariant.1 (omega arith) ∙ ring-written _ (rw done at c.loop-j.invariant.1)
