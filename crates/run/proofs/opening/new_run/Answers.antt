@@ -15,4 +15,4 @@ loop-k-preserved c =
 pub returns : goal.returns
 returns c path few same =
     let ends : c.loop-k.k ≡ most_operators = omega (arith, c.loop-k.invariant.few) in
-    staged-run path c.args.path same (rw ends (goal.at.returns c).At-loop-k c.loop-k.invariant)
+    staged-run path c.args.path same (rw ends at c.loop-k.invariant)
