@@ -1,5 +1,4 @@
 use mathlib.Core.Path.{◌≡◌}
-use Prim.Native.Nat.{◌-◌}
 use native.Mathlib.Omega.{arith}
 use Rattle.quantity.specs.Limits.{most_operators}
 use Rattle.run.proofs.OpeningLaws.{staged-first, staged-next, staged-run}

@@ -2,11 +2,10 @@ use mathlib.Core.Path.{◌≡◌, refl, ap, sym, ◌∙◌}
 use mathlib.Core.Bool.{Bool, true, false}
 use mathlib.Core.List.{List}
 use mathlib.Core.Logic.{◌⊎◌, inl, inr, ⊎_elim}
-use Prim.Native.Nat.{ℕ, ◌+◌, ◌-◌, ◌≤◌, ◌<◌}
+use Prim.Native.Nat.{ℕ, ◌+◌, ◌≤◌, ◌<◌}
 use native.Mathlib.Omega.{arith}
 use lib.Dec.{eqb}
-use lib.ListN.{length, get_or, length-map, length-replicate}
-use borrow.Author.Tests.{not-true, not-false}
+use lib.ListN.{length, get_or, length-replicate}
 use Rattle.quantity.specs.Choice.{both}
 use Rattle.quantity.specs.Limits.{most_operators}
 use Rattle.quantity.specs.Sums.{every}
@@ -195,7 +194,7 @@ write_meter-block-requires c taken-so = ((took (goal.at.write_meter-block-requir
 pub loop-k-3-init : goal.loop-k-3-init
 loop-k-3-init c = (
   omega arith,
-  λ taken-so. written_start _ _ (metered-size _ _ _ (took (goal.at.loop-k-3-init c).After-accepted-taken taken-so).fits.sized (c.write_meter-block.ensures.value taken-so).1),
+  λ taken-so. written_start _ _ (metered-size _ _ _ (took (goal.at.loop-k-3-init c).After-accepted-taken taken-so).fits.sized (c.write_meter-block.ensures.written taken-so).1),
   λ left_so. refl,
 )
 
@@ -260,7 +259,7 @@ shape_of-words c = by-taken c.accepted-taken.result refl
   where
     by-taken : (t : Bool) → c.accepted-taken.result ≡ t → length c.loop-k-3.words ≡ length c.args.words.now
     by-taken true taken-so = (c.loop-k-3.invariant.1 taken-so).sized ∙ sym (took (goal.at.shape_of-words c).After-accepted-taken taken-so).fits.sized
-    by-taken false left_so = ap length (c.loop-k-3.invariant.2 left_so ∙ (c.write_meter-block.ensures.value_2 left_so).1)
+    by-taken false left_so = ap length (c.loop-k-3.invariant.2 left_so ∙ (c.write_meter-block.ensures.kept left_so).1)
 
 -- the answer, and what the words are then
 abbrev Answered : After-outcome_of → Type 0
@@ -277,7 +276,7 @@ unfolding meter_in
 taken-answer c taken-so taking begins same =
     let a = c.args in
     let call = call_of a.input a.choices.now in
-    let written = c.write_meter-block.ensures.value taken-so in
+    let written = c.write_meter-block.ensures.written taken-so in
     let metered = metered-same a.run a.words.now a.input begins.awaited written.0 written.1 in
     let stages-same : c.if-not-taken.stages ≡ (run_advanced a.run a.words.now call).stages = same ∙ taking.stages_next in
     let advanced = advanced-same a.run a.words.now call stages-same in
@@ -295,7 +294,7 @@ left-answer : (c : After-outcome_of) → c.accepted-taken.result ≡ false → l
     Refusing a.run a.words.now (call_of a.input a.choices.now) c.judge-verdict.result → c.if-not-taken.stages ≡ a.run.stages → Answered c
 left-answer c left_so refusing same =
     let a = c.args in
-    let kept = c.write_meter-block.ensures.value_2 left_so in
+    let kept = c.write_meter-block.ensures.kept left_so in
     answer-refused _ _ _ refusing _ c.outcome_of.ensures (run-same a.run (c.next_slot.ensures ∙ pick-false _ _ _ left_so) kept.0 same) (c.loop-k-3.invariant.2 left_so ∙ kept.1)
 
 pub returns : goal.returns

@@ -1,6 +1,5 @@
 -- The words' length, what the stage stores, and its words.
 use mathlib.Core.Path.{◌≡◌, ap, ap₂, sym, ◌∙◌}
-use mathlib.Core.Logic.{⊎_elim}
 use Prim.Native.Nat.{ℕ}
 use lib.Dec.{eqb}
 use Rattle.quantity.specs.Choice.{both}
