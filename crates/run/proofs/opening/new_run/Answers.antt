@@ -1,5 +1,4 @@
 use mathlib.Core.Path.{◌≡◌}
-use Prim.Native.Nat.{◌-◌}
 use native.Mathlib.Omega.{arith}
 use Rattle.quantity.specs.Limits.{most_operators}
 use Rattle.run.proofs.OpeningLaws.{staged-first, staged-next, staged-run}
@@ -15,4 +14,4 @@ loop-k-preserved c =
 pub returns : goal.returns
 returns c path few same =
     let ends : c.loop-k.k ≡ most_operators = omega (arith, c.loop-k.invariant.few) in
-    staged-run path c.args.path same (rw ends (goal.at.returns c).At-loop-k c.loop-k.invariant)
+    staged-run path c.args.path same (rw ends at c.loop-k.invariant)

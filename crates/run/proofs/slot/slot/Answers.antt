@@ -2,11 +2,10 @@ use mathlib.Core.Path.{◌≡◌, refl, ap, sym, ◌∙◌}
 use mathlib.Core.Bool.{Bool, true, false}
 use mathlib.Core.List.{List}
 use mathlib.Core.Logic.{◌⊎◌, inl, inr, ⊎_elim}
-use Prim.Native.Nat.{ℕ, ◌+◌, ◌-◌, ◌≤◌, ◌<◌}
+use Prim.Native.Nat.{ℕ, ◌+◌, ◌≤◌, ◌<◌}
 use native.Mathlib.Omega.{arith}
 use lib.Dec.{eqb}
-use lib.ListN.{length, get_or, length-map, length-replicate}
-use borrow.Author.Tests.{not-true, not-false}
+use lib.ListN.{length, get_or, length-replicate}
 use Rattle.quantity.specs.Choice.{both}
 use Rattle.quantity.specs.Limits.{most_operators}
 use Rattle.quantity.specs.Sums.{every}
@@ -30,14 +29,14 @@ use Rattle.run.proofs.WriteLaws.{metered-size, metered-same, written_start, writ
 use Rattle.run.proofs.SlotLaws.{Refusing, Taking, judged-told, answer-refused, answer-taken}
 use Rattle.run.proofs.slot.slot.Goals as goal
 use Rattle.run.proofs.slot.slot.Invariants.{with_stages}
-use Rattle.run.proofs.slot.slot.Goals.{After-accepted-taken, After-begin-begun, After-judge-verdict, After-outcome_of, In-loop-k, Joined-not-taken, Joined-taken, Start}
+use Rattle.run.proofs.slot.slot.Goals.{After-accepted-taken, After-begin-begun, After-judge-verdict, After-outcome_of, In-loop-k, Joined-not-taken, Joined-taken, Start, else-loop-k-2-test, then-loop-k-2-test+then-not-unused, then-not-taken, else-not-taken, then-taken, else-taken, in-Sends, in-Unusable, in-ChoiceAbove}
 
 contradiction : {t : Bool} → t ≡ true → t ≡ false → ⊥
 contradiction e f = let z : ◌≡◌ {A = ℕ} 0 1 = cc in omega arith
 
 -- the stages are sixteen
 full : (s : Start) → length s.args.run.stages ≡ most_operators
-full s = sym (length-map s.args.run.stages _) ∙ s.well-formed.0.1.1.1.1.1.1.0.1.0.1
+full s = omega arith
 
 -- where there is an operator, all before the operators fits
 begun : (c : In-loop-k) → let a = c.args in Begins a.run a.words.now a.input a.choices.now c.begin-begun.result
@@ -48,44 +47,31 @@ most c = few _ _ _ _ c.begin-begun.ensures
 
 -- What is judged.
 
-judged : (c : After-judge-verdict) →
-    let a = c.args in
-    let c.before.before.before.before.before = c.loop-k in
-    Refusing a.run a.words.now (call_of a.input a.choices.now) c.judge-verdict.result ⊎ Taking a.run a.words.now (call_of a.input a.choices.now) c.judge-verdict.result c.begin-begun.result.count c.progress c.stages-1 c.places
+judged : (c : After-accepted-taken) → let a = c.args in
+    Refusing a.run a.words.now (call_of a.input a.choices.now) c.judge-verdict.result
+    ⊎ Taking a.run a.words.now (call_of a.input a.choices.now) c.judge-verdict.result c.begin-begun.result.count c.loop-k.progress c.loop-k.stages c.loop-k.places
 judged c =
     let ends : c.loop-k.k ≡ c.begin-begun.result.count = omega (arith, c.loop-k-test.false, c.loop-k.invariant.0) in
     let words = c.args.words.now in
     let last = c.loop-k-2 in
     let tested : eqb last.k most_operators ≡ every (unused_behind c.begin-begun.result.count c.loop-k.stages words) most_operators =
-    ⊎_elim (λ w. unused-all _ _ _ last.k last.invariant.1 w.left last.invariant.2) (λ w. used-at _ _ _ last.k last.invariant.0 w.0.taken (sym w.3.ensures ∙ not-true _ w.4.taken)) c.loop-k-2-test.branch
+    elim c.loop-k-2-test.branch [
+      | else-loop-k-2-test w ↦ unused-all _ _ _ last.k last.invariant.1 w.loop-k-2-test.false last.invariant.2
+      | then-loop-k-2-test+then-not-unused w ↦ used-at _ _ _ last.k last.invariant.0 w.loop-k-2-test.true (sym w.unused.ensures ∙ w.if-not-unused.true)
+    ]
     in
-    let moved : Moving c.args.run c.args.words.now (call_of c.args.input c.args.choices.now) c.begin-begun.result.count c.begin-begun.result.count c.loop-k.progress c.loop-k.stages c.loop-k.places = rw ends at c.loop-k.invariant.1 in
+    let moved : Moving c.args.run words (call_of c.args.input c.args.choices.now) c.begin-begun.result.count c.begin-begun.result.count c.loop-k.progress c.loop-k.stages c.loop-k.places = rw ends at c.loop-k.invariant.1 in
     judged-told _ _ _ _ c.begin-begun.ensures moved (c.and-usable.ensures ∙ ap (both c.loop-k.progress.usable) tested) c.judge-verdict.ensures
 
-took : (c : After-accepted-taken) → c.accepted-taken.result ≡ true →
-    let a = c.args in
-    let l = c.loop-k in
-    Taking a.run a.words.now (call_of a.input a.choices.now) c.judge-verdict.result c.begin-begun.result.count l.progress l.stages l.places
+took : (c : After-accepted-taken) → c.accepted-taken.result ≡ true → let a = c.args in
+    Taking a.run a.words.now (call_of a.input a.choices.now) c.judge-verdict.result c.begin-begun.result.count c.loop-k.progress c.loop-k.stages c.loop-k.places
 unfolding accepted_by
-took c taken-so = ⊎_elim (λ refusing. absurd (contradiction taken-so (c.accepted-taken.ensures ∙ ap accepted_by refusing.refused))) (λ taking. taking) ((let ends : c.loop-k.k ≡ c.begin-begun.result.count = omega (arith, c.loop-k-test.false, c.loop-k.invariant.0) in
-    let words = c.args.words.now in
-    let last = c.loop-k-2 in
-    let tested : eqb last.k most_operators ≡ every (unused_behind c.begin-begun.result.count c.loop-k.stages words) most_operators =
-    ⊎_elim (λ w. unused-all _ _ _ last.k last.invariant.1 w.left last.invariant.2) (λ w. used-at _ _ _ last.k last.invariant.0 w.0.taken (sym w.3.ensures ∙ not-true _ w.4.taken)) c.loop-k-2-test.branch
-    in
-    let moved : Moving c.args.run c.args.words.now (call_of c.args.input c.args.choices.now) c.begin-begun.result.count c.begin-begun.result.count c.loop-k.progress c.loop-k.stages c.loop-k.places = rw ends at c.loop-k.invariant.1 in
-    judged-told _ _ _ _ c.begin-begun.ensures moved (c.and-usable.ensures ∙ ap (both c.loop-k.progress.usable) tested) c.judge-verdict.ensures))
+took c taken-so =
+    ⊎_elim (λ refusing. absurd (contradiction taken-so (c.accepted-taken.ensures ∙ ap accepted_by refusing.refused))) (λ taking. taking) (judged c)
 
 left : (c : After-accepted-taken) → c.accepted-taken.result ≡ false → let a = c.args in Refusing a.run a.words.now (call_of a.input a.choices.now) c.judge-verdict.result
 unfolding accepted_by
-left c left_so = ⊎_elim (λ refusing. refusing) (λ taking. absurd (contradiction (c.accepted-taken.ensures ∙ ap accepted_by taking.accepted) left_so)) ((let ends : c.loop-k.k ≡ c.begin-begun.result.count = omega (arith, c.loop-k-test.false, c.loop-k.invariant.0) in
-    let words = c.args.words.now in
-    let last = c.loop-k-2 in
-    let tested : eqb last.k most_operators ≡ every (unused_behind c.begin-begun.result.count c.loop-k.stages words) most_operators =
-    ⊎_elim (λ w. unused-all _ _ _ last.k last.invariant.1 w.left last.invariant.2) (λ w. used-at _ _ _ last.k last.invariant.0 w.0.taken (sym w.3.ensures ∙ not-true _ w.4.taken)) c.loop-k-2-test.branch
-    in
-    let moved : Moving c.args.run c.args.words.now (call_of c.args.input c.args.choices.now) c.begin-begun.result.count c.begin-begun.result.count c.loop-k.progress c.loop-k.stages c.loop-k.places = rw ends at c.loop-k.invariant.1 in
-    judged-told _ _ _ _ c.begin-begun.ensures moved (c.and-usable.ensures ∙ ap (both c.loop-k.progress.usable) tested) c.judge-verdict.ensures))
+left c left_so = ⊎_elim (λ refusing. refusing) (λ taking. absurd (contradiction (c.accepted-taken.ensures ∙ ap accepted_by taking.accepted) left_so)) (judged c)
 
 -- and has begun
 begun-taken : (c : After-accepted-taken) → c.accepted-taken.result ≡ true →
@@ -97,25 +83,31 @@ begun-taken c taken-so =
 
 -- the stages then
 stages-taken : (c : Joined-not-taken) → c.accepted-taken.result ≡ true → c.if-not-taken.stages ≡ c.loop-k.stages
-stages-taken c taken-so = ⊎_elim (λ w. absurd (contradiction taken-so (not-true _ w.0.taken))) (λ w. w.1) c.if-not-taken.branch
+stages-taken c taken-so = elim c.if-not-taken.branch [ then-not-taken w ↦ absurd (contradiction taken-so w.if-not-taken.true) | else-not-taken w ↦ w.stages-is ]
 
 stages-left : (c : Joined-not-taken) → c.accepted-taken.result ≡ false → c.if-not-taken.stages ≡ c.args.run.stages
-stages-left c left_so = ⊎_elim (λ w. w.2) (λ w. absurd (contradiction (not-false _ w.0.left) left_so)) c.if-not-taken.branch
+stages-left c left_so = elim c.if-not-taken.branch [ then-not-taken w ↦ w.stages-is | else-not-taken w ↦ absurd (contradiction w.if-not-taken.false left_so) ]
 
 stages-long : (c : Joined-not-taken) → length c.if-not-taken.stages ≡ most_operators
-stages-long c = ⊎_elim (λ w. ap length w.2 ∙ (sym (length-map c.args.run.stages _) ∙ c.well-formed.0.1.1.1.1.1.1.0.1.0.1)) (λ w. ap length w.1 ∙ c.loop-k.invariant.1.long) c.if-not-taken.branch
+stages-long c =
+    elim c.if-not-taken.branch [
+      | then-not-taken w ↦ let full : length c.args.run.stages ≡ most_operators = omega arith in ap length w.stages-is ∙ full
+      | else-not-taken w ↦ ap length w.stages-is ∙ c.loop-k.invariant.1.long
+    ]
 
 -- what is noted of operator k
-noted-then : (c : Joined-not-taken) → c.accepted-taken.result ≡ true → let a = c.args in
-    (k : ℕ) → k < a.run.count → (ws : List ℕ) → word_noted ws (get_or c.loop-k.places k 0) (get_or c.if-not-taken.stages k no_stage).entered ≡ ring_noted (operator_of (get_or c.if-not-taken.stages k no_stage) a.run.slot) ws
-noted-then c taken-so k less ws = rw (stages-taken c taken-so) ((took c.before taken-so).noted k less ws)
+noted-then : (c : Joined-not-taken) → c.if-not-taken.stages ≡ c.loop-k.stages → let a = c.args in
+    Taking a.run a.words.now (call_of a.input a.choices.now) c.judge-verdict.result c.begin-begun.result.count c.loop-k.progress c.loop-k.stages c.loop-k.places
+    → (k : ℕ) → k < a.run.count → (ws : List ℕ)
+    → word_noted ws (get_or c.loop-k.places k 0) (get_or c.if-not-taken.stages k no_stage).entered ≡ ring_noted (operator_of (get_or c.if-not-taken.stages k no_stage) a.run.slot) ws
+noted-then c same taking k less ws = rw same (taking.noted k less ws)
 
 -- what is written is of a slot that is taken, and of the path's operators
 writes : (c : Joined-taken) → {k : ℕ} → k < c.if-taken.end → (c.accepted-taken.result ≡ true) × (c.if-taken.end ≡ c.begin-begun.result.count)
-writes c less = ⊎_elim (λ w. (w.0.taken, w.1)) (λ w. absurd (let none = w.1 in omega arith)) c.if-taken.branch
+writes c less = elim c.if-taken.branch [ then-taken w ↦ (w.if-taken.true, w.end-is) | else-taken w ↦ absurd (omega (arith, less, w.end-is)) ]
 
 end-most : (c : Joined-taken) → c.if-taken.end ≤ most_operators
-end-most c = ⊎_elim (λ w. let all = w.1 in omega (arith, (few _ _ _ _ c.begin-begun.ensures))) (λ w. let none = w.1 in omega arith) c.if-taken.branch
+end-most c = elim c.if-taken.branch [ then-taken w ↦ omega (arith, w.end-is, few _ _ _ _ c.begin-begun.ensures) | else-taken w ↦ omega (arith, w.end-is) ]
 
 pub loop-k-init : goal.loop-k-init
 loop-k-init c = (omega arith, moving-start _ _ _ _ c.begin-begun.ensures (full (goal.at.loop-k-init c).Start) c.first_progress-progress.ensures _ (length-replicate most_operators word_count))
@@ -159,12 +151,14 @@ loop-k-preserved c =
     let moving = c.loop-k.invariant.1 in
     let here : c.loop-k.k < c.args.run.count = omega (arith, c.loop-k-test.true, known.count) in (
       omega (arith, c.loop-k-test.true),
-      ⊎_elim
-          (λ w. rw (w.5, w.6, w.7) (moving-sent known.ready moving here (sym w.1.given.1 ∙ c.advance_stage-advanced.ensures) w.3.ensures w.4.ensures))
-          (⊎_elim
-          (λ w. rw (w.3, w.4, w.5) (moving-unusable known.ready moving here (sym w.1.given.1 ∙ c.advance_stage-advanced.ensures) w.2.ensures))
-          (λ w. rw (w.3, w.4, w.5) (moving-above known.ready moving here (sym w.1.given.1 ∙ c.advance_stage-advanced.ensures) w.2.ensures)))
-          c.match-advanced.branch,
+      elim c.match-advanced.branch [
+        | in-Sends w ↦
+            rw (w.stages-is, w.places-is, w.progress-is) (moving-sent known.ready moving here (sym w.in-Sends.is ∙ c.advance_stage-advanced.ensures) w.stage_of.ensures w.once_sent-progress.ensures)
+        | in-Unusable w ↦
+            rw (w.stages-is, w.places-is, w.progress-is) (moving-unusable known.ready moving here (sym w.in-Unusable.is ∙ c.advance_stage-advanced.ensures) w.once_unusable-progress.ensures)
+        | in-ChoiceAbove w ↦
+            rw (w.stages-is, w.places-is, w.progress-is) (moving-above known.ready moving here (sym w.in-ChoiceAbove.is ∙ c.advance_stage-advanced.ensures) w.once_above-progress.ensures)
+      ],
     )
 
 pub loop-k-2-init : goal.loop-k-2-init
@@ -200,7 +194,7 @@ write_meter-block-requires c taken-so = ((took (goal.at.write_meter-block-requir
 pub loop-k-3-init : goal.loop-k-3-init
 loop-k-3-init c = (
   omega arith,
-  λ taken-so. written_start _ _ (metered-size _ _ _ (took (goal.at.loop-k-3-init c).After-accepted-taken taken-so).fits.sized (c.write_meter-block.ensures.value taken-so).1),
+  λ taken-so. written_start _ _ (metered-size _ _ _ (took (goal.at.loop-k-3-init c).After-accepted-taken taken-so).fits.sized (c.write_meter-block.ensures.written taken-so).1),
   λ left_so. refl,
 )
 
@@ -235,7 +229,7 @@ loop-k-3-preserved c =
     let named : c.loop-k-3.k < c.args.run.count = omega (arith, here, ends, taking.operators) in (
       omega (arith, here),
       λ _. written_next (c.loop-k-3.invariant.1 taken-so) (omega (arith, here, end-most (goal.at.loop-k-3-preserved c).Joined-taken))
-          (c.write_total.ensures ∙ ap (λ (ws : List ℕ). with_part (operator_at_word c.loop-k-3.k) ws c.loop-k-3.words) (noted-then (goal.at.loop-k-3-preserved c).Joined-not-taken taken-so _ named _)),
+          (c.write_total.ensures ∙ ap (λ (ws : List ℕ). with_part (operator_at_word c.loop-k-3.k) ws c.loop-k-3.words) (noted-then (goal.at.loop-k-3-preserved c).Joined-not-taken (stages-taken (goal.at.loop-k-3-preserved c).Joined-not-taken taken-so) taking _ named _)),
       λ left_so. absurd (contradiction taken-so left_so),
     )
 
@@ -265,41 +259,48 @@ shape_of-words c = by-taken c.accepted-taken.result refl
   where
     by-taken : (t : Bool) → c.accepted-taken.result ≡ t → length c.loop-k-3.words ≡ length c.args.words.now
     by-taken true taken-so = (c.loop-k-3.invariant.1 taken-so).sized ∙ sym (took (goal.at.shape_of-words c).After-accepted-taken taken-so).fits.sized
-    by-taken false left_so = ap length (c.loop-k-3.invariant.2 left_so ∙ (c.write_meter-block.ensures.value_2 left_so).1)
+    by-taken false left_so = ap length (c.loop-k-3.invariant.2 left_so ∙ (c.write_meter-block.ensures.kept left_so).1)
 
 -- the answer, and what the words are then
-taken-answer : (c : After-outcome_of) → c.accepted-taken.result ≡ true →
+abbrev Answered : After-outcome_of → Type 0
+Answered c =
     let a = c.args in
     let call = call_of a.input a.choices.now in
     (record { outcome = c.outcome_of.result; run = record { declaration = a.run.declaration; slot = c.next_slot.result; block = c.write_meter-block.result; count = a.run.count; stages = c.if-not-taken.stages } } ≡ slotted_of a.run a.words.now call)
     × (c.loop-k-3.words ≡ words_slotted a.run a.words.now call)
+
+taken-answer : (c : After-outcome_of) → c.accepted-taken.result ≡ true → let a = c.args in
+    Taking a.run a.words.now (call_of a.input a.choices.now) c.judge-verdict.result c.begin-begun.result.count c.loop-k.progress c.loop-k.stages c.loop-k.places
+    → Begins a.run a.words.now a.input a.choices.now c.begin-begun.result → c.if-not-taken.stages ≡ c.loop-k.stages → Answered c
 unfolding meter_in
-taken-answer c taken-so =
+taken-answer c taken-so taking begins same =
     let a = c.args in
     let call = call_of a.input a.choices.now in
-    let taking = took c.before.before.before.before.before.before.before.before.before.before.before.before taken-so in
-    let written = c.write_meter-block.ensures.value taken-so in
-    let known = (begun-taken c.before.before.before.before.before.before.before.before.before.before.before.before taken-so).awaited in
-    let metered = metered-same a.run a.words.now a.input known written.0 written.1 in
-    let stages-same : c.if-not-taken.stages ≡ (run_advanced a.run a.words.now call).stages = stages-taken c.before.before.before.before.before.before.before.before.before.before.before taken-so ∙ taking.stages_next in
+    let written = c.write_meter-block.ensures.written taken-so in
+    let metered = metered-same a.run a.words.now a.input begins.awaited written.0 written.1 in
+    let stages-same : c.if-not-taken.stages ≡ (run_advanced a.run a.words.now call).stages = same ∙ taking.stages_next in
     let advanced = advanced-same a.run a.words.now call stages-same in
     let ends : c.loop-k-3.k ≡ a.run.count =
-    ⊎_elim (λ w. let all = w.1 in omega (arith, c.loop-k-3-test.false, c.loop-k-3.invariant.0, taking.operators)) (λ w. absurd (contradiction taken-so w.0.left)) c.if-taken.branch
+    elim c.if-taken.branch [
+      | then-taken w ↦ omega (arith, w.end-is, c.loop-k-3-test.false, c.loop-k-3.invariant.0, taking.operators)
+      | else-taken w ↦ absurd (contradiction taken-so w.if-taken.false)
+    ]
     in
     let words-then = words-end (with_stages a.run c.if-not-taken.stages) a.words.now a.input.0 taking.fits.sized metered.1 ends (c.loop-k-3.invariant.1 taken-so) in
     answer-taken _ _ _ taking c.outcome_of.ensures
     (run-next a.run a.words.now call (c.next_slot.ensures ∙ pick_true _ _ _ taken-so) metered.0 stages-same) (rw advanced at words-then)
 
-left-answer : (c : After-outcome_of) → c.accepted-taken.result ≡ false →
+left-answer : (c : After-outcome_of) → c.accepted-taken.result ≡ false → let a = c.args in
+    Refusing a.run a.words.now (call_of a.input a.choices.now) c.judge-verdict.result → c.if-not-taken.stages ≡ a.run.stages → Answered c
+left-answer c left_so refusing same =
     let a = c.args in
-    let call = call_of a.input a.choices.now in
-    (record { outcome = c.outcome_of.result; run = record { declaration = a.run.declaration; slot = c.next_slot.result; block = c.write_meter-block.result; count = a.run.count; stages = c.if-not-taken.stages } } ≡ slotted_of a.run a.words.now call)
-    × (c.loop-k-3.words ≡ words_slotted a.run a.words.now call)
-left-answer c left_so =
-    let a = c.args in
-    let kept = c.write_meter-block.ensures.value_2 left_so in
-    answer-refused _ _ _ (left c.before.before.before.before.before.before.before.before.before.before.before.before left_so) _ c.outcome_of.ensures
-    (run-same a.run (c.next_slot.ensures ∙ pick-false _ _ _ left_so) kept.0 (stages-left c.before.before.before.before.before.before.before.before.before.before.before left_so)) (c.loop-k-3.invariant.2 left_so ∙ kept.1)
+    let kept = c.write_meter-block.ensures.kept left_so in
+    answer-refused _ _ _ refusing _ c.outcome_of.ensures (run-same a.run (c.next_slot.ensures ∙ pick-false _ _ _ left_so) kept.0 same) (c.loop-k-3.invariant.2 left_so ∙ kept.1)
 
 pub returns : goal.returns
-returns c = ⊎_elim (λ taken-so. taken-answer (goal.at.returns c).After-outcome_of taken-so) (λ left_so. left-answer (goal.at.returns c).After-outcome_of left_so) (true-or-false c.accepted-taken.result)
+returns c =
+    let decided = (goal.at.returns c).After-accepted-taken in
+    let joined = (goal.at.returns c).Joined-not-taken in
+    let then = (goal.at.returns c).After-outcome_of in
+    ⊎_elim (λ taken-so. taken-answer then taken-so (took decided taken-so) (begun-taken decided taken-so) (stages-taken joined taken-so)) (λ left_so. left-answer then left_so (left decided left_so) (stages-left joined left_so))
+    (true-or-false c.accepted-taken.result)

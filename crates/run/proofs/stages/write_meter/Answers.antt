@@ -13,7 +13,7 @@ note_input-requires c = c.requires c.if-taken.true
 
 pub returns-then-taken : goal.returns-then-taken
 returns-then-taken c =
-    record { value = λ yes. (c.block_behind.ensures, c.note_input.ensures); value_2 = λ no. absurd (contradiction c.if-taken.true no) }
+    record { written = λ yes. (c.block_behind.ensures, c.note_input.ensures); kept = λ no. absurd (contradiction c.if-taken.true no) }
 
 pub returns-else-taken : goal.returns-else-taken
-returns-else-taken c = record { value = λ yes. absurd (contradiction yes c.if-taken.false); value_2 = λ no. (refl, refl) }
+returns-else-taken c = record { written = λ yes. absurd (contradiction yes c.if-taken.false); kept = λ no. (refl, refl) }

@@ -1,6 +1,5 @@
 -- Any test that fails begins nothing; past all of them the operators are the run's.
 use mathlib.Core.Path.{◌≡◌, sym, ◌∙◌}
-use mathlib.Core.Logic.{⊎_elim}
 use Prim.Native.Nat.{◌≤◌}
 use native.Mathlib.Omega.{arith}
 use Rattle.meter.specs.Parts.{counted_of}
@@ -30,7 +29,7 @@ pub returns-in_default : goal.returns-in_default
 returns-in_default c =
     c.not_begun-in_default.ensures
     ∙ begun-not _ _
-    (meter-uncounted _ _ (answered (goal.at.returns-in_default c).After-counted_before) (λ units before. ⊎_elim (λ e. omega arith) (⊎_elim (λ e. omega arith) (λ e. omega arith)) (rw before at c.in_default.in_default-own.keys2)))
+    (meter-uncounted _ _ (answered (goal.at.returns-in_default c).After-counted_before) c.in_default.not-Below)
 
 pub returns : goal.returns
 returns c =

@@ -5,4 +5,4 @@ use Rattle.run.proofs.test.join.Goals as goal
 
 pub returns : goal.returns
 returns c =
-    join-empty c.args.stage c.kind_of.ensures c.number_of_lem.ensures (omega arith) (omega arith)
+    join-empty c.args.stage c.kind_of.ensures c.number_of.ensures (omega arith) (omega arith)

@@ -1,6 +1,5 @@
 -- The words' length, what the stage stores, and its words.
 use mathlib.Core.Path.{◌≡◌, ap, ap₂, sym, ◌∙◌}
-use mathlib.Core.Logic.{⊎_elim}
 use Prim.Native.Nat.{ℕ}
 use lib.Dec.{eqb}
 use Rattle.quantity.specs.Choice.{both}
@@ -12,7 +11,7 @@ use Rattle.run.specs.Runs.{operator_words}
 use Rattle.run.proofs.Parts.{length-operator_words}
 use Rattle.run.proofs.TestLaws.{stage-unsized, stage-told}
 use Rattle.run.proofs.test.unused.Goals as goal
-use Rattle.run.proofs.test.unused.Goals.{After-row_clear, Joined-row_clear}
+use Rattle.run.proofs.test.unused.Goals.{After-row_clear, Joined-row_clear, then-row_clear, else-row_clear}
 
 pub returns-then-words-ne-WORDS : goal.returns-then-words-ne-WORDS
 returns-then-words-ne-WORDS c = stage-unsized _ _ _ c.if-words-ne-WORDS.true
@@ -25,10 +24,10 @@ row_told c =
 
 set_told : (c : Joined-row_clear) → eqb c.if-row_clear.set 0 ≡ c.row_clear.result
 set_told c =
-    ⊎_elim
-    (λ w. ap (λ (n : ℕ). eqb n 0) w.1 ∙ sym w.0.taken)
-    (λ w. ap (λ (n : ℕ). eqb n 0) w.1 ∙ sym w.0.left)
-    c.if-row_clear.branch
+    elim c.if-row_clear.branch [
+      | then-row_clear w ↦ ap (λ (n : ℕ). eqb n 0) w.set-is ∙ sym w.if-row_clear.true
+      | else-row_clear w ↦ ap (λ (n : ℕ). eqb n 0) w.set-is ∙ sym w.if-row_clear.false
+    ]
 
 pub returns : goal.returns
 returns c =
