@@ -1,5 +1,7 @@
 // The workloads that bench/ times: each makes its calls one behind the other, and answers a checksum of their answers.
 
+#![tactic(auto)]
+
 ghost use Rattle.std.specs.Prelude.{◌+◌, ◌≤◌, length};
 
 use quantity::Units;
