@@ -1,5 +1,7 @@
 // What the text programs share: the lines of standard input, the numbers of a command, and what is printed.
 
+#![tactic(auto)]
+
 pub mod input;
 pub mod listing;
 pub mod numbers;

@@ -1,36 +1,35 @@
-// Texts, numbers, bytes, refusals and errors, printed on standard output.
+// Texts, numbers, bytes, refusals and errors, as a program writes them.
 
 ghost use Rattle.std.specs.Prelude.{◌≤◌};
 
-use libc::STDOUT_FILENO;
 use quantity::refusal::Refusal;
+use std::io;
+use std::io::Write;
 
-pub fn text(bytes: &[u8]) {
-    io::write_all(STDOUT_FILENO, bytes);
+pub fn text<W: Write>(out: &mut W, bytes: &[u8]) -> io::Result<()> {
+    out.write_all(bytes)
 }
 
-pub fn number(n: u64) {
-    io::print_decimal(STDOUT_FILENO, n);
+pub fn number<W: Write>(out: &mut W, n: u64) -> io::Result<()> {
+    write!(out, "{n}")
 }
 
-pub fn labelled(label: &[u8], n: u64) {
-    text(label);
-    number(n);
+pub fn labelled<W: Write>(out: &mut W, label: &[u8], n: u64) -> io::Result<()> {
+    text(out, label)?;
+    number(out, n)
 }
 
-pub fn end_line() {
-    text(b"\n");
+pub fn end_line<W: Write>(out: &mut W) -> io::Result<()> {
+    text(out, b"\n")
 }
 
 // Bytes in hexadecimal, two digits each.
-pub fn hexadecimal(bytes: &[u8]) {
-    let mut k = 0;
-    while k < bytes.len() {
-        let byte = bytes[k];
-        let digits = [digit(byte / 16 % 16), digit(byte % 16)];
-        text(&digits);
-        k += 1;
+pub fn hexadecimal<W: Write>(out: &mut W, bytes: &[u8]) -> io::Result<()> {
+    for byte in bytes {
+        let digits = [digit(*byte / 16 % 16), digit(*byte % 16)];
+        text(out, &digits)?;
     }
+    Ok(())
 }
 
 fn digit(value: u8) -> u8
@@ -40,16 +39,16 @@ fn digit(value: u8) -> u8
 }
 
 // `refused`, the number and the place of document 01, section 7.
-pub fn refused(why: Refusal) {
-    labelled(b"refused ", why.number() as u64);
-    labelled(b" ", why.place() as u64);
-    end_line();
+pub fn refused<W: Write>(out: &mut W, why: Refusal) -> io::Result<()> {
+    labelled(out, b"refused ", why.number() as u64)?;
+    labelled(out, b" ", why.place() as u64)?;
+    end_line(out)
 }
 
 // `error`, the number of the line, and what is wrong with it.
-pub fn error(line: u64, what: &[u8]) {
-    labelled(b"error ", line);
-    text(b" ");
-    text(what);
-    end_line();
+pub fn error<W: Write>(out: &mut W, line: u64, what: &[u8]) -> io::Result<()> {
+    labelled(out, b"error ", line)?;
+    text(out, b" ")?;
+    text(out, what)?;
+    end_line(out)
 }

@@ -3,6 +3,8 @@
 ghost use Rattle.std.specs.Prelude.{◌+◌, ◌≤◌, length};
 
 use crate::print::{end_line, error, labelled};
+use std::io;
+use std::io::Write;
 use text::line::starts_with;
 
 const BAR: u8 = 124;
@@ -54,24 +56,24 @@ fn span_of(table: &[u8], index: usize) -> Span
 }
 
 // `error`, the number of the line, and what is wrong with it: the word of an index.
-pub fn error_of(line: u64, table: &[u8], index: usize) {
+pub fn error_of<W: Write>(out: &mut W, line: u64, table: &[u8], index: usize) -> io::Result<()> {
     let span = span_of(table, index);
     let from = span.from;
     let end = span.end;
-    error(line, &table[from..end]);
+    error(out, line, &table[from..end])
 }
 
 // A line of numbers, each behind its label, the word of its index.
-pub fn row(labels: &[u8], numbers: &[u64]) {
+pub fn row<W: Write>(out: &mut W, labels: &[u8], numbers: &[u64]) -> io::Result<()> {
     let mut k = 0;
     while k < numbers.len() {
         let span = span_of(labels, k);
         let from = span.from;
         let end = span.end;
-        labelled(&labels[from..end], numbers[k]);
+        labelled(out, &labels[from..end], numbers[k])?;
         k += 1;
     }
-    end_line();
+    end_line(out)
 }
 
 pub fn find(table: &[u8], line: &[u8]) -> Found

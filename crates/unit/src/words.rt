@@ -6,6 +6,8 @@ use crate::command::Command;
 use console::numbers::narrow;
 use console::print::{end_line, error, labelled, text};
 use console::words::row;
+use std::io;
+use std::io::Write;
 
 pub(crate) fn clear(words: &mut [u32; 1024]) {
     let mut j = 0;
@@ -16,39 +18,49 @@ pub(crate) fn clear(words: &mut [u32; 1024]) {
 }
 
 // `set word J N`, of so many words.
-pub(crate) fn set_word(lines: u64, command: Command, words: &mut [u32; 1024], count: u64)
+pub(crate) fn set_word<W: Write>(
+    out: &mut W,
+    lines: u64,
+    command: Command,
+    words: &mut [u32; 1024],
+    count: u64,
+) -> io::Result<()>
     requires { count ≤ 1024 }
 {
     let j = command.first;
     if count <= j {
-        error(lines, b"no such word");
-        return;
+        return error(out, lines, b"no such word");
     }
     let word = narrow(command.second);
     words[j as usize] = word;
     let set = [j, word as u64];
-    row(b"set word | ", &set);
+    row(out, b"set word | ", &set)
 }
 
 // `words N`, of so many words.
-pub(crate) fn list_words(lines: u64, wanted: u64, words: &[u32; 1024], count: u64) {
+pub(crate) fn list_words<W: Write>(
+    out: &mut W,
+    lines: u64,
+    wanted: u64,
+    words: &[u32; 1024],
+    count: u64,
+) -> io::Result<()> {
     if count < wanted {
-        error(lines, b"no such word");
-        return;
+        return error(out, lines, b"no such word");
     }
-    list_first(words, wanted as usize);
+    list_first(out, words, wanted as usize)
 }
 
-fn list_first(words: &[u32], count: usize) {
-    text(b"words");
+fn list_first<W: Write>(out: &mut W, words: &[u32], count: usize) -> io::Result<()> {
+    text(out, b"words")?;
     let mut j = 0;
     while j < count && j < words.len() {
-        list_word(words[j]);
+        list_word(out, words[j])?;
         j += 1;
     }
-    end_line();
+    end_line(out)
 }
 
-fn list_word(word: u32) {
-    labelled(b" ", word as u64);
+fn list_word<W: Write>(out: &mut W, word: u32) -> io::Result<()> {
+    labelled(out, b" ", word as u64)
 }
