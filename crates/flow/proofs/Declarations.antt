@@ -1,5 +1,5 @@
 -- What is said of a declaration by its kind: of several rows, and of one, which is smooth or uniform.
-use mathlib.Core.Path.{◌≡◌, refl, sym, ◌∙◌, ap, ap₂}
+use mathlib.Core.Path.{◌≡◌, refl, sym, ◌∙◌, ap₂}
 use mathlib.Core.Bool.{Bool, true, false, true≢false}
 use Prim.Native.Nat.{ℕ, zero, suc, ◌-◌, ◌≤◌, ◌<◌}
 use native.Mathlib.Omega.{arith}
@@ -10,7 +10,7 @@ use Rattle.quantity.specs.Ranges.{in_range, interval_range, quota_range}
 use Rattle.quantity.proofs.Laws.{least-le, le-largest}
 use Rattle.quantity.proofs.Sums.{both_true, every-at}
 use Rattle.flow.specs.Rows.{Row, most_of_rows, behind_rows, units_in, rows_most}
-use Rattle.flow.specs.Classes.{Class, smooth, uniform, rows, Positive}
+use Rattle.flow.specs.Classes.{Positive}
 use Rattle.flow.specs.declared.Kind.{Kind}
 use Rattle.flow.specs.declared.Declaration.{Declaration}
 use Rattle.flow.specs.Bounds.{RowInside}

@@ -12,7 +12,6 @@ use borrow.Author.Tests.{leb-true, le-leb}
 use Rattle.quantity.specs.Sums.{total}
 use Rattle.quantity.proofs.Sums.{total-suc, total-zero, total-le, every-at, every_holds}
 use Rattle.flow.specs.Flows.{Flow, flow_of, Smooth, Uniform}
-use Rattle.flow.specs.Rows.{Row}
 use Rattle.flow.specs.Classes.{Class, smooth, uniform, rows, Positive, Keeps}
 use Rattle.flow.specs.Keeping.{totals_to, keeps_to, keeps_class}
 

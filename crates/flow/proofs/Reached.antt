@@ -27,6 +27,8 @@ total-with-totals T none rises (suc n) = omega (arith, total-suc (with-totals T)
 -- a block of n slots that begins as late as it can, g before the end of a block of m: block (m − 1)·x, where x·n is g modulo m
 late-block : (m n g x y : ℕ) → 1 ≤ m → 1 ≤ g → g ≤ m → x * n ≡ y * m + g → (j : ℕ) × (z : ℕ) × (j * n ≡ z * m + (m - g))
 late-block (suc m) n (suc g) x y _ _ fits e = (m * x, m * y + g, omega (arith, ap (◌*◌ m) e))
+late-block zero n g x y x6 _ fits e = elim x6 [ ]
+late-block (suc m) n zero x y _ x13 fits e = elim x13 [ ]
 
 latest-block : (m n : ℕ) → 1 ≤ m → 1 ≤ n → (j : ℕ) × (z : ℕ) × (j * n ≡ z * m + (m - gcd m n))
 latest-block m n large-m large-n =

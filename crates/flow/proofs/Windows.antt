@@ -88,6 +88,7 @@ most-mono (smooth m Q) large zero n' h = omega arith
 most-mono (smooth m Q) large (suc n) (suc n') h = omega (arith, rounded-mono m Q large n n' (omega arith), add-mul (round_up n m) 1 Q, add-mul (round_up n' m) 1 Q)
 most-mono (uniform m Q) large n n' h = rounded-mono m Q large n n' h
 most-mono (rows given k) large n n' h = rows-mono given k large.0 large.1 n n' h
+most-mono (smooth m Q) large (suc n) zero h = elim h [ ]
 
 -- for a smooth class section 4's figure for delayers is the most in one slot more
 pub most-le-delayed : (c : Class) → Positive c → (n : ℕ) → most_in c n ≤ most_delayed c n

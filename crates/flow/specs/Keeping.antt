@@ -2,7 +2,6 @@
 use Rattle.std.specs.Prelude.{ℕ, suc, ◌+◌, ◌-◌, ◌*◌, ◌/◌, Bool, List, length, leb}
 use Rattle.quantity.specs.Sums.{total, every}
 use Rattle.flow.specs.Flows.{Flow, flow_of}
-use Rattle.flow.specs.Rows.{Row}
 use Rattle.flow.specs.Classes.{Class, smooth, uniform, rows}
 
 -- the slots from one to slot t total at most Q

@@ -1,5 +1,7 @@
 // A meter: whether a slot's input keeps the declaration (document 01, sections 2, 6 and 7).
 
+#![tactic(auto)]
+
 ghost use Rattle.std.specs.Prelude.{◌≡◌, ◌+◌, ◌<◌};
 ghost use Rattle.meter.specs.Meter.{room_of, meter_of, meter_words_after};
 

@@ -1,5 +1,7 @@
 // The five operators, for box makers to use alone, without sheet or ledger (document 01, sections 3, 6 and 7).
 
+#![tactic(auto)]
+
 ghost use Rattle.std.specs.Prelude.{◌≡◌};
 ghost use Rattle.operator.specs.Operators.{number_in_range};
 

@@ -5,10 +5,8 @@ use lib.ListN.{get_or-eq_default}
 use Rattle.flow.specs.Declarations.{empty_row}
 use Rattle.flow.proofs.last_of.Goals as goal
 
--- src/lib.rt:179:9
 pub returns-then-count-gt4 : goal.returns-then-count-gt4
-returns-then-count-gt4 c = sym (get_or-eq_default c.args.t1 empty_row (omega arith))
+returns-then-count-gt4 c = sym (get_or-eq_default c.args.rows empty_row (omega arith))
 
--- src/lib.rt:185:9
 pub returns-then-count-eq0 : goal.returns-then-count-eq0
 returns-then-count-eq0 c = rw c.if-count-eq0.true

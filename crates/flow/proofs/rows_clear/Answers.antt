@@ -1,33 +1,25 @@
 use mathlib.Core.Path.{◌≡◌, refl, sym, ◌∙◌, ap, ap₂}
-use mathlib.Core.Bool.{Bool}
-use mathlib.Core.List.{List}
-use Prim.Native.Nat.{ℕ, ◌-◌}
 use native.Mathlib.Omega.{arith}
-use lib.ListN.{get_or}
 use lib.Dec.{ltb}
 use Rattle.quantity.specs.Choice.{both, either}
 use Rattle.quantity.specs.Sums.{every}
 use Rattle.quantity.proofs.Sums.{every-next}
-use Rattle.flow.specs.declared.DeclaredRow.{DeclaredRow}
-use Rattle.flow.specs.Declarations.{most_rows, empty_row, row_of, row_clear, rows_clear_from}
+use Rattle.flow.specs.Declarations.{most_rows, rows_clear_from}
+use Rattle.flow.proofs.rows_clear.Invariants.{unused}
 use Rattle.flow.proofs.rows_clear.Goals as goal
-
-abbrev unused : ℕ → List DeclaredRow → ℕ → Bool
-unused from rows i = either (ltb i from) (row_clear (row_of (get_or rows i empty_row)))
 
 pub loop-i-init : goal.loop-i-init
 unfolding every
 loop-i-init c = (omega arith, refl)
 
 pub loop-i-preserved : goal.loop-i-preserved
-loop-i-preserved c =
-    (
-      omega arith,
-      c.and-clear.ensures ∙ ap₂ both c.loop-i.invariant.1 (c.or.ensures ∙ ap (either (ltb c.loop-i.i c.args.from)) c.is_clear.ensures) ∙ sym (every-next (unused c.args.from c.args.t1) c.loop-i.i),
-    )
+loop-i-preserved c = (
+  omega arith,
+  c.and-clear.ensures ∙ ap₂ both c.loop-i.invariant.1 (c.or.ensures ∙ ap (either (ltb c.loop-i.i c.args.from)) c.is_clear.ensures) ∙ sym (every-next (unused c.args.from c.args.rows) c.loop-i.i),
+)
 
 pub returns : goal.returns
 unfolding rows_clear_from
 returns c =
     let all : c.loop-i.i ≡ most_rows = omega arith in
-    c.loop-i.invariant.1 ∙ ap (every (unused c.args.from c.args.t1)) all
+    c.loop-i.invariant.1 ∙ ap (every (unused c.args.from c.args.rows)) all

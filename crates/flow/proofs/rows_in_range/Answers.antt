@@ -1,20 +1,12 @@
 use mathlib.Core.Path.{◌≡◌, refl, sym, ◌∙◌, ap, ap₂}
-use mathlib.Core.Bool.{Bool}
-use mathlib.Core.List.{List}
-use Prim.Native.Nat.{ℕ, ◌-◌}
 use native.Mathlib.Omega.{arith}
-use lib.ListN.{get_or}
 use borrow.Author.Tests.{le-leb, lt-leb}
 use Rattle.quantity.specs.Choice.{both}
 use Rattle.quantity.specs.Sums.{every}
 use Rattle.quantity.specs.Ranges.{in_range}
 use Rattle.quantity.proofs.Sums.{every-next}
-use Rattle.flow.specs.declared.DeclaredRow.{DeclaredRow}
-use Rattle.flow.specs.Declarations.{empty_row, row_of, row_in_range}
+use Rattle.flow.proofs.rows_in_range.Invariants.{fits}
 use Rattle.flow.proofs.rows_in_range.Goals as goal
-
-abbrev fits : List DeclaredRow → ℕ → Bool
-fits rows i = row_in_range (row_of (get_or rows i empty_row))
 
 pub returns-then-count-lt2 : goal.returns-then-count-lt2
 unfolding in_range
@@ -29,15 +21,14 @@ unfolding every
 loop-i-init c = (omega arith, omega arith, refl)
 
 pub loop-i-preserved : goal.loop-i-preserved
-loop-i-preserved c =
-    (
-      c.loop-i.invariant.0,
-      omega arith,
-      c.and-fit.ensures ∙ ap₂ both c.loop-i.invariant.2 c.in_range.ensures ∙ sym (every-next (fits c.args.t1) c.loop-i.i),
-    )
+loop-i-preserved c = (
+  c.loop-i.invariant.0,
+  omega arith,
+  c.and-fit.ensures ∙ ap₂ both c.loop-i.invariant.2 c.in_range.ensures ∙ sym (every-next (fits c.args.rows) c.loop-i.i),
+)
 
 pub returns : goal.returns
 unfolding in_range
 returns c =
     let all : c.loop-i.i ≡ c.args.count = omega arith in
-    rw (le-leb _ _ c.if-count-lt2.false, le-leb _ _ c.if-count-gt4.false) (c.loop-i.invariant.2 ∙ ap (every (fits c.args.t1)) all)
+    rw (le-leb _ _ c.if-count-lt2.false, le-leb _ _ c.if-count-gt4.false) (c.loop-i.invariant.2 ∙ ap (every (fits c.args.rows)) all)

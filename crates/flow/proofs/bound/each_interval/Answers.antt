@@ -37,23 +37,23 @@ loop-from-preserved c =
     let made = c.level in (
       omega arith,
       omega arith,
-      made.auto.0 ∙ at.invariant.2,
+      made.auto.table ∙ at.invariant.2,
       omega (arith, at.invariant.3, c.requires.3),
-      stepped-block m _ at.table made.new.0 at.from (at.from + m) at.most at.invariant.4 at.invariant.0 (omega arith) at.invariant.5 made.ensures,
+      stepped-block m _ at.table made.new.table at.from (at.from + m) at.most at.invariant.4 at.invariant.0 (omega arith) at.invariant.5 made.ensures,
       λ k less.
           let place : at.from + m + k - m ≡ at.from + k = omega arith in
-          omega (arith, ap (entry made.new.0) place, made.ensures.anew (at.from + k) (omega arith) (omega arith)),
+          omega (arith, ap (entry made.new.table) place, made.ensures.anew (at.from + k) (omega arith) (omega arith)),
     )
 
 pub level-requires-2 : goal.level-requires-2
 level-requires-2 c = (omega arith, omega arith)
 
 pub shape_of-table : goal.shape_of-table
-shape_of-table c = c.level-2.auto.0 ∙ c.loop-from.invariant.2
+shape_of-table c = c.level-2.auto.table ∙ c.loop-from.invariant.2
 
 pub returns : goal.returns
 returns c =
     let at = c.loop-from in
     let made = c.level-2 in
-    let size = made.auto.0 ∙ at.invariant.2 in
-    rw size (stepped-block _ _ at.table made.new.0 at.from _ at.most at.invariant.4 at.invariant.0 (omega arith) at.invariant.5 made.ensures)
+    let size = made.auto.table ∙ at.invariant.2 in
+    rw size (stepped-block _ _ at.table made.new.table at.from _ at.most at.invariant.4 at.invariant.0 (omega arith) at.invariant.5 made.ensures)

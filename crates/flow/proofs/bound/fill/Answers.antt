@@ -4,14 +4,14 @@ use mathlib.Core.Bool.{true}
 use Prim.Native.Nat.{ℕ, ◌<◌}
 use native.Mathlib.Omega.{arith}
 use lib.ListN.{length}
-use borrow.Author.Tests.{le-leb, lt-leb, not-false}
+use borrow.Author.Tests.{le-leb, lt-leb}
 use Rattle.quantity.specs.Sums.{list_of}
 use Rattle.flow.specs.Bounds.{boundable, bound_filled, pair_at, RowInside, Sized}
 use Rattle.flow.specs.Declarations.{has_rows, several_at, declaration_in_range}
 use Rattle.flow.specs.declared.Declaration.{Declaration}
 use Rattle.flow.proofs.Declarations.{several-inside, rows_inside, rows_at, rows-count, most-same}
 use Rattle.flow.proofs.bound.fill.Goals as goal
-use Rattle.flow.proofs.bound.fill.Goals.{Else-not-in_range, Start}
+use Rattle.flow.proofs.bound.fill.Goals.{Else-not-in_range}
 
 pub returns-then-length-lt-SHORTEST : goal.returns-then-length-lt-SHORTEST
 unfolding boundable bound_filled
@@ -37,37 +37,36 @@ returns-then-not-in_range c =
 
 -- what the four tests leave
 module _ (c : Else-not-in_range) where
-  abbrev start : Start
-  start = c.before.before.before.before.before.before.before
+  several : has_rows c.args.declaration.kind ≡ true
+  several = sym c.has_rows.ensures ∙ c.if-not-has_rows.false
 
-  several : has_rows start.args.declaration.kind ≡ true
-  several = sym c.before.before.before.has-rows.ensures ∙ not-false _ c.before.before.if3.false
+  inside : declaration_in_range c.args.declaration ≡ true
+  inside = sym c.in_range.ensures ∙ c.if-not-in_range.false
 
-  inside : declaration_in_range start.args.declaration ≡ true
-  inside = sym c.before.in-range.ensures ∙ not-false _ c.if4.false
-
-  sized : Sized start.args.table.now
-  sized = record { long = c.before.before.before.before.before.if1.false; short = c.before.before.before.before.if2.false }
+  sized : Sized c.args.table.now
+  sized = record { long = c.if-length-lt-SHORTEST.false; short = c.if-length-gt-LENGTH.false }
 
 row_at : (declared : Declaration) → has_rows declared.kind ≡ true → declaration_in_range declared ≡ true → (i : ℕ) → i < declared.count → RowInside (several_at declared i)
 row_at declared several inside i less = rw (rows_at declared several i) at (rows_inside declared inside i (rw (rows-count declared several) less))
 
 pub fill_rows-requires : goal.fill_rows-requires
 fill_rows-requires c =
-    let declared = (start (goal.at.fill_rows-requires c).Else-not-in_range).args.declaration in
-    let counted = several-inside declared (inside (goal.at.fill_rows-requires c).Else-not-in_range) (several (goal.at.fill_rows-requires c).Else-not-in_range) in (
-      sized (goal.at.fill_rows-requires c).Else-not-in_range,
+    let left = (goal.at.fill_rows-requires c).Else-not-in_range in
+    let declared = c.args.declaration in
+    let counted = several-inside declared (inside left) (several left) in (
+      sized left,
       omega (arith, counted.0),
       counted.1,
-      λ i less. subst RowInside (sym (c.pairs.ensures i (omega (arith, counted.1)))) (row_at declared (several (goal.at.fill_rows-requires c).Else-not-in_range) (inside (goal.at.fill_rows-requires c).Else-not-in_range) i less),
+      λ i less. subst RowInside (sym (c.pairs.ensures i (omega (arith, counted.1)))) (row_at declared (several left) (inside left) i less),
     )
 
 pub returns : goal.returns
 unfolding boundable bound_filled
 returns c =
-    let declared = (start (goal.at.returns c).Else-not-in_range).args.declaration in
-    let counted = several-inside declared (inside (goal.at.returns c).Else-not-in_range) (several (goal.at.returns c).Else-not-in_range) in
+    let left = (goal.at.returns c).Else-not-in_range in
+    let declared = c.args.declaration in
+    let counted = several-inside declared (inside left) (several left) in
     let pairs = c.pairs in
     let same = most-same (pair_at pairs.result) (several_at declared) declared.count (λ i less. pairs.ensures i (omega (arith, counted.1))) in
-    rw (le-leb _ _ (sized (goal.at.returns c).Else-not-in_range).long, le-leb _ _ (sized (goal.at.returns c).Else-not-in_range).short, several (goal.at.returns c).Else-not-in_range, inside (goal.at.returns c).Else-not-in_range)
-    (refl, c.fill_rows.ensures ∙ ap (λ (most : ℕ → ℕ). list_of most (length (start (goal.at.returns c).Else-not-in_range).args.table.now)) same)
+    rw (le-leb _ _ (sized left).long, le-leb _ _ (sized left).short, several left, inside left)
+    (refl, c.fill_rows.ensures ∙ ap (λ (most : ℕ → ℕ). list_of most (length c.args.table.now)) same)

@@ -14,7 +14,7 @@ use Rattle.flow.proofs.bound.first_row.Goals.{Start}
 
 module _ (start : Start) where
   abbrev rows : ℕ → Row
-  rows = pair_at start.args.t2
+  rows = pair_at start.args.rows
 
   abbrev given : List ℕ
   given = start.args.table.now
@@ -23,7 +23,7 @@ module _ (start : Start) where
   same = length-set given 0 0
 
   inside : RowInside (rows 0)
-  inside = start.pre.1 0 (omega arith)
+  inside = start.requires.1 0 (omega arith)
 
 pub overflow_cast-interval : goal.overflow_cast-interval
 overflow_cast-interval c = omega (arith, (inside (goal.at.overflow_cast-interval c).Start).short)
@@ -33,9 +33,9 @@ row_alone-requires c =
     (sized_same (given (goal.at.row_alone-requires c).Start) _ (same (goal.at.row_alone-requires c).Start) c.requires.0, (inside (goal.at.row_alone-requires c).Start).large, (inside (goal.at.row_alone-requires c).Start).short, (inside (goal.at.row_alone-requires c).Start).few, get_or-set_same (given (goal.at.row_alone-requires c).Start) 0 0 0 (omega (arith, c.requires.0.long)))
 
 pub shape_of-table : goal.shape_of-table
-shape_of-table c = c.row_alone.auto.0 ∙ same (goal.at.shape_of-table c).Start
+shape_of-table c = c.row_alone.auto.table ∙ same (goal.at.shape_of-table c).Start
 
 pub returns : goal.returns
 returns c =
     let made = c.row_alone in
-    first-table (rows (goal.at.returns c).Start) made.new.0 made.ensures (inside (goal.at.returns c).Start).large ∙ ap (list_of (rows_most (rows (goal.at.returns c).Start) 1)) (made.auto.0 ∙ same (goal.at.returns c).Start)
+    first-table (rows (goal.at.returns c).Start) made.new.table made.ensures (inside (goal.at.returns c).Start).large ∙ ap (list_of (rows_most (rows (goal.at.returns c).Start) 1)) (made.auto.table ∙ same (goal.at.returns c).Start)

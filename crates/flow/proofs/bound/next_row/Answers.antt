@@ -12,7 +12,7 @@ use Rattle.flow.proofs.bound.next_row.Goals.{Start}
 
 module _ (start : Start) where
   abbrev rows : ℕ → Row
-  rows = pair_at start.args.t2
+  rows = pair_at start.args.rows
 
   abbrev last : ℕ
   last = start.args.last
@@ -21,10 +21,10 @@ module _ (start : Start) where
   given = start.args.table.now
 
   inside : RowInside (rows last)
-  inside = start.pre.3 last (omega arith)
+  inside = start.requires.3 last (omega arith)
 
   table : Table given
-  table = rows-table rows last start.pre.1 (length given) given start.pre.4 start.pre.0 (λ i less. start.pre.3 i (omega arith))
+  table = rows-table rows last start.requires.1 (length given) given start.requires.4 start.requires.0 (λ i less. start.requires.3 i (omega arith))
 
 pub overflow_cast-interval : goal.overflow_cast-interval
 overflow_cast-interval c = omega (arith, (inside (goal.at.overflow_cast-interval c).Start).short)

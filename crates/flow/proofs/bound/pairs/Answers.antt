@@ -6,7 +6,7 @@ use Rattle.flow.proofs.bound.pairs.Goals as goal
 
 pub returns : goal.returns
 returns c zero less = refl
-returns (goal.at.returns c).After-fourth-1 (suc zero) less = refl
-returns (goal.at.returns c).After-fourth-1 (suc (suc zero)) less = refl
-returns (goal.at.returns c).After-fourth-1 (suc (suc (suc zero))) less = refl
-returns (goal.at.returns c).After-fourth-1 (suc (suc (suc (suc i)))) less = absurd (omega arith)
+returns c (suc zero) less = refl
+returns c (suc (suc zero)) less = refl
+returns c (suc (suc (suc zero))) less = refl
+returns c (suc (suc (suc (suc i)))) less = absurd (omega arith)

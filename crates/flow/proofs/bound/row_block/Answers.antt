@@ -13,12 +13,11 @@ loop-n-init c =
 pub lower-most-requires : goal.lower-most-requires
 lower-most-requires c =
     let at = c.loop-n in
-    let start = (goal.at.lower-most-requires c).Start in
-    let fits = start.requires.1.fits at.n at.invariant.0 (omega arith) in (
+    let fits = c.requires.1.fits at.n at.invariant.0 (omega arith) in (
       omega arith,
       omega arith,
       omega (arith, at.invariant.4.rest at.n (omega arith), fits.0),
-      omega (arith, at.invariant.4.below (at.n - start.args.interval) (omega arith), fits.1),
+      omega (arith, at.invariant.4.below (at.n - c.args.interval) (omega arith), fits.1),
     )
 
 pub loop-n-preserved : goal.loop-n-preserved

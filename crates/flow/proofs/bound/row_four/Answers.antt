@@ -30,23 +30,19 @@ remade-four table from a b c d made inside first second third fourth =
 
 pub lower-first-requires : goal.lower-first-requires
 lower-first-requires c =
-    let start = (goal.at.lower-first-requires c).Start in
-    lowers_at _ _ _ _ _ start.requires.1 start.args.from (omega arith) (omega arith)
+    lowers_at _ _ _ _ _ c.requires.1 c.args.from (omega arith) (omega arith)
 
 pub lower-second-requires : goal.lower-second-requires
 lower-second-requires c =
-    let start = (goal.at.lower-second-requires c).Start in
-    lowers_at _ _ _ _ _ start.requires.1 (start.args.from + 1) (omega arith) (omega arith)
+    lowers_at _ _ _ _ _ c.requires.1 (c.args.from + 1) (omega arith) (omega arith)
 
 pub lower-third-requires : goal.lower-third-requires
 lower-third-requires c =
-    let start = (goal.at.lower-third-requires c).Start in
-    lowers_at _ _ _ _ _ start.requires.1 (start.args.from + 2) (omega arith) (omega arith)
+    lowers_at _ _ _ _ _ c.requires.1 (c.args.from + 2) (omega arith) (omega arith)
 
 pub lower-fourth-requires : goal.lower-fourth-requires
 lower-fourth-requires c =
-    let start = (goal.at.lower-fourth-requires c).Start in
-    lowers_at _ _ _ _ _ start.requires.1 (start.args.from + 3) (omega arith) (omega arith)
+    lowers_at _ _ _ _ _ c.requires.1 (c.args.from + 3) (omega arith) (omega arith)
 
 pub bounds-table-from-2 : goal.bounds-table-from-2
 bounds-table-from-2 c = simp length-set (omega arith)
@@ -59,6 +55,5 @@ bounds-table-from-4 c = simp length-set (omega arith)
 
 pub returns : goal.returns
 returns c =
-    let start = (goal.at.returns c).Start in
-    remade-four _ start.args.from _ _ _ _ _ start.requires.1.inside c.lower-first.ensures c.lower-second.ensures
+    remade-four _ c.args.from _ _ _ _ _ c.requires.1.inside c.lower-first.ensures c.lower-second.ensures
     c.lower-third.ensures c.lower-fourth.ensures

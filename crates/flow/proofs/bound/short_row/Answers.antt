@@ -39,12 +39,12 @@ loop-from-preserved c =
     let Q = c.args.quota in
     let made = c.row_interval in
     let follows = at.invariant.0 in (
-      follows-block m Q _ c.requires.0 c.requires.1 c.requires.3 at.table made.new.0 at.from (at.from + m) _ follows (omega arith) (omega arith) (omega arith) made.auto.0
+      follows-block m Q _ c.requires.0 c.requires.1 c.requires.3 at.table made.new.table at.from (at.from + m) _ follows (omega arith) (omega arith) (omega arith) made.auto.table
           made.ensures.0
           (λ j late early.
           let place : at.from + (j - at.from) - m ≡ j - m = omega arith in
           ap₂ min (follows.rest j late) (ap (λ (x : ℕ). Q + x) (at.invariant.1 (j - at.from) (omega arith) ∙ ap (entry at.table) place))),
-      λ k less. let place : at.from + k ≡ at.from + m + k - m = omega arith in made.ensures.1 k less ∙ ap (entry made.new.0) place,
+      λ k less. let place : at.from + k ≡ at.from + m + k - m = omega arith in made.ensures.1 k less ∙ ap (entry made.new.table) place,
       made.ensures.2,
     )
 
@@ -55,13 +55,13 @@ row_block-requires c =
     (omega arith, follows-lowers c.args.interval c.args.quota _ c.requires.0 c.requires.1 c.requires.3 at.table at.from _ follows (omega (arith, c.requires.0.sized.long)) follows.short (omega arith) (omega arith))
 
 pub shape_of-table : goal.shape_of-table
-shape_of-table c = c.row_block.auto.0 ∙ c.loop-from.invariant.0.size
+shape_of-table c = c.row_block.auto.table ∙ c.loop-from.invariant.0.size
 
 pub returns : goal.returns
 returns c =
     let at = c.loop-from in
     let follows = at.invariant.0 in
     let block = c.row_block in
-    follows-all c.args.interval c.args.quota _ c.requires.0 c.requires.1 c.requires.3 block.new.0
-    (follows-lowered c.args.interval c.args.quota _ c.requires.0 c.requires.1 c.requires.3 at.table block.new.0 at.from _ follows follows.short (omega arith)
-    (omega arith) block.auto.0 block.ensures)
+    follows-all c.args.interval c.args.quota _ c.requires.0 c.requires.1 c.requires.3 block.new.table
+    (follows-lowered c.args.interval c.args.quota _ c.requires.0 c.requires.1 c.requires.3 at.table block.new.table at.from _ follows follows.short (omega arith)
+    (omega arith) block.auto.table block.ensures)

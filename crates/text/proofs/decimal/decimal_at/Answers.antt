@@ -1,6 +1,6 @@
 use mathlib.Core.Path.{◌≡◌, sym, ◌∙◌}
 use mathlib.Core.Bool.{true}
-use Prim.Native.Nat.{◌-◌, ◌<◌}
+use Prim.Native.Nat.{◌<◌}
 use native.Mathlib.Omega.{arith}
 use lib.ListN.{length, get_or}
 use Rattle.text.specs.Decimals.{is_digit}
@@ -31,7 +31,7 @@ extend-requires c = digit (goal.at.extend-requires c).In-loop-value
 
 pub returns-in_default : goal.returns-in_default
 returns-in_default c =
-    read-large _ _ _ _ c.loop-value.invariant (first (goal.at.returns-in_default c).At-loop-value) (digit (goal.at.returns-in_default c).In-loop-value) (extended-large _ c.extend.ensures c.enum_told-1.given.1)
+    read-large _ _ _ _ c.loop-value.invariant (first (goal.at.returns-in_default c).At-loop-value) (digit (goal.at.returns-in_default c).In-loop-value) (extended-large _ c.extend.ensures c.in_default.is)
 
 pub overflow_add-at : goal.overflow_add-at
 overflow_add-at c = omega (arith, inside (goal.at.overflow_add-at c).In-loop-value)
@@ -41,7 +41,7 @@ loop-value-smaller c = omega (arith, inside (goal.at.loop-value-smaller c).In-lo
 
 pub loop-value-preserved : goal.loop-value-preserved
 loop-value-preserved c =
-    let (same, small) = extended-small _ c.extend.ensures _ c.more-1.given.1 in
+    let (same, small) = extended-small _ c.extend.ensures _ c.in-Number.is in
     rw same (read_next _ _ _ _ c.loop-value.invariant (digit (goal.at.loop-value-preserved c).In-loop-value) small)
 
 pub returns : goal.returns

@@ -14,25 +14,25 @@ loop-next-init c = (omega arith, rw sub-zero (reached-first _))
 pub returns-in-NoDigit : goal.returns-in-NoDigit
 unfolding decimals_from
 returns-in-NoDigit c =
-    answer-fault _ _ Decimals.Count Decimals.NotANumber (rw (due-none _ _ c.decimal_at.ensures _ c.enum_told-1.given.1) at c.loop-next.invariant.1)
+    answer-fault _ _ Decimals.Count Decimals.NotANumber (rw (due-none _ _ c.decimal_at.ensures _ c.in-NoDigit.is) at c.loop-next.invariant.1)
 
 pub returns-in-TooLarge : goal.returns-in-TooLarge
 unfolding decimals_from
 returns-in-TooLarge c =
-    answer-fault _ _ Decimals.Count Decimals.TooLarge (rw (due-large _ _ c.decimal_at.ensures _ c.enum_told-in-TooLarge-1.given.1) at c.loop-next.invariant.1)
+    answer-fault _ _ Decimals.Count Decimals.TooLarge (rw (due-large _ _ c.decimal_at.ensures _ c.in-TooLarge.is) at c.loop-next.invariant.1)
 
 pub returns-then-places-count : goal.returns-then-places-count
 unfolding decimals_from
 returns-then-places-count c =
-    answer-fault _ _ Decimals.Count Decimals.TooMany (rw (due-many _ _ c.decimal_at.ensures _ _ c.next-1.given.1 _ _ c.if-places-count.true) at c.loop-next.invariant.1)
+    answer-fault _ _ Decimals.Count Decimals.TooMany (rw (due-many _ _ c.decimal_at.ensures _ _ c.in-Number.is _ _ c.if-places-count.true) at c.loop-next.invariant.1)
 
 -- one number more is read; what stands behind it decides
 passed : (c : Else-places-count)
     → let a = c.args in
-    let next = c.next-1.given.0.1.0 in
+    let next = c.in-Number.next in
     Reached (row_from a.places a.text.now a.from) (c.loop-next.count + 1) (behind_number a.text.now next (row_from (a.places - (c.loop-next.count + 1)) a.text.now (next + 1)))
 passed c =
-    reached-next _ _ _ _ (rw (due-number _ _ c.decimal_at.ensures _ _ c.next-1.given.1 _ _ c.if-places-count.false) at c.loop-next.invariant.1)
+    reached-next _ _ _ _ (rw (due-number _ _ c.decimal_at.ensures _ _ c.in-Number.is _ _ c.if-places-count.false) at c.loop-next.invariant.1)
 
 pub returns-then-text-next : goal.returns-then-text-next
 unfolding decimals_from

@@ -1,5 +1,4 @@
 use mathlib.Core.Path.{◌≡◌, refl}
-use mathlib.Core.Logic.{⊎_elim}
 use Prim.Native.Nat.{◌+◌, ◌-◌, ◌<◌}
 use native.Mathlib.Nat.{sub-zero}
 use native.Mathlib.Omega.{arith}
@@ -23,7 +22,7 @@ pub returns-in_default : goal.returns-in_default
 returns-in_default c =
     absurd (
     number-stands _ _ _ _ c.decimal_at.ensures (storing-no-fault _ _ _ _ _ c.requires c.loop-count.invariant.1)
-    (λ value next number. ⊎_elim (λ e. omega arith) (λ e. omega arith) (rw number at c.in_default.keys2))
+    c.in_default.not-Number
     )
 
 pub offset_bounds-numbers-count : goal.offset_bounds-numbers-count
@@ -34,12 +33,13 @@ stored : (c : In-Number)
     → let a = c.args in
     let lent = a.numbers.now in
     let text = a.text.now in
-    let value = c.value-1.given.0.0 in
-    let next = c.value-1.given.0.1.0 in
+    let value = c.in-Number.value in
+    let next = c.in-Number.next in
     Storing lent (row_from (length lent) text a.from) (set c.loop-count.numbers c.loop-count.count value) (c.loop-count.count + 1) (behind_number text next (row_from (length lent - (c.loop-count.count + 1)) text (next + 1)))
 stored c =
-    let room : c.loop-count.count < length c.args.numbers.now = omega (arith, kept c.before.before.before.before.before) in
-    storing-next _ _ _ _ _ _ room (rw (due-number _ _ c.decimal_at.ensures _ _ c.value-1.given.1 _ _ room) at c.loop-count.invariant.1)
+    let same : length c.loop-count.numbers ≡ length c.args.numbers.now = storing-length _ _ _ _ _ c.loop-count.invariant.0 c.loop-count.invariant.1 in
+    let room : c.loop-count.count < length c.args.numbers.now = omega arith in
+    storing-next _ _ _ _ _ _ room (rw (due-number _ _ c.decimal_at.ensures _ _ c.in-Number.is _ _ room) at c.loop-count.invariant.1)
 
 pub shape_of-numbers-then-text-next : goal.shape_of-numbers-then-text-next
 shape_of-numbers-then-text-next c = simp length-set (kept (goal.at.shape_of-numbers-then-text-next c).At-loop-count)

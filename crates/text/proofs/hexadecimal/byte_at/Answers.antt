@@ -12,21 +12,21 @@ use Rattle.text.proofs.hexadecimal.byte_at.Goals.{In-Value, In-Value-digit_at}
 pub returns-in_default : goal.returns-in_default
 returns-in_default c =
     let a = c.args in
-    rw (digit-missing (get_or a.text.now a.at 0) c.digit_at.ensures c.enum_told-1.given.1)
+    rw (digit-missing (get_or a.text.now a.at 0) c.digit_at.ensures c.in_default.is)
 
 high : (c : In-Value)
     → let a = c.args in
-    (is_hexadecimal_digit (get_or a.text.now a.at 0) ≡ true) × (c.high-1.given.0.0 ≡ digit_value (get_or a.text.now a.at 0))
+    (is_hexadecimal_digit (get_or a.text.now a.at 0) ≡ true) × (c.in-Value.high ≡ digit_value (get_or a.text.now a.at 0))
 high c =
     let a = c.args in
-    digit-stands (get_or a.text.now a.at 0) c.digit_at.ensures _ c.high-1.given.1
+    digit-stands (get_or a.text.now a.at 0) c.digit_at.ensures _ c.in-Value.is
 
 low : (c : In-Value-digit_at)
     → let a = c.args in
-    (is_hexadecimal_digit (get_or a.text.now (a.at + 1) 0) ≡ true) × (c.low-1.given.0.0 ≡ digit_value (get_or a.text.now (a.at + 1) 0))
+    (is_hexadecimal_digit (get_or a.text.now (a.at + 1) 0) ≡ true) × (c.in-Value-digit_at.low ≡ digit_value (get_or a.text.now (a.at + 1) 0))
 low c =
     let a = c.args in
-    digit-stands (get_or a.text.now (a.at + 1) 0) c.digit_at-2.ensures _ c.low-1.given.1
+    digit-stands (get_or a.text.now (a.at + 1) 0) c.digit_at-2.ensures _ c.in-Value-digit_at.is
 
 pub overflow_add-at : goal.overflow_add-at
 overflow_add-at c =
@@ -36,7 +36,7 @@ overflow_add-at c =
 pub returns-in_default-digit_at : goal.returns-in_default-digit_at
 returns-in_default-digit_at c =
     let a = c.args in
-    rw ((high (goal.at.returns-in_default-digit_at c).In-Value).0, digit-missing (get_or a.text.now (a.at + 1) 0) c.digit_at-2.ensures c.enum_told-in_default-digit_at-1.given.1)
+    rw ((high (goal.at.returns-in_default-digit_at c).In-Value).0, digit-missing (get_or a.text.now (a.at + 1) 0) c.digit_at-2.ensures c.in_default-digit_at.is)
 
 pub overflow_mul-result : goal.overflow_mul-result
 overflow_mul-result c =

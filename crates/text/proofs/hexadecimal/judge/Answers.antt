@@ -1,6 +1,6 @@
 use mathlib.Core.Path.{◌≡◌}
 use mathlib.Core.Bool.{true}
-use Prim.Native.Nat.{◌+◌, ◌-◌, ◌<◌}
+use Prim.Native.Nat.{◌+◌, ◌<◌}
 use native.Mathlib.Omega.{arith}
 use lib.ListN.{length, get_or}
 use Rattle.quantity.specs.Choice.{both}
@@ -22,13 +22,13 @@ loop-count-init c =
 
 pub returns-in_default : goal.returns-in_default
 returns-in_default c =
-    answer-fault _ _ Hexadecimal.Length Hexadecimal.NotHexadecimal (rw (due-missing _ _ (byte-missing _ _ c.byte_at.ensures c.enum_told-in_default-1.given.1)) at c.loop-count.invariant.2)
+    answer-fault _ _ Hexadecimal.Length Hexadecimal.NotHexadecimal (rw (due-missing _ _ (byte-missing _ _ c.byte_at.ensures c.in_default.is)) at c.loop-count.invariant.2)
 
 stands : (c : In-Byte)
     → let text = c.args.text.now in
     let at = c.loop-count.at in
     both (is_hexadecimal_digit (get_or text at 0)) (is_hexadecimal_digit (get_or text (at + 1) 0)) ≡ true
-stands c = (byte-stands _ _ c.byte_at.ensures _ c.enum_told-1.given.1).0
+stands c = (byte-stands _ _ c.byte_at.ensures _ c.in-Byte.is).0
 
 inside : (c : In-Byte) → c.loop-count.at + 1 < length c.args.text.now
 inside c = byte-within c.args.text.now c.loop-count.at (stands c)

@@ -1,17 +1,18 @@
 use mathlib.Core.Path.{◌≡◌}
 use mathlib.Core.Bool.{true}
-use Prim.Native.Nat.{◌+◌, ◌-◌, ◌<◌}
+use mathlib.Core.List.{List}
+use Prim.Native.Nat.{ℕ, ◌+◌, ◌<◌}
 use native.Mathlib.Omega.{arith}
 use lib.ListN.{length, get_or, drop}
 use Rattle.quantity.specs.Choice.{both}
 use Rattle.text.specs.declared.hexadecimal.Hexadecimal.{Hexadecimal}
-use Rattle.text.specs.Rows.{fault, ahead}
+use Rattle.text.specs.Rows.{Row, fault, ahead}
 use Rattle.text.specs.Hexadecimals.{is_hexadecimal_digit, bytes_due, bytes_in, fitted, bytes_stored}
 use Rattle.text.proofs.RowLaws.{Storing, storing-first, storing-next, storing-length, storing-no-fault, storing-end, reached-place}
 use Rattle.text.proofs.HexadecimalLaws.{byte-stands, byte-missing}
 use Rattle.text.proofs.HexadecimalRowLaws.{in-text, in_end, due-missing, byte-within, due-goes-on, byte_here, next_due, next-least, fitted-same, fitted-length}
 use Rattle.text.proofs.hexadecimal.store.Goals as goal
-use Rattle.text.proofs.hexadecimal.store.Goals.{At-loop-at, In-Byte, In-loop-at}
+use Rattle.text.proofs.hexadecimal.store.Goals.{At-loop-at, In-Byte}
 
 pub loop-at-init : goal.loop-at-init
 loop-at-init c =
@@ -22,25 +23,24 @@ kept : (c : At-loop-at) → length c.loop-at.bytes ≡ length c.args.bytes.now
 kept c = storing-length _ _ _ _ _ c.loop-at.invariant.0 c.loop-at.invariant.1
 
 -- a byte is due, and the row has no fault from there on
-due : (c : In-loop-at)
-    → let a = c.args in
-    Storing a.bytes.now (fitted (length a.bytes.now) (bytes_in (drop a.from a.text.now))) c.loop-at.bytes c.loop-at.count (bytes_due (drop c.loop-at.at a.text.now))
-due c = rw (in-text _ _ c.loop-at-test.true) at c.loop-at.invariant.1
+module _ (lent : List ℕ) (whole : Row Hexadecimal) (now : List ℕ) (count : ℕ) (text : List ℕ) (at : ℕ) (more : at < length text) (storing : Storing lent whole now count (bytes_in (drop at text))) where
+  due : Storing lent whole now count (bytes_due (drop at text))
+  due = rw (in-text text at more) at storing
 
-no-fault : (c : In-loop-at) (why : Hexadecimal) → bytes_due (drop c.loop-at.at c.args.text.now) ≡ fault why → ⊥
-no-fault c = storing-no-fault _ _ _ _ _ c.requires (due c)
+  no-fault : ((why : Hexadecimal) → whole ≡ fault why → ⊥) → (why : Hexadecimal) → bytes_due (drop at text) ≡ fault why → ⊥
+  no-fault none = storing-no-fault _ _ _ _ _ none due
 
 pub shape_of-bytes-in_default : goal.shape_of-bytes-in_default
 shape_of-bytes-in_default c = kept (goal.at.shape_of-bytes-in_default c).At-loop-at
 
 pub returns-in_default : goal.returns-in_default
 returns-in_default c =
-    absurd (no-fault (goal.at.returns-in_default c).In-loop-at _ (due-missing c.args.text.now c.loop-at.at (byte-missing _ _ c.byte_at.ensures c.enum_told-1.given.1)))
+    absurd (no-fault _ _ _ _ _ _ c.loop-at-test.true c.loop-at.invariant.1 c.requires _ (due-missing c.args.text.now c.loop-at.at (byte-missing _ _ c.byte_at.ensures c.in_default.is)))
 
 stands : (c : In-Byte)
     → let text = c.args.text.now in
-    (both (is_hexadecimal_digit (get_or text c.loop-at.at 0)) (is_hexadecimal_digit (get_or text (c.loop-at.at + 1) 0)) ≡ true) × (c.byte-1.given.0.0 ≡ byte_here text c.loop-at.at)
-stands c = byte-stands _ _ c.byte_at.ensures _ c.byte-1.given.1
+    (both (is_hexadecimal_digit (get_or text c.loop-at.at 0)) (is_hexadecimal_digit (get_or text (c.loop-at.at + 1) 0)) ≡ true) × (c.in-Byte.byte ≡ byte_here text c.loop-at.at)
+stands c = byte-stands _ _ c.byte_at.ensures _ c.in-Byte.is
 
 inside : (c : In-Byte) → c.loop-at.at + 1 < length c.args.text.now
 inside c = byte-within c.args.text.now c.loop-at.at (stands c).0
@@ -49,9 +49,9 @@ inside c = byte-within c.args.text.now c.loop-at.at (stands c).0
 goes_on : (c : In-Byte)
     → let a = c.args in
     let text = a.text.now in
-    Storing a.bytes.now (fitted (length a.bytes.now) (bytes_in (drop a.from text))) c.loop-at.bytes c.loop-at.count (ahead c.byte-1.given.0.0 (bytes_in (drop (next_due text c.loop-at.at) text)))
+    Storing a.bytes.now (fitted (length a.bytes.now) (bytes_in (drop a.from text))) c.loop-at.bytes c.loop-at.count (ahead c.in-Byte.byte (bytes_in (drop (next_due text c.loop-at.at) text)))
 goes_on c =
-    rw (stands c).1 (rw (due-goes-on _ _ (stands c).0 (no-fault c.before.before.before.before)) at (due c.before.before.before.before))
+    rw (stands c).1 (rw (due-goes-on _ _ (stands c).0 (no-fault _ _ _ _ _ _ c.loop-at-test.true c.loop-at.invariant.1 c.requires)) at (due _ _ _ _ _ _ c.loop-at-test.true c.loop-at.invariant.1))
 
 place : (c : In-Byte) → c.loop-at.count < length c.args.bytes.now
 place c =

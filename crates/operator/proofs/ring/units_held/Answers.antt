@@ -1,0 +1,12 @@
+-- By the test.
+use Rattle.std.proofs.Common.{sym, ◌∙◌}
+use Rattle.quantity.proofs.Laws.{pick_true, pick-false}
+use Rattle.operator.specs.Ring.{ring_held}
+use Rattle.operator.proofs.ring.units_held.Goals as goal
+
+pub returns-then-uses_held : goal.returns-then-uses_held
+returns-then-uses_held c = sym (pick_true _ _ _ (sym c.uses_held.ensures ∙ c.if-uses_held.true))
+
+pub returns-else-uses_held : goal.returns-else-uses_held
+unfolding ring_held
+returns-else-uses_held c = c.total_less.ensures ∙ sym (pick-false _ _ _ (sym c.uses_held.ensures ∙ c.if-uses_held.false))
