@@ -1,7 +1,8 @@
 // The lines of standard input, one after the other.
 
-ghost use Rattle.std.specs.Prelude.{◌≤◌, IfOk};
+ghost use Rattle.std.specs.Prelude.{◌<◌, ◌≤◌, IfOk, length, take};
 ghost use Rattle.std.specs.Io.{ReadsAtMost};
+ghost use Rattle.std.specs.Io.KnownBytes.{Consumes, IsAtEnd};
 
 use std::io;
 use std::io::Read;
@@ -67,13 +68,15 @@ pub fn advance<R: Read>(
 
 // Reads until all places are taken or the input ends, and answers how many bytes stand at the front.
 pub fn read_full<R: Read>(from: &mut R, bytes: &mut [u8]) -> io::Result<usize>
-    ensures { ReadsAtMost result bytes.new }
+    ensures count { ReadsAtMost result bytes.new }
+    ensures front { IfOk result (λ n. Consumes (R.remaining from.old) (R.remaining from.new) (take n bytes.new)) }
+    ensures short { IfOk result (λ n. n < length bytes.new → IsAtEnd (R.remaining from.new)) }
 {
     let mut done = 0;
     while done < bytes.len() {
         let n = from.read(&mut bytes[done..])?;
         if n == 0 {
-            break;
+            return Ok(done);
         }
         done += n;
     }

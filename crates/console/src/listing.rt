@@ -52,12 +52,7 @@ fn lines<W: Write>(out: &mut W, path: PathValue, figures: [Figure; 16]) -> io::R
     Ok(())
 }
 
-fn line<W: Write>(
-    out: &mut W,
-    index: usize,
-    operator: Operator,
-    figure: Figure,
-) -> io::Result<()> {
+fn line<W: Write>(out: &mut W, index: usize, operator: Operator, figure: Figure) -> io::Result<()> {
     number(out, index as u64)?;
     kind(out, operator)?;
     number(out, figure.capacity.0)?;

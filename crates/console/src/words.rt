@@ -65,13 +65,11 @@ pub fn error_of<W: Write>(out: &mut W, line: u64, table: &[u8], index: usize) ->
 
 // A line of numbers, each behind its label, the word of its index.
 pub fn row<W: Write>(out: &mut W, labels: &[u8], numbers: &[u64]) -> io::Result<()> {
-    let mut k = 0;
-    while k < numbers.len() {
+    for (k, number) in numbers.iter().enumerate() {
         let span = span_of(labels, k);
         let from = span.from;
         let end = span.end;
-        labelled(out, &labels[from..end], numbers[k])?;
-        k += 1;
+        labelled(out, &labels[from..end], *number)?;
     }
     end_line(out)
 }
