@@ -1,5 +1,7 @@
 // The figures of a path: a capacity and a delay for each operator, and the path's delay (document 01, sections 4 and 7).
 
+#![tactic(auto)]
+
 ghost use Rattle.std.specs.Prelude.{◌≡◌, true, ℕ, ◌+◌, ◌≤◌, ◌<◌, get_or};
 ghost use Rattle.flow.specs.Declarations.{has_rows};
 ghost use Rattle.figures.specs.Answers.{no_figure, figures_of};

@@ -1,5 +1,5 @@
 -- What a meter answers, from what its parts answer: the room that it finds, and what it answers to an input and leaves in its words.
-use Rattle.std.proofs.Common.{◌≡◌, ℕ, ◌+◌, ◌-◌, ◌<◌, ◌≤◌, true, false, not, ltb, List, [], ◌∷◌, sym, refl, ap, ◌∙◌, arith, le-ltb, lt-ltb}
+use Rattle.std.proofs.Common.{◌≡◌, ℕ, ◌+◌, ◌-◌, ◌<◌, ◌≤◌, true, false, not, ltb, List, ◌∷◌, sym, refl, ap, ◌∙◌, arith, le-ltb, lt-ltb}
 use borrow.Author.Tests.{not-false}
 use Rattle.quantity.specs.Choice.{either}
 use Rattle.quantity.specs.Limits.{largest_amount, last_slot}
@@ -133,7 +133,7 @@ module _ (x : SourceMeter) (words : List ℕ) (input : ℕ) where
     unfolding meter_of meter_words_after
     take-refused why answered stands =
         rw first-test
-        (sym (stands _ _ _) ∙ after-count x words (refused_with x) _ answered, sym (stands _ _ _) ∙ after-count x words (λ why. words) _ answered)
+        (sym (stands Metered (refused_with x) _) ∙ after-count x words (refused_with x) _ answered, sym (stands (List ℕ) (λ why. words) _) ∙ after-count x words (λ why. words) _ answered)
 
     pub take-unusable : Counted.Unusable ≡ counted_of x words → Answers (refused_with x Unusable) words
     take-unusable answered = take-refused Unusable answered (λ A refused rest. refl)

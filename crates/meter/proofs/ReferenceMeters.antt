@@ -1,6 +1,6 @@
 -- Inputs that the programs do not say, as tables that are computed from the definitions: a meter's words of a wrong length; inputs taken and refused at each row of
 -- document 02, item 6; declarations of several rows that are refused; and where an input goes.
-use Rattle.std.proofs.Common.{◌≡◌, ℕ, ◌+◌, ◌-◌, ◌<◌, ◌≤◌, Bool, true, false, ltb, List, [], ◌∷◌, ◌++◌, length, replicate, sym, refl, ap, ◌∙◌, arith, length-append, get_or-append-add}
+use Rattle.std.proofs.Common.{◌≡◌, ℕ, ◌+◌, ◌<◌, ◌≤◌, Bool, true, false, ltb, List, [], ◌∷◌, ◌++◌, length, replicate, sym, refl, ap, ◌∙◌, arith, length-append, get_or-append-add}
 use native.Mathlib.Nat.{le_dest}
 use native.Mathlib.Decide.{dec_lt}
 use lib.ListN.{length-replicate, get_or-replicate, get_or-append}

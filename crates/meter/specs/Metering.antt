@@ -4,7 +4,6 @@ use Rattle.meter.specs.Meter.{meter_word_count, meter_of, meter_words_after}
 use Rattle.flow.specs.declared.Declaration.{Declaration}
 use Rattle.meter.specs.declared.SourceMeter.{SourceMeter}
 use Rattle.meter.specs.declared.Intake.{Intake}
-use Rattle.meter.specs.declared.Metered.{Metered}
 
 -- a meter, its words, and the inputs that it took, in order
 pub record Fed : Type 0 where

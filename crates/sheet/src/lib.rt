@@ -1,5 +1,7 @@
 // A path and its sheet: the reader and the writer (document 01, sections 5 and 7).
 
+#![tactic(auto)]
+
 ghost use Rattle.std.specs.Prelude.{◌≡◌};
 ghost use Rattle.operator.specs.Operators.{number_in_range};
 ghost use Rattle.sheet.specs.Bodies.{operator_in_range};

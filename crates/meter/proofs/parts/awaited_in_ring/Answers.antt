@@ -11,7 +11,7 @@ use Rattle.meter.proofs.UsableMeter.{UsableMeter, Ranged, usable-meter, declarat
 use Rattle.meter.proofs.PartsLaws.{awaited-ring}
 use Rattle.meter.proofs.EarlierRows.{Rising, given_row, row_leaves, rising, below-found, below_none}
 use Rattle.meter.proofs.parts.awaited_in_ring.Goals as goal
-use Rattle.meter.proofs.parts.awaited_in_ring.Goals.{After-last_row-last, After-left_below-least, After-ring_sum-counted, Else-least-eq0}
+use Rattle.meter.proofs.parts.awaited_in_ring.Goals.{After-last_row-last, After-left_below-least, After-ring_sum-counted}
 
 -- the meter can be used, its declaration is in range, and the last row's interval is the ring's length
 usable : (c : After-last_row-last) → UsableMeter c.args.state c.args.words.now
@@ -42,15 +42,6 @@ leaves_last c =
     let last = c.last_row-last.result in
     c.left_below-least.ensures ∙ ap (λ (units : ℕ). last.quota.0 + 1 - (units - word_at c.args.words.now (c.args.state.slot.0 % last.interval.0))) c.requires.4
 
--- so what is known of the rows before it, where that is not 0
-found : (c : Else-least-eq0) →
-    let given = c.args in
-    let ring = c.last_row-last.result.interval.0 in
-    Rising given.words.now ring (given.state.slot.0 % ring) given.state.declaration.count given.state.declaration.rows
-found c =
-    rising c.args.state c.args.words.now (usable c.before.before.before.before.before) (ranged c.before.before.before.before.before) c.requires.3 c.requires.0 c.last_row-last.result.interval.0 (ringed c.before.before.before.before.before) c.last_row-last.result.quota.0
-    (quota-last c.before.before.before.before.before) (λ none. c.if-least-eq0.false (leaves_last c.before ∙ none))
-
 -- and what a row counts is within the limit
 counted-small : (c : After-ring_sum-counted) → c.loop-i.counted + c.ring_sum-counted.result ≤ largest_amount
 counted-small c =
@@ -72,9 +63,6 @@ offset_bounds-words-at c = omega (arith, replaced (goal.at.offset_bounds-words-a
 pub bounds-words-at : goal.bounds-words-at
 bounds-words-at c = omega (arith, replaced (goal.at.bounds-words-at c).After-last_row-last, (usable (goal.at.bounds-words-at c).After-last_row-last).sized)
 
-pub overflow_cast-words : goal.overflow_cast-words
-overflow_cast-words c = omega (arith, c.shared_slice_known-2-1.given (c.args.state.slot.0 % c.last_row-last.result.interval.0))
-
 pub overflow_sub-units : goal.overflow_sub-units
 overflow_sub-units c =
     omega (arith, c.requires.4, term-le-total (word_at c.args.words.now) meter_word_count (c.args.state.slot.0 % c.last_row-last.result.interval.0) (replaced (goal.at.overflow_sub-units c).After-last_row-last))
@@ -89,7 +77,14 @@ returns-then-least-eq0 c =
 
 pub loop-i-init : goal.loop-i-init
 loop-i-init c =
-    let known = found (goal.at.loop-i-init c).Else-least-eq0 in
+    let given = c.args in
+    let last = (goal.at.loop-i-init c).After-last_row-last in
+    let row = c.last_row-last.result in
+    -- what the last row leaves is not 0, so this is known of the rows before it
+    let known : Rising given.words.now row.interval.0 (given.state.slot.0 % row.interval.0) given.state.declaration.count given.state.declaration.rows =
+    rising given.state given.words.now (usable last) (ranged last) c.requires.3 c.requires.0 row.interval.0 (ringed last) row.quota.0
+    (quota-last last) (λ none. c.if-least-eq0.false (leaves_last (goal.at.loop-i-init c).After-left_below-least ∙ none))
+    in
     (known, omega arith, λ before. known.large 0 (omega arith), sym (total-zero _), sym (least-from-none _ _))
 
 pub overflow_add-i : goal.overflow_add-i

@@ -16,7 +16,7 @@ returns-then-at-to c =
     ages-both given.words.now given.ring given.at (omega arith) given.from given.to (omega arith) (omega arith) (omega arith) (omega arith)
     (part-gathered given.words.now 0 _ (omega arith) (omega arith) c.gather-near.ensures)
     (part-gathered _ _ _ (omega arith) (omega arith) c.gather-far.ensures)
-    c.wrapping_add_u32.ensures
+    c.wrapping_add_u32.ensures.value
 
 pub returns : goal.returns
 returns c =

@@ -1,4 +1,4 @@
-use Rattle.std.proofs.Common.{◌≡◌, ℕ, ◌-◌, ◌%◌, ◌<◌, min, ap, ◌∙◌, arith}
+use Rattle.std.proofs.Common.{◌≡◌, ℕ, ◌%◌, ◌<◌, min, ap, ◌∙◌, arith}
 use Rattle.meter.proofs.VisitedRows.{Visiting, visiting, visited-none, visited-next, visited-fits, visited-least}
 use Rattle.meter.proofs.parts.rows_below.Goals as goal
 use Rattle.meter.proofs.parts.rows_below.Goals.{After-ring_length-ring}
@@ -13,7 +13,7 @@ pub nonzero_rem-at : goal.nonzero_rem-at
 nonzero_rem-at c = omega (arith, (known (goal.at.nonzero_rem-at c).After-ring_length-ring).inside)
 
 pub offset_bounds-words-at : goal.offset_bounds-words-at
-offset_bounds-words-at c = omega (arith, (known (goal.at.offset_bounds-words-at c).After-ring_length-ring).inside, (known (goal.at.offset_bounds-words-at c).After-ring_length-ring).ring-le)
+offset_bounds-words-at c = omega (arith, (known (goal.at.offset_bounds-words-at c).After-ring_length-ring).inside, (known (goal.at.offset_bounds-words-at c).After-ring_length-ring).ring_le)
 
 pub bounds-words-at : goal.bounds-words-at
 bounds-words-at c = let rows = known (goal.at.bounds-words-at c).After-ring_length-ring in omega (arith, rows.inside, rows.ring_le, rows.sized)
@@ -42,7 +42,7 @@ loop-i-preserved c =
     let at = c.loop-i in
     let (rows, visited) = at.invariant in (
       rows,
-      visited-next _ _ _ _ _ rows visited c.loop-i-test.true c.ring_gather-part.ensures c.wrapping_add_u32-low.ensures
+      visited-next _ _ _ _ _ rows visited c.loop-i-test.true c.ring_gather-part.ensures c.wrapping_add_u32-low.ensures.value
           (c.smaller-least.ensures ∙ ap (min at.least) c.left_below.ensures),
     )
 

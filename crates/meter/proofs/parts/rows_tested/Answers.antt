@@ -46,7 +46,7 @@ slice_bounds-all_clear-start c = within (goal.at.slice_bounds-all_clear-start c)
 pub returns : goal.returns
 returns c clear =
     record {
-      (goal.at.returns c).Else-not-has_rows = sym c.has_rows.ensures ∙ c.if-not-has_rows.false;
+      several = sym c.has_rows.ensures ∙ c.if-not-has_rows.false;
       clear = sym c.unused_clear.ensures ∙ c.if-not-unused_clear.false;
       in_range = sym c.in_range.ensures ∙ c.if-not-in_range.false;
       in_order = sym c.in_order.ensures ∙ c.if-not-in_order.false;

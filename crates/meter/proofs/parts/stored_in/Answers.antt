@@ -1,5 +1,6 @@
 -- Each test that fails makes the meter unusable; where all pass, it is usable, and the sum is the scan's.
 use Rattle.std.proofs.Common.{◌≡◌, ℕ, true, sym, ap, ◌∙◌, ap₂, arith, eq-eqb, ne_eqb}
+use borrow.Author.Tests.{not-true, not-false}
 use Rattle.quantity.specs.Sums.{total, every}
 use Rattle.quantity.proofs.Laws.{pick_true, pick-false}
 use Rattle.words.specs.Stored.{word_at, word_fits}
@@ -42,11 +43,11 @@ pub returns-then-state-ne0 : goal.returns-then-state-ne0
 returns-then-state-ne0 c = sym (pick_true _ _ _ (block-misfit _ _ (block-unused _ c.requires _ ∙ ne_eqb _ _ c.if-state-ne0.true)))
 
 pub returns-then-not-scanned : goal.returns-then-not-scanned
-returns-then-not-scanned c = sym (pick_true _ _ _ (word-misfit _ _ (words-tested (goal.at.returns-then-not-scanned c).After-scan-scanned ∙ c.if-not-scanned.true)))
+returns-then-not-scanned c = sym (pick_true _ _ _ (word-misfit _ _ (words-tested (goal.at.returns-then-not-scanned c).After-scan-scanned ∙ not-true _ c.if-not-scanned.true)))
 
 pub returns : goal.returns
 returns c =
-    ap Stored.Words (words-summed (goal.at.returns c).After-scan-scanned (c.if-not-scanned.false))
+    ap Stored.Words (words-summed (goal.at.returns c).After-scan-scanned (not-false _ c.if-not-scanned.false))
     ∙ sym
     (pick-false _ _ _
     (meter-usable _ _
@@ -55,5 +56,5 @@ returns c =
       slot_left = c.if-state-gt-LAST.false;
       clear = sym c.unused_clear.ensures ∙ c.if-not-unused_clear.false;
       block_fits = block-unused _ c.requires _ ∙ eq-eqb _ _ c.if-state-ne0.false;
-      words_fit = words-tested (goal.at.returns c).After-scan-scanned ∙ c.if-not-scanned.false;
+      words_fit = words-tested (goal.at.returns c).After-scan-scanned ∙ not-false _ c.if-not-scanned.false;
     }))

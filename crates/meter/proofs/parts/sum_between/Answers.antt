@@ -1,4 +1,4 @@
-use Rattle.std.proofs.Common.{◌≡◌, ◌+◌, ◌-◌, ap, ◌∙◌, arith}
+use Rattle.std.proofs.Common.{◌≡◌, ◌+◌, ap, ◌∙◌, arith}
 use Rattle.quantity.specs.Sums.{total}
 use Rattle.quantity.proofs.Sums.{total-next, total-le}
 use Rattle.words.specs.Stored.{word_at}

@@ -34,12 +34,12 @@ keep_newest-requires c =
     (omega (arith, c.words_used.ensures, used-within _ (inside (goal.at.keep_newest-requires c).Else-not-number_in_range), known.sized), known.first_le)
 
 pub overflow_add-result : goal.overflow_add-result
-overflow_add-result c = omega (arith, (tested (goal.at.overflow_add-result c).Else-unfit).slot-left)
+overflow_add-result c = omega (arith, (tested (goal.at.overflow_add-result c).Else-unfit).slot_left)
 
 pub returns : goal.returns
 unfolding holds
 returns c =
     let written = c.keep_newest in
     let used = c.words_used.ensures in
-    kept-newest _ _ _ _ _ (passed (goal.at.returns c).Else-unfit) (inside (goal.at.returns c).Else-not-number_in_range) written.new.0 (written.auto.0 ∙ (tested (goal.at.returns c).Else-unfit).sized)
-    (λ a less. written.ensures.0 _ refl a (rw used less)) (λ a more. written.ensures.1 a (rw used more)) _ c.held_apart.ensures
+    kept-newest _ _ _ _ _ (passed (goal.at.returns c).Else-unfit) (inside (goal.at.returns c).Else-not-number_in_range) written.new.words (written.auto.words ∙ (tested (goal.at.returns c).Else-unfit).sized)
+    (λ a less. written.ensures.a_after _ refl a (rw used less)) (λ a more. written.ensures.by_index a (rw used more)) _ c.held_apart.ensures

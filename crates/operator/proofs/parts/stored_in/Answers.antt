@@ -1,4 +1,5 @@
 -- Any test that stands refuses; once all have passed, what is stored is usable, and the field's units and the words' make b.
+use borrow.Author.Tests.{not-true, not-false}
 use Rattle.std.proofs.Common.{◌≡◌, ℕ, Bool, true, false, sym, ap, ◌∙◌, arith}
 use Rattle.words.specs.Stored.{stored_fits}
 use Rattle.operator.proofs.SingleLaws.{Usable, stored_refused, stored-found, held-le, b-sum}
@@ -19,8 +20,8 @@ passed c =
       slot_left = c.if-state-gt-LAST.false;
       held_fits = fits-answered c.uses_held.ensures _ c.stored_fits.ensures ∙ c.if-not-stored_fits.false;
       beside_fits = fits-answered c.uses_beside.ensures _ c.stored_fits-2.ensures ∙ c.if-not-stored_fits-2.false;
-      words_fit = sym c.scan-scanned.ensures.0 ∙ c.if-not-scanned.false;
-      sum_fits = omega (arith, c.scan-scanned.ensures.1 (c.if-not-scanned.false), c.if-scanned-gt-LARGEST.false);
+      words_fit = sym c.scan-scanned.ensures.0 ∙ not-false _ c.if-not-scanned.false;
+      sum_fits = omega (arith, c.scan-scanned.ensures.1 (not-false _ c.if-not-scanned.false), c.if-scanned-gt-LARGEST.false);
     }
 
 pub returns-then-words-ne-WORDS : goal.returns-then-words-ne-WORDS
@@ -36,10 +37,10 @@ pub returns-then-not-stored_fits-2 : goal.returns-then-not-stored_fits-2
 returns-then-not-stored_fits-2 c = stored_refused _ _ (λ stored. contradiction stored.beside_fits (fits-answered c.uses_beside.ensures _ c.stored_fits-2.ensures ∙ c.if-not-stored_fits-2.true))
 
 pub returns-then-not-scanned : goal.returns-then-not-scanned
-returns-then-not-scanned c = stored_refused _ _ (λ stored. contradiction stored.words_fit (sym c.scan-scanned.ensures.0 ∙ c.if-not-scanned.true))
+returns-then-not-scanned c = stored_refused _ _ (λ stored. contradiction stored.words_fit (sym c.scan-scanned.ensures.0 ∙ not-true _ c.if-not-scanned.true))
 
 pub returns-then-scanned-gt-LARGEST : goal.returns-then-scanned-gt-LARGEST
-returns-then-scanned-gt-LARGEST c = stored_refused _ _ (λ stored. omega (arith, c.scan-scanned.ensures.1 (c.if-not-scanned.false), c.if-scanned-gt-LARGEST.true))
+returns-then-scanned-gt-LARGEST c = stored_refused _ _ (λ stored. omega (arith, c.scan-scanned.ensures.1 (not-false _ c.if-not-scanned.false), c.if-scanned-gt-LARGEST.true))
 
 pub overflow_add-result : goal.overflow_add-result
 overflow_add-result c = omega (arith, held-le _ _ (passed (goal.at.overflow_add-result c).Else-scanned-gt-LARGEST), passed (goal.at.overflow_add-result c).Else-scanned-gt-LARGEST)
@@ -47,4 +48,4 @@ overflow_add-result c = omega (arith, held-le _ _ (passed (goal.at.overflow_add-
 pub returns : goal.returns
 returns c =
     let stored = passed (goal.at.returns c).Else-scanned-gt-LARGEST in
-    stored-found _ _ stored _ (rw (c.scan-scanned.ensures.1 (c.if-not-scanned.false)) (b-sum _ _ stored))
+    stored-found _ _ stored _ (rw (c.scan-scanned.ensures.1 (not-false _ c.if-not-scanned.false)) (b-sum _ _ stored))

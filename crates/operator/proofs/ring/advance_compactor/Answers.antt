@@ -22,7 +22,7 @@ usable c = not-true _ (sym c.apart_fits.ensures ∙ c.if-not-apart_fits.false)
 ready : (c : Else-not-apart_fits) → let a = c.args in path_unready a.state a.words.now a.input ≡ false
 unfolding number_in_range
 ready c =
-    is-ready _ _ _ (usable c) (ap number_in_range c.requires.3 ∙ named c.before.before) c.requires.2
+    is-ready _ _ _ (usable c) (ap number_in_range c.requires.3 ∙ (sym c.in_range.ensures ∙ c.if-not-in_range.false)) c.requires.2
 
 pub returns-then-not-in_range : goal.returns-then-not-in_range
 unfolding number_in_range
@@ -48,4 +48,4 @@ sends-requires c = (omega arith, omega (arith, c.compactor_sends-sent.ensures.1)
 pub returns : goal.returns
 unfolding least_output compactor_least greatest_output compactor_greatest held_after compactor_after keeps uses_held
 returns c =
-    c.sends.ensures _ _ (sends-within _ _ _ (Operator.Compactor c.args.interval) c.requires.3 refl (ready (goal.at.returns c).Else-not-apart_fits) c.compactor_sends-sent.ensures.0 c.compactor_sends-sent.ensures.0 (λ (goal.at.returns c).Start. refl))
+    c.sends.ensures _ _ (sends-within _ _ _ (Operator.Compactor c.args.interval) c.requires.3 refl (ready (goal.at.returns c).Else-not-apart_fits) c.compactor_sends-sent.ensures.0 c.compactor_sends-sent.ensures.0 (λ s. refl))

@@ -43,7 +43,7 @@ usable c = not-true _ (sym c.delayer_fits.ensures ∙ c.if-not-delayer_fits.fals
 ready : (c : Else-not-delayer_fits) → let a = c.args in path_unready a.state a.words.now a.input ≡ false
 unfolding number_in_range
 ready c =
-    is-ready _ _ _ (usable c) (ap number_in_range c.requires.3 ∙ inside c.before.before.before) c.requires.2
+    is-ready _ _ _ (usable c) (ap number_in_range c.requires.3 ∙ (sym c.in_range.ensures ∙ c.if-not-in_range.false)) c.requires.2
 
 -- what it holds, by its totals
 held_same : (c : After-total_less-held) → c.total_less-held.result ≡ ring_held c.args.state
@@ -51,14 +51,14 @@ unfolding ring_held
 held_same c = c.total_less-held.ensures
 
 held-le : (c : After-total_less-held) → c.total_less-held.result ≤ largest_amount
-held-le c = omega (arith, held_same c, ring-held-le _ _ (ring c.requires.3) (usable c.before))
+held-le c = omega (arith, held_same c, ring-held-le _ _ (ring c.requires.3) ((not-true _ (sym c.delayer_fits.ensures ∙ c.if-not-delayer_fits.false))))
 
 low_same : (c : After-less-low) → let a = c.args in c.less-low.result ≡ path_least a.state a.words.now a.input
-unfolding ring_recent
+unfolding ring_recent ring_held
 low_same c =
     let named = c.requires.3 in
     c.less-low.ensures
-    ∙ ap₂ (λ (b n : ℕ). b - n) (held_same c.before.before.before) c.recent.ensures
+    ∙ ap₂ (λ (b n : ℕ). b - n) c.total_less-held.ensures c.recent.ensures
     ∙ least-ring _ _ _ (ring named) _ (used named)
 
 there-same : (c : After-total_less-held) → let a = c.args in c.total_less-held.result + a.input ≡ ring_held a.state + a.input

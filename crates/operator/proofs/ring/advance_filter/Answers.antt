@@ -20,7 +20,7 @@ usable c = not-true _ (sym c.apart_fits.ensures ∙ c.if-not-apart_fits.false)
 ready : (c : Else-not-apart_fits) → let a = c.args in path_unready a.state a.words.now a.input ≡ false
 unfolding number_in_range
 ready c =
-    is-ready _ _ _ (usable c) (ap number_in_range c.requires.3 ∙ named c.before.before) c.requires.2
+    is-ready _ _ _ (usable c) (ap number_in_range c.requires.3 ∙ (sym c.in_range.ensures ∙ c.if-not-in_range.false)) c.requires.2
 
 pub returns-then-not-in_range : goal.returns-then-not-in_range
 unfolding number_in_range
@@ -47,4 +47,4 @@ pub returns : goal.returns
 unfolding least_output filter_least greatest_output filter_greatest held_after filter_after beside_after uses_held
 returns c =
     c.sends.ensures _ _
-    (sends-within _ _ _ (Operator.Filter c.args.rate) c.requires.3 refl (ready (goal.at.returns c).Else-not-apart_fits) (omega (arith, c.less.ensures, c.limited-beside.ensures)) refl (λ (goal.at.returns c).Start. c.limited-beside.ensures))
+    (sends-within _ _ _ (Operator.Filter c.args.rate) c.requires.3 refl (ready (goal.at.returns c).Else-not-apart_fits) (omega (arith, c.less.ensures, c.limited-beside.ensures)) refl (λ s. c.limited-beside.ensures))

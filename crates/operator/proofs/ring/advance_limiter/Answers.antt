@@ -21,7 +21,7 @@ usable c = not-true _ (sym c.apart_fits.ensures ∙ c.if-not-apart_fits.false)
 ready : (c : Else-not-apart_fits) → let a = c.args in path_unready a.state a.words.now a.input ≡ false
 unfolding number_in_range
 ready c =
-    is-ready _ _ _ (usable c) (ap number_in_range c.requires.3 ∙ named c.before.before) c.requires.2
+    is-ready _ _ _ (usable c) (ap number_in_range c.requires.3 ∙ (sym c.in_range.ensures ∙ c.if-not-in_range.false)) c.requires.2
 
 pub returns-then-not-in_range : goal.returns-then-not-in_range
 unfolding number_in_range
@@ -44,4 +44,4 @@ sends-requires c = (omega arith, omega (arith, c.limiter_sends-sent.ensures))
 pub returns : goal.returns
 unfolding least_output limiter_least greatest_output limiter_greatest held_after limiter_after keeps uses_held
 returns c =
-    c.sends.ensures _ _ (sends-within _ _ _ (Operator.Limiter c.args.rate) c.requires.3 refl (ready (goal.at.returns c).Else-not-apart_fits) c.limiter_sends-sent.ensures c.limiter_sends-sent.ensures (λ (goal.at.returns c).Start. refl))
+    c.sends.ensures _ _ (sends-within _ _ _ (Operator.Limiter c.args.rate) c.requires.3 refl (ready (goal.at.returns c).Else-not-apart_fits) c.limiter_sends-sent.ensures c.limiter_sends-sent.ensures (λ s. refl))

@@ -4,14 +4,14 @@ use Rattle.operator.specs.Operators.{number_in_range}
 use Rattle.operator.specs.Single.{holds, unusable}
 use Rattle.operator.proofs.SingleLaws.{Usable, stored-holds, stored-is-unusable, unusable-above, unusable-stored, none-unusable, bounds-unusable, bounds-outside, bounds-outputs, least-held, b-le, beside-le}
 use Rattle.operator.proofs.single.bounds_alone.Goals as goal
-use Rattle.operator.proofs.single.bounds_alone.Goals.{Else-not-number_in_range, In-Holds-2}
+use Rattle.operator.proofs.single.bounds_alone.Goals.{Else-not-number_in_range, In-Holds}
 
-found : (c : In-Holds-2) →
+found : (c : In-Holds) →
     let start = c.args in
     Usable start.state start.words.now × (c.in-Holds.held.0 ≡ (holds start.state start.words.now).b)
 found c = stored-holds _ _ (sym c.in-Holds.is ∙ c.stored_in.ensures)
 
-passed : (c : In-Holds-2) →
+passed : (c : In-Holds) →
     let start = c.args in
     unusable start.state start.words.now start.input.0 ≡ false
 passed c = none-unusable _ _ _ c.if-input-gt-LARGEST.false (found c).0
@@ -23,15 +23,15 @@ pub returns-then-input-gt-LARGEST : goal.returns-then-input-gt-LARGEST
 returns-then-input-gt-LARGEST c = bounds-unusable _ _ _ (unusable-above _ _ _ c.if-input-gt-LARGEST.true)
 
 pub returns-then-not-number_in_range : goal.returns-then-not-number_in_range
-returns-then-not-number_in_range c = bounds-outside _ _ _ (passed (goal.at.returns-then-not-number_in_range c).In-Holds-2) (sym c.number_in_range.ensures ∙ c.if-not-number_in_range.true)
+returns-then-not-number_in_range c = bounds-outside _ _ _ (none-unusable _ _ _ c.if-input-gt-LARGEST.false (stored-holds _ _ (sym c.in-Holds.is ∙ c.stored_in.ensures)).0) (sym c.number_in_range.ensures ∙ c.if-not-number_in_range.true)
 
 pub least-low-requires : goal.least-low-requires
 least-low-requires c =
-    let (stored, same) = found (goal.at.least-low-requires c).In-Holds-2 in record { operator_value = (inside (goal.at.least-low-requires c).Else-not-number_in_range, stored.sized, stored.slot_left); held_le_largest_amount = (omega (arith, b-le _ _ stored), beside-le _ _ stored, omega (arith, c.if-input-gt-LARGEST.false)) }
+    let (stored, same) = found (goal.at.least-low-requires c).In-Holds in record { operator_value = (inside (goal.at.least-low-requires c).Else-not-number_in_range, stored.sized, stored.slot_left); held_le_largest_amount = (omega (arith, b-le _ _ stored), beside-le _ _ stored, omega (arith, c.if-input-gt-LARGEST.false)) }
 
 pub overflow_add-held : goal.overflow_add-held
 overflow_add-held c =
-    let (stored, same) = found (goal.at.overflow_add-held c).In-Holds-2 in
+    let (stored, same) = found (goal.at.overflow_add-held c).In-Holds in
     omega (arith, b-le _ _ stored, c.if-input-gt-LARGEST.false)
 
 pub returns-in-Unusable : goal.returns-in-Unusable
@@ -39,7 +39,7 @@ returns-in-Unusable c = bounds-unusable _ _ _ (unusable-stored _ _ _ (stored-is-
 
 pub returns-else-not-number_in_range : goal.returns-else-not-number_in_range
 returns-else-not-number_in_range c =
-    let same = (found (goal.at.returns-else-not-number_in_range c).In-Holds-2).1 in
+    let same = (found (goal.at.returns-else-not-number_in_range c).In-Holds).1 in
     let low = c.least-low.ensures.value ∙ least-held _ _ _ _ same in
-    bounds-outputs _ _ _ (passed (goal.at.returns-else-not-number_in_range c).In-Holds-2) (inside (goal.at.returns-else-not-number_in_range c).Else-not-number_in_range) _ _ low
+    bounds-outputs _ _ _ (passed (goal.at.returns-else-not-number_in_range c).In-Holds) (inside (goal.at.returns-else-not-number_in_range c).Else-not-number_in_range) _ _ low
     (c.greatest-high.ensures _ _ _ low (ap (λ (b : ℕ). b + c.args.input.0) same))

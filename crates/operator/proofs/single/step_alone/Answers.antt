@@ -16,7 +16,7 @@ decided c told =
 
 kept : (c : After-keep) {answer : Kept} → c.keep.result ≡ answer →
     let start = c.args in
-    Answered start.state start.words.now start.input.0 start.choice.0 (step_kept c.in-Sends.output answer) c.keep.new.1.0
+    Answered start.state start.words.now start.input.0 start.choice.0 (step_kept c.in-Sends.output answer) c.keep.new.words
 kept c told =
     step-kept _ _ _ _ c.if-input-gt-LARGEST.false (sym c.in-Holds.is ∙ c.stored_in.ensures)
     (sym c.in-Sends.is ∙ c.decide.ensures) (sym told ∙ c.keep.ensures.0) c.keep.ensures.1

@@ -1,0 +1,55 @@
+-- Twice the quota fits; of rows the greatest that the table has beyond the rate is the burst. Each kind has its case of the definition.
+use native.Mathlib.Omega.{arith}
+use mathlib.Core.Path.{ap, ◌∙◌}
+use Prim.Native.Nat.{ℕ, ◌-◌, ◌*◌, ◌≤◌}
+use mathlib.Core.List.{◌∷◌}
+use lib.ListN.{get_or}
+use Rattle.flow.specs.Rows.{greatest_of}
+use Rattle.flow.specs.Classes.{rows, burst_at}
+use Rattle.flow.specs.Declarations.{several_at}
+use Rattle.flow.specs.Bounds.{ClassWithin}
+use Rattle.figures.specs.Carried.{HasBound}
+use Rattle.flow.proofs.Laws.{reach-le}
+use Rattle.figures.proofs.ClassLaws.{smooth-within, rows-within, lent_rows, lent-small, burst-of-table}
+use Rattle.figures.proofs.class.burst_at.Goals as goal
+use Rattle.figures.proofs.class.burst_at.Goals.{In-Rows}
+
+pub overflow_mul-result : goal.overflow_mul-result
+overflow_mul-result c =
+    omega (arith, (smooth-within c.args.declared c.args.class c.in-Smooth.is c.requires.0).quota)
+
+-- the declared rows, and their table
+rows_inside : (c : In-Rows) → let declared = c.args.declared in ClassWithin (rows (several_at declared) declared.count)
+rows_inside c = rows-within c.args.declared c.args.class c.in-Rows.is c.requires.0
+
+rows-lent : (c : In-Rows) → HasBound c.args.declared c.args.bound.now
+rows-lent c = lent_rows c.args.declared c.args.class c.args.bound.now c.in-Rows.is c.requires.1
+
+pub reach-slots-requires : goal.reach-slots-requires
+reach-slots-requires c = (rows_inside (goal.at.reach-slots-requires c).In-Rows).1
+
+pub greatest_beyond-requires : goal.greatest_beyond-requires
+greatest_beyond-requires c =
+    let inside = rows_inside (goal.at.greatest_beyond-requires c).In-Rows in
+    let reached = reach-le (several_at c.args.declared) c.args.declared.count c.args.rate.0 1_024 (λ i less. (inside.2 i less).short) in
+    let short : c.reach-slots.result ≤ 1_024 = omega (arith, c.reach-slots.ensures, reached) in
+    let lent = rows-lent (goal.at.greatest_beyond-requires c).In-Rows in
+    (omega (arith, short, lent.long), short, c.requires.2, λ i less. lent-small c.args.declared c.args.bound.now lent inside i (omega (arith, short)))
+
+pub returns-in-Smooth : goal.returns-in-Smooth
+unfolding burst_at
+returns-in-Smooth c = rw c.in-Smooth.is
+
+pub returns-in-Uniform : goal.returns-in-Uniform
+unfolding burst_at
+returns-in-Uniform c = rw c.in-Uniform.is
+
+pub returns-in-Rows : goal.returns-in-Rows
+unfolding burst_at
+returns-in-Rows c =
+    let above : ℕ → ℕ = λ n. get_or (0 ∷ c.args.bound.now) n 0 - n * c.args.rate.0 in
+    rw c.in-Rows.is
+    (c.wide.ensures
+    ∙ c.greatest_beyond.ensures
+    ∙ ap (greatest_of above) c.reach-slots.ensures
+    ∙ burst-of-table c.args.declared c.args.bound.now c.args.rate.0 (rows_inside (goal.at.returns-in-Rows c).In-Rows) (rows-lent (goal.at.returns-in-Rows c).In-Rows))
