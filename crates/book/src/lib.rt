@@ -1,5 +1,7 @@
 // The ledger's calls over records by value: each that needs them lends them and hands them back.
 
+#![tactic(auto)]
+
 ghost use Rattle.std.specs.Prelude.{◌≡◌};
 ghost use Rattle.ledger.specs.Opening.{opened_of, records_opened};
 ghost use Rattle.ledger.specs.Holding.{holding_of, records_held};

@@ -1,10 +1,10 @@
 -- Section 4's numbers fit their words: what is carried stays within its bounds behind every operator that is not refused, and no delay is above its class's burst and its slots.
-use Prim.Native.Nat.{ℕ, suc, ◌+◌, ◌*◌, ◌≤◌, ◌<◌, min, ◌-◌}
+use Prim.Native.Nat.{ℕ, suc, ◌+◌, ◌*◌, ◌≤◌, ◌<◌, ◌-◌}
 use mathlib.Core.Path.{◌≡◌, sym, ap, subst, ◌∙◌}
 use mathlib.Core.List.{List}
 use lib.ListN.{length}
 use mathlib.Core.Bool.{Bool, true, false}
-use native.Mathlib.Nat.{le_trans, le-mul_of_pos_right, mul-le-mul, mul-le-mul_left, mul-le-mul_right, mul_comm, div-mul-le_self, le-min, min-le_left}
+use native.Mathlib.Nat.{le_trans, le-mul_of_pos_right, mul-le-mul, mul_comm, div-mul-le_self, le-min, min-le_left}
 use native.Mathlib.Omega.{arith}
 use borrow.Author.Tests.{leb-true}
 use Rattle.quantity.specs.Ranges.{Range, in_range, interval_range, rate_range, delay_range}
@@ -17,7 +17,7 @@ use Rattle.quantity.specs.declared.Units.{Units}
 use Rattle.quantity.specs.declared.Rate.{Rate}
 use Rattle.quantity.specs.declared.Delay.{Delay}
 use Rattle.quantity.proofs.Quantities.{units-sum, units-over}
-use Rattle.quantity.proofs.Rounding.{round-up-enough, round-up-least}
+use Rattle.quantity.proofs.Rounding.{round-up-least}
 use Rattle.quantity.proofs.Sums.{both_true}
 use Rattle.flow.specs.Rows.{Row, rows_burst}
 use Rattle.flow.specs.Bounds.{ClassWithin}
@@ -25,8 +25,8 @@ use Rattle.flow.specs.Declarations.{several_at}
 use Rattle.flow.specs.declared.Kind.{Kind}
 use Rattle.quantity.specs.declared.Interval.{Interval}
 use Rattle.flow.proofs.Laws.{rows-burst-slots}
-use Rattle.flow.specs.Classes.{Class, smooth, uniform, rows, Positive, changed_quota, carries, burst_at}
-use Rattle.flow.proofs.ClassBounds.{rows-most-bound, burst-bound, within-positive}
+use Rattle.flow.specs.Classes.{Class, rows, carries, burst_at}
+use Rattle.flow.proofs.ClassBounds.{burst-bound, within-positive}
 use Rattle.operator.specs.FilterPart.{Slowest, unfiltered, filtered, slower}
 use Rattle.operator.specs.Operators.{number_in_range}
 use Rattle.operator.specs.declared.Operator.{Operator}

@@ -11,7 +11,7 @@ use lib.Dec.{ltb, eqb}
 use lib.ListN.{length, get_or, set, replicate, length-set, get_or-replicate}
 use lib.Seq.{get_or-take, length-take-le, get_or-set_same, get_or-set_other}
 use Rattle.quantity.specs.Limits.{largest32}
-use Rattle.quantity.specs.Choice.{pick, both, either}
+use Rattle.quantity.specs.Choice.{pick, either}
 use Rattle.quantity.specs.Ranges.{in_range, delay_range, wanted_delay_range}
 use Rattle.quantity.specs.Quantities.{slots_sum}
 use Rattle.quantity.specs.Sums.{total, list_of}

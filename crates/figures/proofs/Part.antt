@@ -1,7 +1,7 @@
 -- The filter part's figures hold of its flows: each law by whether a filter has come, from the operators' laws of the part.
 use mathlib.Core.Path.{◌≡◌, refl}
 use mathlib.Core.Bool.{true}
-use Prim.Native.Nat.{ℕ, suc, ◌+◌, ◌*◌, ◌≤◌, min, ◌-◌}
+use Prim.Native.Nat.{ℕ, suc, ◌+◌, ◌≤◌, min, ◌-◌}
 use native.Mathlib.Nat.{le_refl, le_trans, le_of_lt, lt_of_not-le, min-eq_left, min-eq_right, mul-le-mul_left}
 use native.Mathlib.Decide.{dec_le}
 use native.Mathlib.Omega.{arith}

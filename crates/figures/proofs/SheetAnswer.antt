@@ -31,7 +31,7 @@ use Rattle.sheet.specs.declared.read.ReadSheet.{ReadSheet}
 use Rattle.sheet.proofs.Accepted.{sheet-path, sheet-full}
 use Rattle.sheet.proofs.InRange.{declaration-of-path}
 use Rattle.figures.specs.declared.PathFigures.{PathFigures}
-use Rattle.figures.specs.Answers.{path_cases, figure_in, no_figure, path_delay, refused_figures, accepted_figures, figures_of}
+use Rattle.figures.specs.Answers.{path_cases, figure_in, path_delay, refused_figures, accepted_figures, figures_of}
 use Rattle.figures.specs.Cameras.{is_camera}
 use Rattle.figures.specs.Carried.{HasBound, Lent, ReachesPast, most_before, slots_of, slots_before, WasRead, Readable, PathWithin, figures_of_value, figures_of_read}
 use Rattle.figures.proofs.ClassLaws.{has-bound}

@@ -12,8 +12,8 @@ use Rattle.quantity.specs.declared.Link.{Link}
 use Rattle.quantity.specs.declared.CheckedLink.{CheckedLink}
 use Rattle.quantity.specs.declared.CheckedLinkCapacity.{CheckedLinkCapacity}
 use Rattle.quantity.specs.declared.refusal.Refusal.TheVariants.{Unusable, OutOfRange, PathNumberWrong}
-use Rattle.quantity.proofs.Laws.{pick_true, pick-false, picked-true, picked-false, least-le, le-largest}
-use Rattle.quantity.proofs.Sums.{term-le-total, every-next, every-at, list_of-ext, both_true, every-fails}
+use Rattle.quantity.proofs.Laws.{pick_true, pick-false, picked-true, picked-false, le-largest}
+use Rattle.quantity.proofs.Sums.{term-le-total, every-next, every-at, list_of-ext, every-fails}
 use Rattle.sheet.specs.declared.read.Verdict.{Verdict}
 use Rattle.ledger.specs.declared.Ledger.{Ledger}
 use Rattle.ledger.specs.declared.opening.Clearing.{Clearing}

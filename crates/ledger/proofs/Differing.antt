@@ -1,10 +1,10 @@
 -- A number sought among some, each compared: met or not as 1 or 0. And numbers of 16 bits in a ring of 64, each sought among the 32 behind it unless it is 0: of any two, one is among those behind the other. How often 0 stands is counted.
-use Rattle.std.proofs.Common.{◌≡◌, ℕ, zero, suc, ◌+◌, ◌-◌, ◌*◌, ◌%◌, ◌<◌, ◌≤◌, Bool, true, false, not, eqb, ltb, leb, List, length, get_or, take, drop, set, sym, refl, ap, ◌∙◌, ap₂, add-zero, mod-eq_of_lt, add-sub_cancel, add-one, arith, length-drop, length-take-le, get_or-drop, get_or-take, ltb-true, le-ltb, lt-ltb, eq-eqb, ne_eqb, eqb-true, le-leb}
+use Rattle.std.proofs.Common.{◌≡◌, ℕ, zero, suc, ◌+◌, ◌-◌, ◌*◌, ◌<◌, ◌≤◌, Bool, true, false, not, eqb, ltb, leb, List, length, get_or, take, drop, set, sym, refl, ap, ◌∙◌, ap₂, add-zero, mod-eq_of_lt, add-sub_cancel, add-one, arith, length-drop, length-take-le, get_or-drop, get_or-take, ltb-true, le-ltb, lt-ltb, eq-eqb, ne_eqb, eqb-true, le-leb}
 use native.Mathlib.Decide.{dec_le, dec_lt}
 use lib.Bits.{bit_or}
 use borrow.Author.Tests.{lt-leb, eqb-false, not-true, not-false}
 use Rattle.quantity.specs.Choice.{pick, both, either}
-use Rattle.quantity.specs.Sums.{total, every, list_of}
+use Rattle.quantity.specs.Sums.{every, list_of}
 use Rattle.quantity.proofs.Laws.{pick_true, pick-false}
 use Rattle.quantity.proofs.Sums.{total-zero, total-suc, total-next, total-le, total-same, total-none, term-le-total, both_true, every-next, every-at, every_holds, every-fails, get_d-list_of}
 use Rattle.ledger.specs.Records.{among, place_among, all_differ}

@@ -1,5 +1,5 @@
 -- Bits joined by "or" are 0 just where each is, and at most 2^k − 1 just where each is: so a record's excess is 0 just where the record fits.
-use Rattle.std.proofs.Common.{◌≡◌, ℕ, zero, suc, ◌+◌, ◌/◌, ◌^◌, ◌<◌, ◌≤◌, Bool, eqb, ltb, leb, List, [], ◌∷◌, get_or, sym, refl, ap, ◌∙◌, ap₂, zero-le, div-lt_iff_lt-mul, lt_of_not-le, arith, le-ltb, lt-ltb, eq-eqb, ne_eqb, le-leb}
+use Rattle.std.proofs.Common.{◌≡◌, ℕ, zero, suc, ◌/◌, Bool, eqb, leb, [], ◌∷◌, get_or, sym, refl, ap, ◌∙◌, ap₂, zero-le, div-lt_iff_lt-mul, lt_of_not-le, arith, eq-eqb, ne_eqb, le-leb}
 use native.Mathlib.Nat.{div-eq_of_lt}
 use native.Mathlib.Decide.{dec_le}
 use lib.Bits.{bit_or}
@@ -7,13 +7,11 @@ use borrow.Author.Tests.{lt-leb}
 use Rattle.quantity.specs.Choice.{both}
 use Rattle.quantity.specs.Sums.{every}
 use Rattle.quantity.specs.Ranges.{in_range, rate_range, path_number_range}
-use Rattle.quantity.proofs.Laws.{pick_true, pick-false}
-use Rattle.quantity.proofs.Sums.{both-assoc, every-next}
+use Rattle.quantity.proofs.Sums.{both-assoc}
 use Rattle.words.specs.Gathering.{joined}
 use Rattle.words.proofs.JoinLaws.{joined-within, joined-clear}
 use Rattle.ledger.specs.declared.Record.{Record}
-use Rattle.ledger.specs.Records.{record_at}
-use Rattle.ledger.specs.Ledgers.{links_range, mark_range, record_in_range, record_clear, record_fits}
+use Rattle.ledger.specs.Ledgers.{links_range, mark_range, record_in_range, record_clear}
 use Rattle.ledger.specs.Steps.{left_of}
 use Rattle.ledger.proofs.Sparing.{left_below}
 

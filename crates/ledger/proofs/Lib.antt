@@ -15,12 +15,6 @@ pub mod DecidingConfirm
 pub mod Sparing
 pub mod DecidingHold
 pub mod Lent
-pub mod Shared
-pub mod Fields
-pub mod Passing
-pub mod TestingStep
-pub mod Writing
-pub mod MarkingStep
 pub mod Links
 pub mod Firsts
 pub mod Entries

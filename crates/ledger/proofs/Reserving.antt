@@ -1,11 +1,11 @@
 -- A record's share charged or discharged link by link, and the sums of shares: 64 rates of 65,535 stay far below where a sum of 32 bits wraps.
-use Rattle.std.proofs.Common.{◌≡◌, ℕ, zero, suc, ◌+◌, ◌*◌, ◌<◌, ◌≤◌, Bool, true, false, eqb, ltb, List, [], ◌∷◌, ◌++◌, length, set, replicate, sym, refl, ap, ◌∙◌, ap₂, mul-suc, arith, get_or-set_other, eqb-true}
+use Rattle.std.proofs.Common.{◌≡◌, ℕ, zero, suc, ◌+◌, ◌*◌, ◌<◌, ◌≤◌, Bool, true, false, eqb, ltb, List, [], ◌∷◌, ◌++◌, length, set, refl, ◌∙◌, ap₂, mul-suc, arith, get_or-set_other, eqb-true}
 use Rattle.quantity.specs.Choice.{pick}
 use Rattle.quantity.specs.Sums.{total, every, list_of}
 use Rattle.quantity.specs.Ranges.{in_range, rate_range, path_number_range}
 use Rattle.quantity.specs.declared.Rate.{Rate}
 use Rattle.quantity.proofs.Laws.{le-largest}
-use Rattle.quantity.proofs.Sums.{total-zero, total-suc, total-next, both_true, every-at, get_d-list_of}
+use Rattle.quantity.proofs.Sums.{total-zero, total-suc, total-next, both_true, every-at}
 use Rattle.ledger.specs.declared.Record.{Record}
 use Rattle.ledger.specs.Records.{record_at, has_link, share, reserved}
 use Rattle.ledger.specs.Ledgers.{record_count, link_count, record_in_range, record_clear, record_fits}

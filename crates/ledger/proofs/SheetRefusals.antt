@@ -26,6 +26,7 @@ each-of-both (c ∷ cs) ds es fs = (es.0, each-of-both cs ds es.1 fs)
 first_of : (cs : List Case) (why : Refusal) → Each cs → FirstIs cs why → OfSheet why
 first_of (c ∷ cs) why each (inl (stands, same)) = subst OfSheet same each.0
 first_of (c ∷ cs) why each (inr (stands, first)) = first_of cs why each.1 first
+first_of [] why each x'' = elim x'' [ ]
 
 of_field : (sheet : List ℕ) (at : ℕ) (due : Format) → Each (field_cases sheet at due)
 of_field sheet at due = ((lit≤ tt, inl (lit≤ tt)), ((lit≤ tt, inl (lit≤ tt)), ((lit≤ tt, inl (lit≤ tt)), ((lit≤ tt, inl (lit≤ tt)), ((lit≤ tt, inl (lit≤ tt)), tt)))))

@@ -1,5 +1,7 @@
 // The ledger of links: which paths stand, and what they reserve (document 01, sections 6 and 7).
 
+#![tactic(auto)]
+
 ghost use Rattle.std.specs.Prelude.{◌≡◌};
 ghost use Rattle.ledger.specs.Records.{no_record};
 

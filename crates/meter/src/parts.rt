@@ -144,8 +144,8 @@ fn rows_tested(state: SourceMeter, words: &[u32]) -> bool
 // Each row goes on the words of the row before: it joins and adds those up to its own reach. The last reaches all but the word that the input replaces.
 fn rows_below(state: SourceMeter, words: &[u32]) -> RowsBelow
     requires { RowsTested state words.now }
-    ensures meter_word_count_value { result.join ≤ most_exact → (every (word_fits (ring_length state.declaration) words.now) meter_word_count ≡ true) × (result.least ≡ inputs_below state words.now) }
-    ensures at_value { result.at ≡ state.slot.0 % ring_length state.declaration }
+    ensures counted { result.join ≤ most_exact → (every (word_fits (ring_length state.declaration) words.now) meter_word_count ≡ true) × (result.least ≡ inputs_below state words.now) }
+    ensures placed { result.at ≡ state.slot.0 % ring_length state.declaration }
 {
     let declaration = state.declaration;
     let count = declaration.count;

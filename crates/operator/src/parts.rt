@@ -165,8 +165,8 @@ fn scan(operator: Operator, words: &[u32]) -> Scanned
 // Every unit is a slot older, the input is new, and the newest stay, `kept` of them in all: oldest leave first.
 fn keep_newest(words: &mut [u32], count: usize, input: u64, kept: u64)
     requires { (count ≤ length words.old) × (kept ≤ largest_amount) }
-    ensures a_after { (x : Held) → x.past ≡ word_at words.old → (a : ℕ) → a < count → word_at words.new a ≡ min (of_age x input a) (kept - total (of_age x input) a) }
-    ensures by_index { (a : ℕ) → count ≤ a → word_at words.new a ≡ word_at words.old a }
+    ensures kept_below { (x : Held) → x.past ≡ word_at words.old → (a : ℕ) → a < count → word_at words.new a ≡ min (of_age x input a) (kept - total (of_age x input) a) }
+    ensures same_behind { (a : ℕ) → count ≤ a → word_at words.new a ≡ word_at words.old a }
 {
     let mut arriving = input;
     let mut room = kept;
@@ -190,8 +190,8 @@ pub(crate) fn least(
     input: u64,
     words: &[u32],
 ) -> u64
-    requires operator_value { (number_in_range operator ≡ true) × (length words.now ≡ word_count) × (slot ≤ last_slot) }
-    requires held_le_largest_amount { (held ≤ largest_amount) × (beside ≤ largest_amount) × (input ≤ most_on_the_way) }
+    requires operates { (number_in_range operator ≡ true) × (length words.now ≡ word_count) × (slot ≤ last_slot) }
+    requires amounts_within { (held ≤ largest_amount) × (beside ≤ largest_amount) × (input ≤ most_on_the_way) }
     ensures value { result ≡ least_output operator slot (record { b = held; h = beside; past = word_at words.now }) input }
     ensures upper_bound { result ≤ most_on_the_way + largest_amount }
 {

@@ -28,6 +28,8 @@ pub length-columns : (widths : List ℕ) (cells : List Cell) → Fits widths cel
 unfolding columns width_of
 length-columns [] [] fit = refl
 length-columns (width ∷ widths) (cell ∷ cells) (here, rest) = length-append (column width cell) (columns widths cells) ∙ ap₂ ◌+◌ (length-column width cell here) (length-columns widths cells rest)
+length-columns [] (cell ∷ cells) fit = elim fit [ ]
+length-columns (width ∷ widths) [] fit = elim fit [ ]
 
 -- the columns one by one
 unfoldable pub each : List ℕ → List Cell → List (List ℕ)
@@ -42,6 +44,8 @@ cut-columns (width ∷ widths) (cell ∷ cells) rest (here, others) =
     let size = length-column width cell here in
     rw (append_assoc (column width cell) (columns widths cells) rest, take_at (column width cell) (columns widths cells ++ rest) width size, drop_at (column width cell) (columns widths cells ++ rest) width size)
     (ap (λ (columns : List (List ℕ)). column width cell ∷ columns) (cut-columns widths cells rest others))
+cut-columns [] (cell ∷ cells) rest fit = elim fit [ ]
+cut-columns (width ∷ widths) [] rest fit = elim fit [ ]
 
 behind-spaces : (n : ℕ) (bytes : List ℕ) → behind_spaces (replicate n space ++ bytes) ≡ behind_spaces bytes
 unfolding behind_spaces

@@ -1,6 +1,6 @@
 -- Worked examples, computed from the definitions: columns and the lines of each kind as they stand on paper, and all that is read off the page of section 8's path.
 use mathlib.Core.Path.{◌≡◌, refl}
-use mathlib.Core.List.{List, [], ◌∷◌}
+use mathlib.Core.List.{[], ◌∷◌}
 use Prim.Native.Nat.{ℕ}
 use Rattle.quantity.specs.Rounding.{round_up}
 use Rattle.quantity.specs.Divisors.{euclid, gcd}

@@ -1,5 +1,7 @@
 // The figures of a sheet's path on a page of text in columns (document 02, item 4).
 
+#![tactic(auto)]
+
 ghost use Rattle.std.specs.Prelude.{◌≡◌};
 ghost use Rattle.page.specs.Answers.{page_answer, bytes_paged};
 

@@ -321,7 +321,13 @@ module _ (path : Path) (run : Run) (words : List ℕ) (account : Account) (arriv
             ≡ latest_total (words_used (operator_at path k)) (flow_of (arrived_then k)) (account_next path account call).slot a
         unfolding account_next latest_total words_used
         latest-then d delays a below =
-            rw (add-one, joined.latest k less a below, latest-same (words_used (operator_at path k)) (flow_of (arrived k)) (flow_of (arrived_then k)) account.slot (arrived-agree k) a, delays)
+            let uses : words_used (operator_at path k) ≡ d = ap words_used delays in
+            let then = flow_of (arrived_then k) in
+            let newest = total then (suc account.slot) % wrap in
+            let before = latest_total (words_used (operator_at path k)) then account.slot a in
+            ap (pick (eqb a (account.slot % d)) newest) (joined.latest k less a below ∙ latest-same (words_used (operator_at path k)) (flow_of (arrived k)) then account.slot (arrived-agree k) a)
+            ∙ ap (λ (n : ℕ). pick (eqb a (account.slot % n)) newest before) (sym uses)
+            ∙ sym (ap (λ (n : ℕ). latest_total (words_used (operator_at path k)) then n a) (add-one account.slot))
 
         then-latest : (a : ℕ) → a < words_used (operator_at path k)
             → word_at (operator_words words_then k) a ≡ latest_total (words_used (operator_at path k)) (flow_of (arrived_then k)) (account_next path account call).slot a

@@ -7,7 +7,7 @@ use mathlib.Core.Logic.{◌⊎◌, inl, inr, ⊎_elim}
 use native.Mathlib.Nat.{not-suc-le-zero, le_of_suc-le-suc, eq-or-lt_of_le}
 use native.Mathlib.Numerals.{add-one}
 use native.Mathlib.Omega.{arith}
-use borrow.Author.Tests.{ltb-true, ltb-false, lt-ltb, le-leb, lt-leb, leb-true, eqb-true, not-true, not-false}
+use borrow.Author.Tests.{ltb-true, ltb-false, le-leb, lt-leb, eqb-true, not-false}
 use lib.Dec.{leb, ltb}
 use lib.ListN.{length, get_or, set, take, drop, length-set}
 use lib.Seq.{get_or-set_same, get_or-set_other}
@@ -19,7 +19,7 @@ use Rattle.quantity.specs.declared.Units.{Units}
 use Rattle.quantity.specs.declared.refusal.Refusal.{Refusal}
 use Rattle.quantity.specs.declared.refusal.Refusal.TheVariants.{Unusable, ChoiceAboveGreatest}
 use Rattle.quantity.proofs.Laws.{either-false}
-use Rattle.quantity.proofs.Sums.{both_true, every-at, every-next}
+use Rattle.quantity.proofs.Sums.{every-next}
 use Rattle.quantity.proofs.Refusals.{NoneStands, none-of-both, FirstIs, first-of-more}
 use Rattle.operator.specs.Held.{Held}
 use Rattle.operator.specs.Operators.{number_in_range}
@@ -28,14 +28,14 @@ use Rattle.operator.specs.Parts.{most_on_the_way}
 use Rattle.operator.specs.Ring.{path_holds, path_unusable, path_choice_above, path_sent, path_holds_next, storable, path_advanced, path_unready, path_holds_sent, ring_place, advanced_of}
 use Rattle.operator.specs.declared.ring.PathOperator.{PathOperator}
 use Rattle.operator.specs.declared.ring.Advanced.{Advanced}
-use Rattle.operator.proofs.RingLaws.{PathUsable, path-stored-usable, is-ready}
+use Rattle.operator.proofs.RingLaws.{path-stored-usable, is-ready}
 use Rattle.sheet.specs.Bodies.{part}
 use Rattle.run.specs.declared.Stage.{Stage}
 use Rattle.run.specs.declared.Run.{Run}
 use Rattle.run.specs.declared.stages.Progress.{Progress}
 use Rattle.run.specs.declared.test.Begun.{Begun}
-use Rattle.run.specs.Calls.{Call, choice_for, choices_miscounted, amount_too_large, call_of}
-use Rattle.run.specs.Runs.{operator_at_word, operator_words, no_stage, stage_at, operator_of, operator_in, stage_fits, run_unusable}
+use Rattle.run.specs.Calls.{Call, choices_miscounted, amount_too_large, call_of}
+use Rattle.run.specs.Runs.{operator_at_word, operator_words, no_stage, stage_at, operator_of, operator_in, stage_fits}
 use Rattle.run.specs.Slots.{input_into, choice_above_at, choice_cases, run_holds_next, leaves_too_much_at, slot_leaves_too_much, operator_next, stage_next, slot_cases}
 use Rattle.run.specs.Steps.{awaited_in, not_begun, meter_begun_of, begun_of, stage_kept, first_progress, once_sent, once_unusable, once_above, decision_cases}
 use Rattle.run.proofs.PathAnswers.{path-sent-fits, path-b-le, Sending, sends-told, above-told, unusable-told}
@@ -171,7 +171,7 @@ moving-start run words choices input {begun} same full {p} first places sixteen 
 stage-advanced : (run : Run) (words : List ℕ) (call : Call) (k : ℕ)
     → stage_kept (path_advanced (operator_in run k) (input_into run words call k) (input_into run words call (suc k)) (run_holds_next run words call k).b (run_holds_next run words call k).h) ≡ stage_next run words call k
 unfolding stage_kept path_advanced stage_next operator_next operator_in
-stage-advanced run words call k = refl
+stage-advanced run words _ k = refl
 
 -- one operator on
 module _ {run : Run} {words choices : List ℕ} {input : Units} (ready : Ready run words input choices)

@@ -58,6 +58,7 @@ unfolding choices_too_large
 never-unusable path account call (suc n) first =
     ⊎_elim (never-unusable path account call n) (⊎_elim (λ here. (let same = here.1 in let z : ◌≡◌ {A = ℕ} 0 1 = cc in omega arith)) (λ rest. rest.1))
     (first-of-each Unusable (choices_too_large path account call n) _ first)
+never-unusable path account call zero first = elim first [ ]
 
 unusable-tested : (path : Path) (account : Account) (call : Call) → account_answer path account call ≡ Outcome.Refused Unusable
     → (choices_miscounted (length path.operators) call ≡ true) ⊎ (amount_too_large call ≡ true) ⊎ (slots_used_up account ≡ true)

@@ -6,18 +6,16 @@ use mathlib.Core.Logic.{◌⊎◌, inl, inr}
 use Prim.Native.Nat.{ℕ, ◌+◌, ◌-◌, ◌/◌, ◌%◌, ◌<◌}
 use native.Mathlib.Nat.{zero-add, div-add-mod', mod-lt}
 use native.Mathlib.Omega.{arith}
-use lib.Dec.{ltb, eqb}
-use lib.ListN.{length, get_or, set, take, drop, length-set}
+use lib.Dec.{ltb}
+use lib.ListN.{length, get_or, take, drop}
 use borrow.Author.Tests.{ltb-true, ltb-false}
 use Rattle.quantity.specs.Limits.{most_operators}
-use Rattle.quantity.specs.Choice.{pick, both}
+use Rattle.quantity.specs.Choice.{pick}
 use Rattle.quantity.specs.Sums.{list_of}
-use Rattle.quantity.specs.declared.Slots.{Slots}
 use Rattle.quantity.specs.declared.Units.{Units}
 use Rattle.quantity.proofs.Sums.{list_of-ext}
 use Rattle.words.specs.Stored.{word_at, word_noted}
-use Rattle.operator.specs.Operators.{number_in_range}
-use Rattle.operator.specs.Single.{word_count, uses_held}
+use Rattle.operator.specs.Single.{word_count}
 use Rattle.operator.specs.Ring.{ring_noted}
 use Rattle.words.proofs.StoredLaws.{length-noted}
 use Rattle.meter.specs.Meter.{meter_word_count}
@@ -25,7 +23,6 @@ use Rattle.meter.specs.Parts.{input_place, awaited_of, block_behind}
 use Rattle.meter.specs.declared.parts.Awaited.{Awaited}
 use Rattle.operator.specs.declared.ring.PathOperator.{PathOperator}
 use Rattle.sheet.specs.Bodies.{part}
-use Rattle.run.specs.declared.Stage.{Stage}
 use Rattle.run.specs.declared.Run.{Run}
 use Rattle.run.specs.Runs.{run_word_count, meter_words, operator_at_word, operator_words, no_stage, stage_at, meter_in, operator_of, operator_in}
 use Rattle.run.specs.Steps.{awaited_in, block_written, meter_noted, with_part, stage_word, word_written}

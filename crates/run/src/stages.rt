@@ -123,8 +123,8 @@ pub(crate) fn write_meter(
     input: Units,
 ) -> Units
     requires { taken ≡ true → (length words.old ≡ run_word_count) × (input.0 ≤ largest_amount) }
-    ensures value { taken ≡ true → (result ≡ block_behind awaited input) × (words.new ≡ with_part 0 (word_noted (meter_words words.old) awaited.at input.0) words.old) }
-    ensures value_2 { taken ≡ false → (result ≡ block) × (words.new ≡ words.old) }
+    ensures written { taken ≡ true → (result ≡ block_behind awaited input) × (words.new ≡ with_part 0 (word_noted (meter_words words.old) awaited.at input.0) words.old) }
+    ensures kept { taken ≡ false → (result ≡ block) × (words.new ≡ words.old) }
 {
     if taken {
         note_input(awaited.at, words, input);

@@ -1,6 +1,5 @@
 -- Of what was read: with rows there is a table; else none is read. Beside a refusal the path is the empty one, and else it is what was read.
 use mathlib.Core.Path.{◌≡◌, sym, ap₂, ◌∙◌}
-use mathlib.Core.Logic.{⊎_elim}
 use Rattle.sheet.specs.declared.PathValue.{PathValue}
 use Rattle.sheet.specs.declared.read.Verdict.{Verdict}
 use Rattle.figures.specs.declared.PathFigures.{PathFigures}
@@ -25,8 +24,8 @@ planned-path : (c : Joined-has_rows) → figures_with c.read-answer.result.verdi
 planned-path c =
     let answered = figures-answered c.args.sheet.now c.read-answer.ensures in
     elim c.if-has_rows.branch [
-      then-has_rows w ↦ rw w.planned-is (w.figures_of_rows-planned.ensures ∙ answered)
-    | else-has_rows w ↦ rw w.planned-is (w.figures_read-planned.ensures ∙ answered)
+      | then-has_rows w ↦ rw w.planned-is (w.figures_of_rows-planned.ensures ∙ answered)
+      | else-has_rows w ↦ rw w.planned-is (w.figures_read-planned.ensures ∙ answered)
     ]
 
 -- and the verdict and the path are as it has them

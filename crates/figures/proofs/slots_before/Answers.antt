@@ -3,7 +3,7 @@ use Prim.Native.Nat.{◌-◌, ◌≤◌}
 use native.Mathlib.Omega.{arith}
 use Rattle.quantity.specs.Sums.{total}
 use Rattle.quantity.proofs.Sums.{total-zero, total-next}
-use Rattle.figures.specs.Carried.{slots_of, slots_before}
+use Rattle.figures.specs.Carried.{slots_before}
 use Rattle.figures.proofs.slots_before.Goals as goal
 use Rattle.figures.proofs.slots_before.Invariants.{slots_at}
 use Rattle.figures.proofs.slots_before.Goals.{After-slots_of}

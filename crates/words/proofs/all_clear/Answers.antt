@@ -1,4 +1,4 @@
-use Rattle.std.proofs.Common.{◌≡◌, ◌+◌, ◌-◌, ◌%◌, ◌≤◌, true, length, sym, refl, ap, ◌∙◌, arith}
+use Rattle.std.proofs.Common.{◌≡◌, ◌+◌, ◌-◌, ◌%◌, ◌≤◌, length, sym, refl, ap, ◌∙◌, arith}
 use Rattle.quantity.specs.Sums.{every}
 use Rattle.quantity.proofs.Sums.{every-at, every_holds}
 use Rattle.words.specs.Stored.{clear_at}

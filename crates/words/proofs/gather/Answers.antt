@@ -1,4 +1,4 @@
-use Rattle.std.proofs.Common.{ℕ, ◌+◌, ◌-◌, ◌%◌, ◌^◌, ◌≤◌, length, sym, ap, ◌∙◌, ap₂, le_refl, arith}
+use Rattle.std.proofs.Common.{ℕ, ◌+◌, ◌%◌, ◌^◌, ◌≤◌, length, sym, ap, ◌∙◌, ap₂, le_refl, arith}
 use lib.Bits.{bit_or}
 use Rattle.quantity.proofs.Sums.{total-zero}
 use Rattle.words.specs.Gathering.{gathered_of}

@@ -1,4 +1,4 @@
-use Rattle.std.proofs.Common.{◌≡◌, ℕ, ◌-◌, ◌%◌, ◌^◌, length, sym, ap, ◌∙◌, ap₂, arith}
+use Rattle.std.proofs.Common.{◌≡◌, ℕ, ◌%◌, ◌^◌, length, sym, ap, ◌∙◌, ap₂, arith}
 use lib.Bits.{bit_or}
 use Rattle.quantity.specs.Sums.{total}
 use Rattle.quantity.proofs.Sums.{total-zero, total-next}

@@ -1,4 +1,4 @@
-use Rattle.std.proofs.Common.{◌≡◌, ℕ, ◌-◌, length, sym, ap, ◌∙◌, arith}
+use Rattle.std.proofs.Common.{◌≡◌, ℕ, length, sym, ap, ◌∙◌, arith}
 use lib.Bits.{bit_or}
 use Rattle.words.specs.Stored.{word_at}
 use Rattle.words.specs.Gathering.{joined}

@@ -11,6 +11,6 @@ unfolding stored_fits
 returns c =
     let amount = c.args.amount in
     elim c.if-used.branch [
-      then-used w ↦ ap (leb amount) w.most-is ∙ sym (pick_true _ _ _ w.if-used.true)
-    | else-used w ↦ ap (leb amount) w.most-is ∙ sym (pick-false _ _ _ w.if-used.false ∙ eqb-zero amount)
+      | then-used w ↦ ap (leb amount) w.most-is ∙ sym (pick_true _ _ _ w.if-used.true)
+      | else-used w ↦ ap (leb amount) w.most-is ∙ sym (pick-false _ _ _ w.if-used.false ∙ eqb-zero amount)
     ]

@@ -1,4 +1,4 @@
-use Rattle.std.proofs.Common.{◌≡◌, ◌-◌, length, sym, ap, ◌∙◌, arith}
+use Rattle.std.proofs.Common.{◌≡◌, length, sym, ap, ◌∙◌, arith}
 use Rattle.quantity.specs.Sums.{total}
 use Rattle.quantity.proofs.Sums.{total-zero, total-next}
 use Rattle.words.specs.Stored.{word_at}

@@ -1,6 +1,5 @@
 -- The smaller of the two rates; the burst is kept, or taken anew at the rate that takes its place.
 use mathlib.Core.Path.{◌≡◌, ◌∙◌}
-use mathlib.Core.Logic.{⊎_elim}
 use native.Mathlib.Nat.{min-eq_left, min-eq_right, le_of_lt}
 use Rattle.operator.specs.FilterPart.{filtered, slower}
 use Rattle.figures.specs.Carried.{class_in, slowest_in}

@@ -11,8 +11,8 @@ rows_below-rows-requires c = c.rows_tested.ensures c.if-rows_tested.true
 
 pub returns-then-rows-le-MOST_EXACT : goal.returns-then-rows-le-MOST_EXACT
 returns-then-rows-le-MOST_EXACT c =
-    let (fit, least) = c.rows_below-rows.ensures.meter_word_count_value c.if-rows-le-MOST_EXACT.true in
-    counted-rows _ _ (c.rows_tested.ensures c.if-rows_tested.true) fit least c.rows_below-rows.ensures.at_value
+    let (fit, least) = c.rows_below-rows.ensures.counted c.if-rows-le-MOST_EXACT.true in
+    counted-rows _ _ (c.rows_tested.ensures c.if-rows_tested.true) fit least c.rows_below-rows.ensures.placed
 
 pub counted_by_scan-requires : goal.counted_by_scan-requires
 counted_by_scan-requires c = sym c.uses_block.ensures ∙ c.if-uses_block.false

@@ -52,4 +52,4 @@ returns c =
     let (rows, visited) = c.loop-i.invariant in
     let all : c.loop-i.i ≡ c.args.state.declaration.count = omega (arith, visited.passed) in
     let visited = rw (ring, all) at visited in
-    record { meter_word_count_value = λ within. (visited-fits _ _ c.requires visited within, visited-least _ _ c.requires visited within); at_value = ap (λ (n : ℕ). c.args.state.slot.0 % n) ring }
+    record { counted = λ within. (visited-fits _ _ c.requires visited within, visited-least _ _ c.requires visited within); placed = ap (λ (n : ℕ). c.args.state.slot.0 % n) ring }

@@ -30,7 +30,7 @@ overflow_add-there c = let known = tested (goal.at.overflow_add-there c).Else-un
 
 pub least-low-requires : goal.least-low-requires
 least-low-requires c =
-    let known = tested (goal.at.least-low-requires c).Else-undecidable in record { operator_value = (inside (goal.at.least-low-requires c).Else-not-number_in_range, known.fits.sized, known.fits.slot_left); held_le_largest_amount = (known.fits.first_le, known.fits.second_le, known.input_le) }
+    let known = tested (goal.at.least-low-requires c).Else-undecidable in record { operates = (inside (goal.at.least-low-requires c).Else-not-number_in_range, known.fits.sized, known.fits.slot_left); amounts_within = (known.fits.first_le, known.fits.second_le, known.input_le) }
 
 pub returns-then-less-choice : goal.returns-then-less-choice
 returns-then-less-choice c =

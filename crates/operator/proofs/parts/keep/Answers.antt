@@ -42,4 +42,4 @@ returns c =
     let written = c.keep_newest in
     let used = c.words_used.ensures in
     kept-newest _ _ _ _ _ (passed (goal.at.returns c).Else-unfit) (inside (goal.at.returns c).Else-not-number_in_range) written.new.words (written.auto.words ∙ (tested (goal.at.returns c).Else-unfit).sized)
-    (λ a less. written.ensures.a_after _ refl a (rw used less)) (λ a more. written.ensures.by_index a (rw used more)) _ c.held_apart.ensures
+    (λ a less. written.ensures.kept_below _ refl a (rw used less)) (λ a more. written.ensures.same_behind a (rw used more)) _ c.held_apart.ensures

@@ -44,8 +44,8 @@ returns c =
     let same : (x : Held) → x.past ≡ word_at start.words.now → (a : ℕ) → of_age x start.input a ≡ aged start.words.now start.input a = λ x e a.
     of-age-same x _ start.input a e
     in record {
-      a_after = (λ x e a less.
+      kept_below = (λ x e a less.
           inv.2 a (omega arith)
           ∙ sym (ap₂ (λ (n t : ℕ). min n (start.kept - t)) (same x e a) (total-same _ _ a (λ k h. same x e k))));
-      by_index = λ a more. inv.3 a (omega arith);
+      same_behind = λ a more. inv.3 a (omega arith);
     }

@@ -13,21 +13,21 @@ use Rattle.operator.proofs.parts.least.Goals as goal
 
 pub compactor_sends-requires : goal.compactor_sends-requires
 unfolding number_in_range
-compactor_sends-requires c = omega (arith, least-le interval_range _ (sym (ap number_in_range c.in-Compactor.is) ∙ c.requires.operator_value.0))
+compactor_sends-requires c = omega (arith, least-le interval_range _ (sym (ap number_in_range c.in-Compactor.is) ∙ c.requires.operates.0))
 
 pub expander_least-requires : goal.expander_least-requires
 unfolding number_in_range
 expander_least-requires c =
-    (omega (arith, least-le interval_range _ (sym (ap number_in_range c.in-Expander.is) ∙ c.requires.operator_value.0)), c.requires.operator_value.2)
+    (omega (arith, least-le interval_range _ (sym (ap number_in_range c.in-Expander.is) ∙ c.requires.operates.0)), c.requires.operates.2)
 
 pub overflow_sub-oldest : goal.overflow_sub-oldest
 unfolding number_in_range
-overflow_sub-oldest c = least-le delay_range _ (sym (ap number_in_range c.in-Delayer.is) ∙ c.requires.operator_value.0)
+overflow_sub-oldest c = least-le delay_range _ (sym (ap number_in_range c.in-Delayer.is) ∙ c.requires.operates.0)
 
 pub bounds-words-oldest : goal.bounds-words-oldest
 unfolding number_in_range
 bounds-words-oldest c =
-    let inside = sym (ap number_in_range c.in-Delayer.is) ∙ c.requires.operator_value.0 in
+    let inside = sym (ap number_in_range c.in-Delayer.is) ∙ c.requires.operates.0 in
     omega (arith, least-le delay_range _ inside, le-largest delay_range _ inside)
 
 pub overflow_cast-result : goal.overflow_cast-result
@@ -52,4 +52,4 @@ returns-in-Filter c = record { value = rw c.in-Filter.is (omega (arith, c.less.e
 pub returns-in-Delayer : goal.returns-in-Delayer
 unfolding least_output limiter_least compactor_least expander_least filter_least beside_after delayer_least number_in_range
 returns-in-Delayer c =
-    let inside = sym (ap number_in_range c.in-Delayer.is) ∙ c.requires.operator_value.0 in record { value = rw c.in-Delayer.is (sym (of-age-past _ _ _ (least-le delay_range _ inside))); upper_bound = omega (arith, c.shared_slice_known-in-Delayer-1.given (c.in-Delayer.delay.0 - 1)) }
+    let inside = sym (ap number_in_range c.in-Delayer.is) ∙ c.requires.operates.0 in record { value = rw c.in-Delayer.is (sym (of-age-past _ _ _ (least-le delay_range _ inside))); upper_bound = omega (arith, c.shared_slice_known-in-Delayer-1.given (c.in-Delayer.delay.0 - 1)) }

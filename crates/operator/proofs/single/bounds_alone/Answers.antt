@@ -27,7 +27,7 @@ returns-then-not-number_in_range c = bounds-outside _ _ _ (none-unusable _ _ _ c
 
 pub least-low-requires : goal.least-low-requires
 least-low-requires c =
-    let (stored, same) = found (goal.at.least-low-requires c).In-Holds in record { operator_value = (inside (goal.at.least-low-requires c).Else-not-number_in_range, stored.sized, stored.slot_left); held_le_largest_amount = (omega (arith, b-le _ _ stored), beside-le _ _ stored, omega (arith, c.if-input-gt-LARGEST.false)) }
+    let (stored, same) = found (goal.at.least-low-requires c).In-Holds in record { operates = (inside (goal.at.least-low-requires c).Else-not-number_in_range, stored.sized, stored.slot_left); amounts_within = (omega (arith, b-le _ _ stored), beside-le _ _ stored, omega (arith, c.if-input-gt-LARGEST.false)) }
 
 pub overflow_add-held : goal.overflow_add-held
 overflow_add-held c =
