@@ -1,6 +1,6 @@
 // What can be wrong with a line of a path's text, and the words for it.
 
-use console::words::error_of;
+use console::tables::error_of;
 use std::io;
 use std::io::Write;
 

@@ -8,4 +8,4 @@ pub mod numbers;
 pub mod paper;
 pub mod print;
 pub mod rows;
-pub mod words;
+pub mod tables;

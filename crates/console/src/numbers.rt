@@ -2,7 +2,7 @@
 
 ghost use Rattle.std.specs.Prelude.{◌≡◌, min};
 
-use crate::words::error_of;
+use crate::tables::error_of;
 use std::io;
 use std::io::Write;
 use text::decimal::{Decimals, decimals_from};

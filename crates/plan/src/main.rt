@@ -10,7 +10,7 @@ use console::listing::list;
 use console::numbers::{narrow, numbers_of};
 use console::paper::print_page;
 use console::print::{end_line, error, hexadecimal, labelled, number, refused, text};
-use console::words::{Found, error_of, find, row};
+use console::tables::{Found, error_of, find, row};
 use ledger::opening::no_ledger;
 use ledger::spare::spare_rate;
 use ledger::{Ledger, Record, no_record};

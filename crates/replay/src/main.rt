@@ -6,7 +6,7 @@ ghost use Rattle.std.specs.Prelude.{◌≤◌, length};
 
 use console::input::{Input, advance, begin};
 use console::print::{end_line, error, labelled, refused, text};
-use console::words::error_of;
+use console::tables::error_of;
 use quantity::Units;
 use run::Run;
 use run::opening::{no_run, open};

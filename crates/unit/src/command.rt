@@ -1,7 +1,7 @@
 // The commands: what each begins with, whom it is for, and how many numbers follow.
 
 use console::numbers::numbers_of;
-use console::words::{Found, find};
+use console::tables::{Found, find};
 use std::io;
 use std::io::Write;
 

@@ -18,12 +18,12 @@ use crate::command::{
     BOUNDS, Command, ROOM, ROWS_METER, SET_BLOCK, SET_HELD, SET_SLOT, SMOOTH_METER, UNKNOWN,
     command_in, with_numbers,
 };
-use crate::words::clear;
+use crate::lent::clear;
 use console::input::{Input, advance, begin};
 use console::numbers::{narrow, pairs_of};
 use console::print::error;
 use console::rows::rows_of;
-use console::words::{Found, error_of};
+use console::tables::{Found, error_of};
 use flow::{Declaration, Kind};
 use meter::SourceMeter;
 use operator::{Operator, SingleOperator};
@@ -32,10 +32,10 @@ use std::io;
 use std::io::Write;
 
 mod command;
+mod lent;
 mod metering;
 mod setting;
 mod single;
-mod words;
 
 // Which unit there is.
 #[derive(Clone, Copy)]

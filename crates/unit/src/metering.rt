@@ -1,10 +1,10 @@
 // A meter's commands.
 
 use crate::command::{Command, ROOM, SET_BLOCK, SET_SLOT, SET_WORD, STATE, TAKE, WORDS};
+use crate::lent::{list_words, set_word};
 use crate::setting::{set_slot, set_units};
-use crate::words::{list_words, set_word};
 use console::print::refused;
-use console::words::row;
+use console::tables::row;
 use meter::{Intake, Room, SourceMeter, room_left};
 use quantity::{Slots, Units};
 use std::io;

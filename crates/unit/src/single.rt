@@ -5,10 +5,10 @@ ghost use Rattle.std.specs.Prelude.{◌≤◌, length};
 use crate::command::{
     BOUNDS, Command, SET_BESIDE, SET_HELD, SET_SLOT, SET_WORD, STATE, STEP, WORDS,
 };
+use crate::lent::{list_words, set_word};
 use crate::setting::{set_slot, set_units};
-use crate::words::{list_words, set_word};
 use console::print::refused;
-use console::words::row;
+use console::tables::row;
 use operator::SingleOperator;
 use operator::parts::{Stored, stored_in};
 use operator::single::{Bounds, Stepped, bounds_alone, step_alone};

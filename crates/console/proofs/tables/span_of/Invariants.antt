@@ -1,6 +1,6 @@
 -- So many words are passed as the index says, or all.
 use Rattle.std.proofs.Common.{length, ◌≤◌}
-use Rattle.console.proofs.words.span_of.Given as goal
+use Rattle.console.proofs.tables.span_of.Given as goal
 
 abbrev pub invariant-loop-left : goal.invariant-loop-left
 invariant-loop-left l = (l.from ≤ l.end) × (l.end ≤ length l.table)

@@ -1,6 +1,6 @@
 -- A loop of 1,024 turns.
 use Rattle.std.proofs.Common.{◌-◌, ◌≤◌}
-use Rattle.unit.proofs.words.clear.Given as goal
+use Rattle.unit.proofs.lent.clear.Given as goal
 
 abbrev pub invariant-loop-j : goal.invariant-loop-j
 invariant-loop-j l = l.j ≤ 1024

@@ -5,7 +5,7 @@ ghost use Rattle.std.specs.Prelude.{◌≤◌};
 use crate::command::Command;
 use console::numbers::narrow;
 use console::print::{end_line, error, labelled, text};
-use console::words::row;
+use console::tables::row;
 use std::io;
 use std::io::Write;
 

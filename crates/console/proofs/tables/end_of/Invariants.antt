@@ -1,6 +1,6 @@
 -- The end goes on to the table's end at most.
 use Rattle.std.proofs.Common.{length, ◌-◌, ◌≤◌}
-use Rattle.console.proofs.words.end_of.Given as goal
+use Rattle.console.proofs.tables.end_of.Given as goal
 
 abbrev pub invariant-loop-end : goal.invariant-loop-end
 invariant-loop-end l = (l.from ≤ l.end) × (l.end ≤ length l.table)
