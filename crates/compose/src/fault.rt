@@ -1,6 +1,8 @@
 // What can be wrong with a line of a path's text, and the words for it.
 
-use console::words::error_of;
+use console::tables::error_of;
+use std::io;
+use std::io::Write;
 
 // The place of a fault's words in their table. The first are those of a quantity out of its range, in the order of the quantities.
 #[derive(Clone, Copy)]
@@ -34,8 +36,9 @@ impl Fault {
     pub const LINE_TOO_LONG: Fault = Fault(22);
 }
 
-pub(crate) fn say(line: u64, why: Fault) {
+pub(crate) fn say<W: Write>(out: &mut W, line: u64, why: Fault) -> io::Result<()> {
     error_of(
+        out,
         line,
         b"profile out of range|hops out of range|delay wanted out of range|interval out of range|\
           quota out of range|rate out of range|packet out of range|packet out of range|\
@@ -44,5 +47,5 @@ pub(crate) fn say(line: u64, why: Fault) {
           delayer of more than 64 slots|link is missing|smooth, uniform or rows is missing here|\
           wanted is missing here|a line is missing|a line too many|line too long",
         why.0,
-    );
+    )
 }

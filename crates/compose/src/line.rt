@@ -6,7 +6,7 @@ use crate::fault::Fault;
 use crate::numbers::{Reached, Read, behind_label, number_from, numbers_from};
 use crate::profile::{house_of, profile_from};
 use crate::range::{fits, quantity_of};
-use console::words::find;
+use console::tables::find;
 
 // The words that a line begins with, by their place in the table of words. The operators have the numbers of document 01, section 5.
 pub(crate) const DELAYER: usize = 4;

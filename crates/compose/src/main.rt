@@ -1,6 +1,8 @@
 // A path as text, one thing a line in the order of the sheet, becomes the sheet's bytes (document 01, sections 1 and 5).
 // Behind a first line `hex` there are many, each ended by an empty line and answered by its bytes in hexadecimal or by its error.
 
+#![tactic(auto)]
+
 ghost use Rattle.std.specs.Prelude.{◌≤◌};
 
 use crate::fault::{Fault, say};
@@ -10,6 +12,8 @@ use console::input::{Input, advance, begin};
 use console::print::{hexadecimal, refused, text};
 use sheet::write::{Written, write};
 use sheet::{PathValue, no_path};
+use std::io;
+use std::io::Write;
 use text::line::starts_with;
 
 mod fault;
@@ -40,7 +44,9 @@ struct Draft {
     ended: bool,
 }
 
-fn main() {
+fn main(rt: HostRuntime) -> io::Result<()> {
+    let mut stdin = rt.stdin();
+    let mut out = rt.stdout();
     let mut block = [0u8; 4096];
     let mut line = [0u8; 1023];
     let mut input = begin();
@@ -54,16 +60,17 @@ fn main() {
     // A proved loop has to end, and nothing says that the input does, so the loop counts down from a number that no input uses up.
     let mut turns = u64::MAX;
     while turns > 0 && !input.ended && !draft.ended {
-        input = advance(input, &mut block, &mut line);
+        input = advance(&mut stdin, input, &mut block, &mut line)?;
         if input.whole {
             let mut numbers = [0u64; 10];
             let said = said_in(input, draft.many, &line, &mut numbers);
-            path = path_behind(path, draft, input.lines, said, &numbers);
-            draft = draft_behind(draft, input.lines, said);
+            path = path_behind(&mut out, path, draft, input.lines, said, &numbers)?;
+            draft = draft_behind(&mut out, draft, input.lines, said)?;
         }
         turns -= 1;
     }
-    end_text(draft, path, std::num::wrapping_add_u64(input.lines, 1));
+    let lines = std::num::wrapping_add_u64(input.lines, 1);
+    end_text(&mut out, draft, path, lines)
 }
 
 // What a line says. `hex` is known as the first line alone, and an empty line behind it.
@@ -94,30 +101,36 @@ fn is_hexadecimal(line: &[u8]) -> bool {
 }
 
 // A part goes into the path wherever it stands, since the path of a wrong line is not written. An empty line ends the path, if there is any.
-fn path_behind(
+fn path_behind<W: Write>(
+    out: &mut W,
     path: PathValue,
     draft: Draft,
     lines: u64,
     said: Said,
     numbers: &[u64; 10],
-) -> PathValue {
+) -> io::Result<PathValue> {
     match said {
-        Said::Part { word, count } => return path_with(path, word, count, numbers),
+        Said::Part { word, count } => return Ok(path_with(path, word, count, numbers)),
         Said::Nothing => {
             if draft.next != FIRST {
-                answer(draft, path, lines);
+                answer(out, draft, path, lines)?;
             }
-            return no_path();
+            return Ok(no_path());
         }
         _ => {}
     }
-    path
+    Ok(path)
 }
 
-fn draft_behind(mut draft: Draft, lines: u64, said: Said) -> Draft {
+fn draft_behind<W: Write>(
+    out: &mut W,
+    mut draft: Draft,
+    lines: u64,
+    said: Said,
+) -> io::Result<Draft> {
     match said {
-        Said::Part { word, count: _ } => return take(draft, lines, word),
-        Said::Wrong(why) => return fail(draft, lines, why),
+        Said::Part { word, count: _ } => return take(out, draft, lines, word),
+        Said::Wrong(why) => return fail(out, draft, lines, why),
         Said::Hexadecimal => draft.many = true,
         Said::Nothing => {
             if draft.next != FIRST {
@@ -126,17 +139,17 @@ fn draft_behind(mut draft: Draft, lines: u64, said: Said) -> Draft {
             draft.next = FIRST;
         }
     }
-    draft
+    Ok(draft)
 }
 
 // A part has to be the one that comes next. Behind a house profile comes nothing.
-fn take(mut draft: Draft, lines: u64, word: usize) -> Draft {
+fn take<W: Write>(out: &mut W, mut draft: Draft, lines: u64, word: usize) -> io::Result<Draft> {
     let this = place_of(word, draft.next);
     if this != draft.next {
-        return fail(draft, lines, order_fault(draft.next, this));
+        return fail(out, draft, lines, order_fault(draft.next, this));
     }
     draft.next = if word == PROFILE { NOTHING } else { this + 1 };
-    draft
+    Ok(draft)
 }
 
 // Which line of a path a word begins: an operator the third or, behind it, the one that comes next.
@@ -169,54 +182,55 @@ fn order_fault(next: usize, this: usize) -> Fault {
 }
 
 // There is no sheet then, and without `hex` the first wrong line is the last that is read. Of a path the first fault alone is said.
-fn fail(mut draft: Draft, lines: u64, why: Fault) -> Draft {
+fn fail<W: Write>(out: &mut W, mut draft: Draft, lines: u64, why: Fault) -> io::Result<Draft> {
     if draft.next != WRONG {
-        say(lines, why);
+        say(out, lines, why)?;
     }
     draft.next = WRONG;
     draft.ended = !draft.many;
-    draft
+    Ok(draft)
 }
 
 // The input ends, and with it the last path. A text without any path lacks a line.
-fn end_text(draft: Draft, path: PathValue, lines: u64) {
+fn end_text<W: Write>(out: &mut W, draft: Draft, path: PathValue, lines: u64) -> io::Result<()> {
     if draft.next == FIRST {
         if draft.answered {
-            return;
+            return Ok(());
         }
     }
-    answer(draft, path, lines);
+    answer(out, draft, path, lines)
 }
 
 // A wrong line was answered where it stood. Where an operator has come, or a house profile, nothing is missing.
-fn answer(draft: Draft, path: PathValue, lines: u64) {
+fn answer<W: Write>(out: &mut W, draft: Draft, path: PathValue, lines: u64) -> io::Result<()> {
     if draft.next == WRONG {
-        return;
+        return Ok(());
     }
     if OPERATORS < draft.next {
-        write_path(path, draft.many);
+        write_path(out, path, draft.many)
     } else {
-        say(lines, Fault::LINE_MISSING);
+        say(out, lines, Fault::LINE_MISSING)
     }
 }
 
-fn write_path(path: PathValue, in_hexadecimal: bool) {
+fn write_path<W: Write>(out: &mut W, path: PathValue, in_hexadecimal: bool) -> io::Result<()> {
     let mut sheet = [0u8; 256];
     match write(path, &mut sheet) {
-        Written::Refused(why) => refused(why),
+        Written::Refused(why) => refused(out, why),
         Written::Length(n) => {
             if n <= 256 {
-                write_bytes(&sheet[0..n], in_hexadecimal);
+                write_bytes(out, &sheet[0..n], in_hexadecimal)?;
             }
+            Ok(())
         }
     }
 }
 
-fn write_bytes(bytes: &[u8], in_hexadecimal: bool) {
+fn write_bytes<W: Write>(out: &mut W, bytes: &[u8], in_hexadecimal: bool) -> io::Result<()> {
     if in_hexadecimal {
-        hexadecimal(bytes);
-        text(b"\n");
+        hexadecimal(out, bytes)?;
+        text(out, b"\n")
     } else {
-        text(bytes);
+        text(out, bytes)
     }
 }

@@ -4,7 +4,7 @@ ghost use Rattle.std.specs.Prelude.{◌<◌, ◌≤◌, length};
 
 use crate::fault::Fault;
 use console::numbers::narrow;
-use console::words::find;
+use console::tables::find;
 use text::decimal::{Decimal, Decimals, decimal_at, decimals_from};
 
 const SPACE: u8 = 32;

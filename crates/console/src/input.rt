@@ -1,8 +1,11 @@
 // The lines of standard input, one after the other.
 
-ghost use Rattle.std.specs.Prelude.{◌≤◌};
+ghost use Rattle.std.specs.Prelude.{◌<◌, ◌≤◌, IfOk, length, take};
+ghost use Rattle.std.specs.Io.{ReadsAtMost};
+ghost use Rattle.std.specs.Io.KnownBytes.{Consumes, IsAtEnd};
 
-use libc::STDIN_FILENO;
+use std::io;
+use std::io::Read;
 use text::line::{Gathered, gather};
 
 const LINE_FEED: u8 = 10;
@@ -36,27 +39,48 @@ pub fn begin() -> Input
 
 // Goes on to the line's end or to the end of the block, whichever comes first; behind a whole line the next one begins.
 // Where the input ends, bytes without a line feed are a line too. A line of more bytes than there are places begins anew.
-pub fn advance(input: Input, block: &mut [u8; 4096], line: &mut [u8; 1023]) -> Input
-    ensures { result.length ≤ 1023 }
+pub fn advance<R: Read>(
+    from: &mut R,
+    input: Input,
+    block: &mut [u8; 4096],
+    line: &mut [u8; 1023],
+) -> io::Result<Input>
+    ensures { IfOk result (λ next. next.length ≤ 1023) }
 {
     let begun = begin_line(input);
     let count = begun.count;
     if count <= 4096 {
         if begun.at < count {
             let read = &block[..];
-            return gather_block(begun, &read[0..count], line);
+            return Ok(gather_block(begun, &read[0..count], line));
         }
     }
-    let got = libc::read(STDIN_FILENO, block);
-    let n = io::count(got, block);
+    let n = from.read(block)?;
     if n == 0 {
-        return end_input(begun);
+        return Ok(end_input(begun));
     }
     let mut next = begun;
     next.at = 0;
     next.count = n;
     let read = &block[..];
-    gather_block(next, &read[0..n], line)
+    Ok(gather_block(next, &read[0..n], line))
+}
+
+// Reads until all places are taken or the input ends, and answers how many bytes stand at the front.
+pub fn read_full<R: Read>(from: &mut R, bytes: &mut [u8]) -> io::Result<usize>
+    ensures count { ReadsAtMost result bytes.new }
+    ensures front { IfOk result (λ n. Consumes (R.remaining from.old) (R.remaining from.new) (take n bytes.new)) }
+    ensures short { IfOk result (λ n. n < length bytes.new → IsAtEnd (R.remaining from.new)) }
+{
+    let mut done = 0;
+    while done < bytes.len() {
+        let n = from.read(&mut bytes[done..])?;
+        if n == 0 {
+            return Ok(done);
+        }
+        done += n;
+    }
+    Ok(done)
 }
 
 fn begin_line(input: Input) -> Input

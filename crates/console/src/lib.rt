@@ -1,9 +1,11 @@
 // What the text programs share: the lines of standard input, the numbers of a command, and what is printed.
 
+#![tactic(auto)]
+
 pub mod input;
 pub mod listing;
 pub mod numbers;
 pub mod paper;
 pub mod print;
 pub mod rows;
-pub mod words;
+pub mod tables;

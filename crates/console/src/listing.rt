@@ -6,8 +6,10 @@ use operator::Operator;
 use quantity::Units;
 use sheet::PathValue;
 use sheet::read::Verdict;
+use std::io;
+use std::io::Write;
 
-pub fn list(sheet: &[u8]) {
+pub fn list<W: Write>(out: &mut W, sheet: &[u8]) -> io::Result<()> {
     let answer = figures::figures(sheet);
     let verdict = answer.verdict;
     match verdict {
@@ -15,12 +17,12 @@ pub fn list(sheet: &[u8]) {
             let path = answer.path;
             let figures = answer.figures;
             let capacity = sum(figures);
-            lines(path, figures);
-            labelled(b"path ", capacity.0);
-            labelled(b" ", answer.delay.0 as u64);
-            end_line();
+            lines(out, path, figures)?;
+            labelled(out, b"path ", capacity.0)?;
+            labelled(out, b" ", answer.delay.0 as u64)?;
+            end_line(out)
         }
-        Verdict::Refused(why) => refused(why),
+        Verdict::Refused(why) => refused(out, why),
     }
 }
 
@@ -36,7 +38,7 @@ fn sum(figures: [Figure; 16]) -> Units {
     capacity
 }
 
-fn lines(path: PathValue, figures: [Figure; 16]) {
+fn lines<W: Write>(out: &mut W, path: PathValue, figures: [Figure; 16]) -> io::Result<()> {
     let operators = path.operators;
     let count = path.count;
     let mut k = 0;
@@ -44,25 +46,26 @@ fn lines(path: PathValue, figures: [Figure; 16]) {
         let linked = operators[k];
         let operator = linked.operator;
         let figure = figures[k];
-        line(k, operator, figure);
+        line(out, k, operator, figure)?;
         k += 1;
     }
+    Ok(())
 }
 
-fn line(index: usize, operator: Operator, figure: Figure) {
-    number(index as u64);
-    kind(operator);
-    number(figure.capacity.0);
-    labelled(b" ", figure.delay.0 as u64);
-    end_line();
+fn line<W: Write>(out: &mut W, index: usize, operator: Operator, figure: Figure) -> io::Result<()> {
+    number(out, index as u64)?;
+    kind(out, operator)?;
+    number(out, figure.capacity.0)?;
+    labelled(out, b" ", figure.delay.0 as u64)?;
+    end_line(out)
 }
 
-fn kind(operator: Operator) {
+fn kind<W: Write>(out: &mut W, operator: Operator) -> io::Result<()> {
     match operator {
-        Operator::Limiter(_) => text(b" limiter "),
-        Operator::Compactor(_) => text(b" compactor "),
-        Operator::Expander(_) => text(b" expander "),
-        Operator::Filter(_) => text(b" filter "),
-        Operator::Delayer(_) => text(b" delayer "),
+        Operator::Limiter(_) => text(out, b" limiter "),
+        Operator::Compactor(_) => text(out, b" compactor "),
+        Operator::Expander(_) => text(out, b" expander "),
+        Operator::Filter(_) => text(out, b" filter "),
+        Operator::Delayer(_) => text(out, b" delayer "),
     }
 }

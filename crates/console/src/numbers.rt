@@ -2,7 +2,9 @@
 
 ghost use Rattle.std.specs.Prelude.{◌≡◌, min};
 
-use crate::words::error_of;
+use crate::tables::error_of;
+use std::io;
+use std::io::Write;
 use text::decimal::{Decimals, decimals_from};
 
 // The numbers of a command, one or two; of one, the second is 0.
@@ -14,7 +16,13 @@ pub struct Numbers {
 }
 
 // The numbers of a command from an index on, as many as are wanted; else the line is an error.
-pub fn numbers_of(lines: u64, command: &[u8], from: usize, wanted: usize) -> Numbers {
+pub fn numbers_of<W: Write>(
+    out: &mut W,
+    lines: u64,
+    command: &[u8],
+    from: usize,
+    wanted: usize,
+) -> io::Result<Numbers> {
     let mut numbers = [0u64; 2];
     let mut fault = 0;
     match decimals_from(command, from, &mut numbers) {
@@ -23,25 +31,31 @@ pub fn numbers_of(lines: u64, command: &[u8], from: usize, wanted: usize) -> Num
         Decimals::TooMany => fault = 2,
         Decimals::Count(n) => {
             if n == wanted {
-                return Numbers {
+                return Ok(Numbers {
                     given: true,
                     first: numbers[0],
                     second: numbers[1],
-                };
+                });
             }
             fault = if n < wanted { 3 } else { 2 };
         }
     }
-    numbers_wrong(lines, fault);
-    Numbers {
+    numbers_wrong(out, lines, fault)?;
+    Ok(Numbers {
         given: false,
         first: 0,
         second: 0,
-    }
+    })
 }
 
 // How many numbers a command has from an index on, two by two; 0: the line is an error.
-pub fn pairs_of(lines: u64, command: &[u8], from: usize, numbers: &mut [u64; 10]) -> usize {
+pub fn pairs_of<W: Write>(
+    out: &mut W,
+    lines: u64,
+    command: &[u8],
+    from: usize,
+    numbers: &mut [u64; 10],
+) -> io::Result<usize> {
     let mut fault = 3;
     match decimals_from(command, from, numbers) {
         Decimals::NotANumber => fault = 0,
@@ -49,20 +63,21 @@ pub fn pairs_of(lines: u64, command: &[u8], from: usize, numbers: &mut [u64; 10]
         Decimals::TooMany => fault = 2,
         Decimals::Count(n) => {
             if n % 2 == 0 {
-                return n;
+                return Ok(n);
             }
         }
     }
-    numbers_wrong(lines, fault);
-    0
+    numbers_wrong(out, lines, fault)?;
+    Ok(0)
 }
 
-fn numbers_wrong(lines: u64, fault: usize) {
+fn numbers_wrong<W: Write>(out: &mut W, lines: u64, fault: usize) -> io::Result<()> {
     error_of(
+        out,
         lines,
         b"not a number|number too large|too many numbers|too few numbers",
         fault,
-    );
+    )
 }
 
 // A number as a quantity of 32 bits takes it. What these do not hold is out of every range, as their largest number is.

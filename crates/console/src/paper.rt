@@ -2,11 +2,13 @@
 
 use crate::print::{refused, text};
 use page::{Paged, page};
+use std::io;
+use std::io::Write;
 
-pub fn print_page(sheet: &[u8]) {
+pub fn print_page<W: Write>(out: &mut W, sheet: &[u8]) -> io::Result<()> {
     let mut lent = [0u8; 1037];
     match page(sheet, &mut lent) {
-        Paged::Refused(why) => refused(why),
-        Paged::Length(length) => text(&lent[..length]),
+        Paged::Refused(why) => refused(out, why),
+        Paged::Length(length) => text(out, &lent[..length]),
     }
 }

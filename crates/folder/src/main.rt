@@ -1,10 +1,13 @@
 // Reads at most 256 bytes of one sheet from standard input and prints its page (document 02, item 4).
 
-use console::paper::print_page;
-use libc::STDIN_FILENO;
+#![tactic(auto)]
 
-fn main() {
+use console::input::read_full;
+use console::paper::print_page;
+use std::io;
+
+fn main(rt: HostRuntime) -> io::Result<()> {
     let mut bytes = [0u8; 256];
-    let n = io::read_full(STDIN_FILENO, &mut bytes);
-    print_page(&bytes[..n]);
+    let n = read_full(&mut rt.stdin(), &mut bytes)?;
+    print_page(&mut rt.stdout(), &bytes[..n])
 }

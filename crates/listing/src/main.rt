@@ -1,10 +1,13 @@
 // Reads at most 256 bytes of one sheet from standard input and lists its figures (document 01, section 8).
 
-use console::listing::list;
-use libc::STDIN_FILENO;
+#![tactic(auto)]
 
-fn main() {
+use console::input::read_full;
+use console::listing::list;
+use std::io;
+
+fn main(rt: HostRuntime) -> io::Result<()> {
     let mut bytes = [0u8; 256];
-    let n = io::read_full(STDIN_FILENO, &mut bytes);
-    list(&bytes[..n]);
+    let n = read_full(&mut rt.stdin(), &mut bytes)?;
+    list(&mut rt.stdout(), &bytes[..n])
 }

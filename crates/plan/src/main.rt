@@ -1,6 +1,8 @@
 // An evening's re-planning from text: one command a line, one answer each (document 01, sections 6 and 7).
 
-ghost use Rattle.std.specs.Prelude.{◌≤◌};
+#![tactic(auto)]
+
+ghost use Rattle.std.specs.Prelude.{◌≤◌, IfOk};
 
 use book::{confirm_path, hold_path, open_book, release_path};
 use console::input::{Input, advance, begin};
@@ -8,7 +10,7 @@ use console::listing::list;
 use console::numbers::{narrow, numbers_of};
 use console::paper::print_page;
 use console::print::{end_line, error, hexadecimal, labelled, number, refused, text};
-use console::words::{Found, error_of, find, row};
+use console::tables::{Found, error_of, find, row};
 use ledger::opening::no_ledger;
 use ledger::spare::spare_rate;
 use ledger::{Ledger, Record, no_record};
@@ -17,6 +19,8 @@ use quantity::refusal::Refusal;
 use sheet::PathValue;
 use sheet::read::{Verdict, read};
 use sheet::write::{Written, write};
+use std::io;
+use std::io::Write;
 use text::decimal::{Decimal, decimal_at};
 use text::hexadecimal::{Hexadecimal, hexadecimal_from};
 
@@ -76,7 +80,9 @@ struct Book {
     begun: bool,
 }
 
-fn main() {
+fn main(rt: HostRuntime) -> io::Result<()> {
+    let mut stdin = rt.stdin();
+    let mut out = rt.stdout();
     let mut block = [0u8; 4096];
     let mut line = [0u8; 1023];
     let mut sheet = [0u8; 512];
@@ -85,13 +91,14 @@ fn main() {
     // A proved loop has to end, and nothing says that the input does, so the loop counts down from a number that no input uses up.
     let mut turns = u64::MAX;
     while turns > 0 && !input.ended {
-        input = advance(input, &mut block, &mut line);
+        input = advance(&mut stdin, input, &mut block, &mut line)?;
         if input.whole {
-            let asked = read_input(input, &line, &mut sheet);
-            book = answer(book, input.lines, asked, &sheet);
+            let asked = read_input(&mut out, input, &line, &mut sheet)?;
+            book = answer(&mut out, book, input.lines, asked, &sheet)?;
         }
         turns -= 1;
     }
+    Ok(())
 }
 
 // No link has capacity yet, and no path stands.
@@ -107,51 +114,62 @@ fn no_book() -> Book {
 }
 
 // A line is whole, and is read.
-fn read_input(input: Input, line: &[u8; 1023], sheet: &mut [u8; 512]) -> Asked
+fn read_input<W: Write>(
+    out: &mut W,
+    input: Input,
+    line: &[u8; 1023],
+    sheet: &mut [u8; 512],
+) -> io::Result<Asked>
     requires { input.length ≤ 1023 }
-    ensures { result.length ≤ 512 }
+    ensures { IfOk result (λ asked. asked.length ≤ 512) }
 {
     let length = input.length;
     if input.too_long {
-        return wrong(input.lines, LINE_TOO_LONG);
+        return wrong(out, input.lines, LINE_TOO_LONG);
     }
     let whole = &line[..];
-    read_line(input.lines, &whole[0..length], sheet)
+    read_line(out, input.lines, &whole[0..length], sheet)
 }
 
 // A line that is wrong is an error and asks for nothing.
-fn wrong(lines: u64, fault: usize) -> Asked
-    ensures { result.length ≤ 512 }
+fn wrong<W: Write>(out: &mut W, lines: u64, fault: usize) -> io::Result<Asked>
+    ensures { IfOk result (λ asked. asked.length ≤ 512) }
 {
     error_of(
+        out,
         lines,
         b"line too long|unknown command|not a number|number too large|not hexadecimal|sheet too long",
         fault,
-    );
-    Asked {
+    )?;
+    Ok(Asked {
         command: UNKNOWN,
         first: 0,
         second: 0,
         length: 0,
-    }
+    })
 }
 
-fn read_line(lines: u64, line: &[u8], sheet: &mut [u8; 512]) -> Asked
-    ensures { result.length ≤ 512 }
+fn read_line<W: Write>(
+    out: &mut W,
+    lines: u64,
+    line: &[u8],
+    sheet: &mut [u8; 512],
+) -> io::Result<Asked>
+    ensures { IfOk result (λ asked. asked.length ≤ 512) }
 {
     let found = command_in(line);
     let command = found.index;
     match command {
-        CAPACITY..=CONFIRM => read_numbers(lines, line, found),
-        ADMIT..=HOLD => read_path(lines, line, found, sheet),
-        FIGURES..=READ => read_sheet(lines, line, found, 0, sheet),
-        LIST => Asked {
+        CAPACITY..=CONFIRM => read_numbers(out, lines, line, found),
+        ADMIT..=HOLD => read_path(out, lines, line, found, sheet),
+        FIGURES..=READ => read_sheet(out, lines, line, found, 0, sheet),
+        LIST => Ok(Asked {
             command,
             first: 0,
             second: 0,
             length: 0,
-        },
-        _ => wrong(lines, UNKNOWN_COMMAND),
+        }),
+        _ => wrong(out, lines, UNKNOWN_COMMAND),
     }
 }
 
@@ -171,23 +189,29 @@ fn command_in(line: &[u8]) -> Found {
     }
 }
 
-fn read_numbers(lines: u64, line: &[u8], found: Found) -> Asked
-    ensures { result.length ≤ 512 }
+fn read_numbers<W: Write>(out: &mut W, lines: u64, line: &[u8], found: Found) -> io::Result<Asked>
+    ensures { IfOk result (λ asked. asked.length ≤ 512) }
 {
     let wanted = if found.index == CAPACITY { 2 } else { 1 };
-    let numbers = numbers_of(lines, line, found.behind, wanted);
+    let numbers = numbers_of(out, lines, line, found.behind, wanted)?;
     let command = if numbers.given { found.index } else { UNKNOWN };
-    Asked {
+    Ok(Asked {
         command,
         first: numbers.first,
         second: numbers.second,
         length: 0,
-    }
+    })
 }
 
 // `hold NUMBER SHEET` and `admit NUMBER SHEET`
-fn read_path(lines: u64, line: &[u8], command: Found, sheet: &mut [u8; 512]) -> Asked
-    ensures { result.length ≤ 512 }
+fn read_path<W: Write>(
+    out: &mut W,
+    lines: u64,
+    line: &[u8],
+    command: Found,
+    sheet: &mut [u8; 512],
+) -> io::Result<Asked>
+    ensures { IfOk result (λ asked. asked.length ≤ 512) }
 {
     let mut fault = NOT_A_NUMBER;
     match decimal_at(line, command.behind) {
@@ -200,35 +224,48 @@ fn read_path(lines: u64, line: &[u8], command: Found, sheet: &mut [u8; 512]) -> 
                         index: command.index,
                         behind: next + 1,
                     };
-                    return read_sheet(lines, line, found, value, sheet);
+                    return read_sheet(out, lines, line, found, value, sheet);
                 }
             }
         }
     }
-    wrong(lines, fault)
+    wrong(out, lines, fault)
 }
 
 // The sheet of a command is in hexadecimal.
-fn read_sheet(lines: u64, line: &[u8], found: Found, path: u64, sheet: &mut [u8; 512]) -> Asked
-    ensures { result.length ≤ 512 }
+fn read_sheet<W: Write>(
+    out: &mut W,
+    lines: u64,
+    line: &[u8],
+    found: Found,
+    path: u64,
+    sheet: &mut [u8; 512],
+) -> io::Result<Asked>
+    ensures { IfOk result (λ asked. asked.length ≤ 512) }
 {
     let mut fault = NOT_HEXADECIMAL;
     match hexadecimal_from(line, found.behind, sheet) {
         Hexadecimal::NotHexadecimal => {}
         Hexadecimal::TooLong => fault = SHEET_TOO_LONG,
         Hexadecimal::Length(length) => {
-            return Asked {
+            return Ok(Asked {
                 command: found.index,
                 first: path,
                 second: 0,
                 length,
-            };
+            });
         }
     }
-    wrong(lines, fault)
+    wrong(out, lines, fault)
 }
 
-fn answer(mut book: Book, lines: u64, asked: Asked, sheet: &[u8; 512]) -> Book
+fn answer<W: Write>(
+    out: &mut W,
+    mut book: Book,
+    lines: u64,
+    asked: Asked,
+    sheet: &[u8; 512],
+) -> io::Result<Book>
     requires { asked.length ≤ 512 }
 {
     let length = asked.length;
@@ -237,59 +274,68 @@ fn answer(mut book: Book, lines: u64, asked: Asked, sheet: &[u8; 512]) -> Book
     let first = asked.first;
     let command = asked.command;
     match command {
-        CAPACITY => book = set_capacity(book, lines, asked),
-        RELEASE => book = release_number(book, first),
-        CONFIRM => book = confirm_number(book, first),
-        SPARE => ask_spare(book.ledger, first),
-        ADMIT..=HOLD => book = hold(book, asked, bytes),
-        FIGURES => list(bytes),
-        PAGE => print_page(bytes),
-        READ => write_back(bytes),
-        LIST => list_paths(book),
+        CAPACITY => book = set_capacity(out, book, lines, asked)?,
+        RELEASE => book = release_number(out, book, first)?,
+        CONFIRM => book = confirm_number(out, book, first)?,
+        SPARE => ask_spare(out, book.ledger, first)?,
+        ADMIT..=HOLD => book = hold(out, book, asked, bytes)?,
+        FIGURES => list(out, bytes)?,
+        PAGE => print_page(out, bytes)?,
+        READ => write_back(out, bytes)?,
+        LIST => list_paths(out, book)?,
         _ => {}
     }
-    book
+    Ok(book)
 }
 
 // `capacity LINK CAPACITY`, before the first path is held.
-fn set_capacity(book: Book, lines: u64, asked: Asked) -> Book {
+fn set_capacity<W: Write>(out: &mut W, book: Book, lines: u64, asked: Asked) -> io::Result<Book> {
     if book.begun {
-        error(lines, b"capacities are set before the first path is held");
-        return book;
+        error(
+            out,
+            lines,
+            b"capacities are set before the first path is held",
+        )?;
+        return Ok(book);
     }
     let link = narrow(asked.first);
     if Link::LARGEST < link {
-        refused(Refusal::OutOfRange(0));
-        return book;
+        refused(out, Refusal::OutOfRange(0))?;
+        return Ok(book);
     }
     let mut capacities = book.capacities;
     capacities[link as usize] = narrow(asked.second);
-    open_with(book, capacities, asked)
+    open_with(out, book, capacities, asked)
 }
 
 // The ledger is opened anew.
-fn open_with(book: Book, capacities: [u32; 16], asked: Asked) -> Book {
+fn open_with<W: Write>(
+    out: &mut W,
+    book: Book,
+    capacities: [u32; 16],
+    asked: Asked,
+) -> io::Result<Book> {
     let lent = book.records;
     let fresh = open_book(capacities, lent);
     let opened = fresh.opened;
     let verdict = opened.verdict;
     let numbers = [asked.first, asked.second];
-    say(verdict, b"capacity | ", &numbers);
+    say(out, verdict, b"capacity | ", &numbers)?;
     if let Verdict::Refused(_) = verdict {
-        return book;
+        return Ok(book);
     }
     let ledger = opened.ledger;
     let records = fresh.records;
-    Book {
+    Ok(Book {
         ledger,
         records,
         capacities,
         begun: false,
-    }
+    })
 }
 
 // `release NUMBER`
-fn release_number(book: Book, path: u64) -> Book {
+fn release_number<W: Write>(out: &mut W, book: Book, path: u64) -> io::Result<Book> {
     let lent = book.records;
     let done = release_path(book.ledger, lent, narrow(path));
     let released = done.released;
@@ -298,50 +344,56 @@ fn release_number(book: Book, path: u64) -> Book {
     let records = done.records;
     let capacities = book.capacities;
     let numbers = [path];
-    say(verdict, b"released ", &numbers);
-    Book {
+    say(out, verdict, b"released ", &numbers)?;
+    Ok(Book {
         ledger,
         records,
         capacities,
         begun: book.begun,
-    }
+    })
 }
 
 // A refusal, or what was done.
-fn say(verdict: Verdict, done: &[u8], numbers: &[u64]) {
+fn say<W: Write>(out: &mut W, verdict: Verdict, done: &[u8], numbers: &[u64]) -> io::Result<()> {
     match verdict {
-        Verdict::Refused(why) => refused(why),
-        Verdict::Accepted => row(done, numbers),
+        Verdict::Refused(why) => refused(out, why),
+        Verdict::Accepted => row(out, done, numbers),
     }
 }
 
 // `confirm NUMBER`
-fn confirm_number(book: Book, path: u64) -> Book {
+fn confirm_number<W: Write>(out: &mut W, book: Book, path: u64) -> io::Result<Book> {
     let numbers = [path];
-    confirm(book, path, b"confirmed ", &numbers)
+    confirm(out, book, path, b"confirmed ", &numbers)
 }
 
-fn confirm(mut book: Book, path: u64, done: &[u8], numbers: &[u64]) -> Book {
+fn confirm<W: Write>(
+    out: &mut W,
+    mut book: Book,
+    path: u64,
+    done: &[u8],
+    numbers: &[u64],
+) -> io::Result<Book> {
     let lent = book.records;
     let answer = confirm_path(book.ledger, lent, narrow(path));
     let records = answer.records;
     book.records = records;
     let confirmed = answer.confirmed;
     let verdict = confirmed.verdict;
-    say(verdict, done, numbers);
-    book
+    say(out, verdict, done, numbers)?;
+    Ok(book)
 }
 
 // `spare LINK`
-fn ask_spare(ledger: Ledger, link: u64) {
+fn ask_spare<W: Write>(out: &mut W, ledger: Ledger, link: u64) -> io::Result<()> {
     let asked = spare_rate(ledger, narrow(link));
     let verdict = asked.verdict;
     let numbers = [link, asked.rate.0 as u64];
-    say(verdict, b"spare | ", &numbers);
+    say(out, verdict, b"spare | ", &numbers)
 }
 
 // `hold NUMBER SHEET` and `admit NUMBER SHEET`
-fn hold(mut book: Book, asked: Asked, sheet: &[u8]) -> Book {
+fn hold<W: Write>(out: &mut W, mut book: Book, asked: Asked, sheet: &[u8]) -> io::Result<Book> {
     let path = asked.first;
     let lent = book.records;
     let answer = hold_path(book.ledger, lent, narrow(path), sheet);
@@ -353,76 +405,88 @@ fn hold(mut book: Book, asked: Asked, sheet: &[u8]) -> Book {
     book.records = records;
     book.begun = true;
     let numbers = [path, holding.rate.0 as u64, holding.delay.0 as u64];
-    end_hold(book, asked, verdict, numbers)
+    end_hold(out, book, asked, verdict, numbers)
 }
 
 // A path is admitted by being held and, if that is accepted, confirmed at once.
-fn end_hold(book: Book, asked: Asked, held: Verdict, numbers: [u64; 3]) -> Book {
+fn end_hold<W: Write>(
+    out: &mut W,
+    book: Book,
+    asked: Asked,
+    held: Verdict,
+    numbers: [u64; 3],
+) -> io::Result<Book> {
     if asked.command == ADMIT {
         if let Verdict::Accepted = held {
-            return confirm(book, asked.first, b"admitted | rate | delay ", &numbers);
+            return confirm(
+                out,
+                book,
+                asked.first,
+                b"admitted | rate | delay ",
+                &numbers,
+            );
         }
     }
-    say(held, b"held | rate | delay ", &numbers);
-    book
+    say(out, held, b"held | rate | delay ", &numbers)?;
+    Ok(book)
 }
 
-fn write_back(sheet: &[u8]) {
+fn write_back<W: Write>(out: &mut W, sheet: &[u8]) -> io::Result<()> {
     let answer = read(sheet);
     let verdict = answer.verdict;
     match verdict {
-        Verdict::Refused(why) => refused(why),
-        Verdict::Accepted => write_path(answer.path),
+        Verdict::Refused(why) => refused(out, why),
+        Verdict::Accepted => write_path(out, answer.path),
     }
 }
 
-fn write_path(path: PathValue) {
+fn write_path<W: Write>(out: &mut W, path: PathValue) -> io::Result<()> {
     let mut sheet = [0u8; 256];
     match write(path, &mut sheet) {
-        Written::Refused(why) => refused(why),
+        Written::Refused(why) => refused(out, why),
         Written::Length(n) => {
-            text(b"read ");
+            text(out, b"read ")?;
             if n <= 256 {
-                hexadecimal(&sheet[0..n]);
+                hexadecimal(out, &sheet[0..n])?;
             }
-            end_line();
+            end_line(out)
         }
     }
 }
 
 // `list`: a line for each path that stands, in order, a held one's with that word at its end, and how many there are.
-fn list_paths(book: Book) {
+fn list_paths<W: Write>(out: &mut W, book: Book) -> io::Result<()> {
     let records = book.records;
     let count = book.ledger.count;
     let mut j = 0;
     while j < 64 && j < count {
         let entry = records[j];
-        list_record(entry);
+        list_record(out, entry)?;
         j += 1;
     }
-    labelled(b"paths ", count as u64);
-    end_line();
+    labelled(out, b"paths ", count as u64)?;
+    end_line(out)
 }
 
-fn list_record(entry: Record) {
-    number(entry.number.0 as u64);
-    labelled(b" rate ", entry.rate.0 as u64);
-    text(b" links");
+fn list_record<W: Write>(out: &mut W, entry: Record) -> io::Result<()> {
+    number(out, entry.number.0 as u64)?;
+    labelled(out, b" rate ", entry.rate.0 as u64)?;
+    text(out, b" links")?;
     let mut bits = entry.links;
     let mut link = 0;
     while link < 16 {
         if bits % 2 == 1 {
-            labelled(b" ", link);
+            labelled(out, b" ", link)?;
         }
         bits /= 2;
         link += 1;
     }
-    end_record(entry);
+    end_record(out, entry)
 }
 
-fn end_record(entry: Record) {
+fn end_record<W: Write>(out: &mut W, entry: Record) -> io::Result<()> {
     if entry.mark == 0 {
-        text(b" held");
+        text(out, b" held")?;
     }
-    end_line();
+    end_line(out)
 }

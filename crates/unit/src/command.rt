@@ -1,7 +1,9 @@
 // The commands: what each begins with, whom it is for, and how many numbers follow.
 
 use console::numbers::numbers_of;
-use console::words::{Found, find};
+use console::tables::{Found, find};
+use std::io;
+use std::io::Write;
 
 // A new unit: the operators have the numbers of document 01, section 5.
 pub(crate) const SMOOTH_METER: usize = 5;
@@ -68,7 +70,12 @@ fn wanted_by(index: usize) -> usize {
 }
 
 // Where the numbers cannot be read, the line is an error and the command unknown.
-pub(crate) fn with_numbers(lines: u64, line: &[u8], found: Found) -> Command {
+pub(crate) fn with_numbers<W: Write>(
+    out: &mut W,
+    lines: u64,
+    line: &[u8],
+    found: Found,
+) -> io::Result<Command> {
     let wanted = wanted_by(found.index);
     let mut command = Command {
         index: found.index,
@@ -76,12 +83,12 @@ pub(crate) fn with_numbers(lines: u64, line: &[u8], found: Found) -> Command {
         second: 0,
     };
     if 0 < wanted {
-        let numbers = numbers_of(lines, line, found.behind, wanted);
+        let numbers = numbers_of(out, lines, line, found.behind, wanted)?;
         command.first = numbers.first;
         command.second = numbers.second;
         if !numbers.given {
             command.index = UNKNOWN;
         }
     }
-    command
+    Ok(command)
 }

@@ -10,28 +10,32 @@
 //     words N              the first N words
 // Before the first unit any other line is `no unit`. A number wider than its field is the field's largest, which is out of every range.
 
+#![tactic(auto)]
+
 ghost use Rattle.std.specs.Prelude.{◌≤◌};
 
 use crate::command::{
     BOUNDS, Command, ROOM, ROWS_METER, SET_BLOCK, SET_HELD, SET_SLOT, SMOOTH_METER, UNKNOWN,
     command_in, with_numbers,
 };
-use crate::words::clear;
+use crate::lent::clear;
 use console::input::{Input, advance, begin};
 use console::numbers::{narrow, pairs_of};
 use console::print::error;
 use console::rows::rows_of;
-use console::words::{Found, error_of};
+use console::tables::{Found, error_of};
 use flow::{Declaration, Kind};
 use meter::SourceMeter;
 use operator::{Operator, SingleOperator};
 use quantity::{Delay, Interval, Quota, Rate, Slots, Units};
+use std::io;
+use std::io::Write;
 
 mod command;
+mod lent;
 mod metering;
 mod setting;
 mod single;
-mod words;
 
 // Which unit there is.
 #[derive(Clone, Copy)]
@@ -49,7 +53,9 @@ struct Unit {
     meter: SourceMeter,
 }
 
-fn main() {
+fn main(rt: HostRuntime) -> io::Result<()> {
+    let mut stdin = rt.stdin();
+    let mut out = rt.stdout();
     let mut words = [0u32; 1024];
     let mut block = [0u8; 4096];
     let mut line = [0u8; 1023];
@@ -58,69 +64,96 @@ fn main() {
     // A proved loop has to end, and nothing says that the input does, so the loop counts down from a number that no input uses up.
     let mut turns = u64::MAX;
     while turns > 0 && !input.ended {
-        input = advance(input, &mut block, &mut line);
+        input = advance(&mut stdin, input, &mut block, &mut line)?;
         if input.whole {
-            unit = end_line(unit, input, &line, &mut words);
+            unit = end_line(&mut out, unit, input, &line, &mut words)?;
         }
         turns -= 1;
     }
+    Ok(())
 }
 
 // A line is whole, and is answered.
-fn end_line(unit: Unit, input: Input, line: &[u8; 1023], words: &mut [u32; 1024]) -> Unit
+fn end_line<W: Write>(
+    out: &mut W,
+    unit: Unit,
+    input: Input,
+    line: &[u8; 1023],
+    words: &mut [u32; 1024],
+) -> io::Result<Unit>
     requires { input.length ≤ 1023 }
 {
     let length = input.length;
     if input.too_long {
-        error(input.lines, b"line too long");
-        return unit;
+        error(out, input.lines, b"line too long")?;
+        return Ok(unit);
     }
     let whole = &line[..];
-    answer_line(unit, input.lines, &whole[0..length], words)
+    answer_line(out, unit, input.lines, &whole[0..length], words)
 }
 
-fn answer_line(unit: Unit, lines: u64, line: &[u8], words: &mut [u32; 1024]) -> Unit {
+fn answer_line<W: Write>(
+    out: &mut W,
+    unit: Unit,
+    lines: u64,
+    line: &[u8],
+    words: &mut [u32; 1024],
+) -> io::Result<Unit> {
     let found = command_in(line);
     if found.index == ROWS_METER {
-        return rows_meter(unit, lines, line, found.behind, words);
+        return rows_meter(out, unit, lines, line, found.behind, words);
     }
     let which = unit.which;
-    let command = read_command(which, lines, line, found);
+    let command = read_command(out, which, lines, line, found)?;
     if command.index < SET_SLOT {
         clear(words);
-        return new_unit(command);
+        return Ok(new_unit(command));
     }
-    command_unit(unit, lines, command, words)
+    command_unit(out, unit, lines, command, words)
 }
 
 // `meter rows m Q m Q ..`: how many rows there may be, and in which order, the meter tests.
-fn rows_meter(unit: Unit, lines: u64, line: &[u8], from: usize, words: &mut [u32; 1024]) -> Unit {
+fn rows_meter<W: Write>(
+    out: &mut W,
+    unit: Unit,
+    lines: u64,
+    line: &[u8],
+    from: usize,
+    words: &mut [u32; 1024],
+) -> io::Result<Unit> {
     let mut numbers = [0u64; 10];
-    let count = pairs_of(lines, line, from, &mut numbers);
+    let count = pairs_of(out, lines, line, from, &mut numbers)?;
     if count == 0 {
-        return unit;
+        return Ok(unit);
     }
     clear(words);
     let declaration = Declaration::of_rows(count / 2, rows_of(&numbers));
-    unit_of(Which::Metering, Operator::Limiter(Rate(0)), declaration)
+    Ok(unit_of(Which::Metering, Operator::Limiter(Rate(0)), declaration))
 }
 
 // What a line asks of the unit there is, or the unit that it makes; else the line is an error and the command unknown.
-fn read_command(which: Which, lines: u64, line: &[u8], found: Found) -> Command {
+fn read_command<W: Write>(
+    out: &mut W,
+    which: Which,
+    lines: u64,
+    line: &[u8],
+    found: Found,
+) -> io::Result<Command> {
     let fault = fault_of(which, found.index);
     if fault < 4 {
         error_of(
+            out,
             lines,
             b"no unit|unknown command|not a meter|not an operator",
             fault,
-        );
-        return Command {
+        )?;
+        return Ok(Command {
             index: UNKNOWN,
             first: 0,
             second: 0,
-        };
+        });
     }
-    with_numbers(lines, line, found)
+    with_numbers(out, lines, line, found)
 }
 
 // Which error a command is to the unit there is; 4: none.
@@ -143,20 +176,26 @@ fn fault_of(which: Which, command: usize) -> usize {
     }
 }
 
-fn command_unit(mut unit: Unit, lines: u64, command: Command, words: &mut [u32; 1024]) -> Unit {
+fn command_unit<W: Write>(
+    out: &mut W,
+    mut unit: Unit,
+    lines: u64,
+    command: Command,
+    words: &mut [u32; 1024],
+) -> io::Result<Unit> {
     let which = unit.which;
     match which {
         Which::Missing => {}
         Which::Alone => {
-            let after = single::answer(unit.single, lines, command, words);
+            let after = single::answer(out, unit.single, lines, command, words)?;
             unit.single = after;
         }
         Which::Metering => {
-            let after = metering::answer(unit.meter, lines, command, words);
+            let after = metering::answer(out, unit.meter, lines, command, words)?;
             unit.meter = after;
         }
     }
-    unit
+    Ok(unit)
 }
 
 fn no_unit() -> Unit {

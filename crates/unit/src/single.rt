@@ -5,78 +5,99 @@ ghost use Rattle.std.specs.Prelude.{◌≤◌, length};
 use crate::command::{
     BOUNDS, Command, SET_BESIDE, SET_HELD, SET_SLOT, SET_WORD, STATE, STEP, WORDS,
 };
+use crate::lent::{list_words, set_word};
 use crate::setting::{set_slot, set_units};
-use crate::words::{list_words, set_word};
 use console::print::refused;
-use console::words::row;
+use console::tables::row;
 use operator::SingleOperator;
 use operator::parts::{Stored, stored_in};
 use operator::single::{Bounds, Stepped, bounds_alone, step_alone};
 use quantity::{Slots, Units};
+use std::io;
+use std::io::Write;
 
 // The words of an operator.
 const COUNT: u64 = 64;
 
-pub(crate) fn answer(
+pub(crate) fn answer<W: Write>(
+    out: &mut W,
     mut state: SingleOperator,
     lines: u64,
     command: Command,
     words: &mut [u32; 1024],
-) -> SingleOperator {
+) -> io::Result<SingleOperator> {
     let index = command.index;
     match index {
         SET_SLOT => {
-            let slot = set_slot(command.first);
+            let slot = set_slot(out, command.first)?;
             state.slot = slot;
         }
         SET_HELD => {
-            let held = set_units(b"held ", command.first);
+            let held = set_units(out, b"held ", command.first)?;
             state.held = held;
         }
         SET_BESIDE => {
-            let beside = set_units(b"beside ", command.first);
+            let beside = set_units(out, b"beside ", command.first)?;
             state.beside = beside;
         }
-        STEP => return step(state, command.first, command.second, words),
-        BOUNDS => ask_bounds(state, command.first, words),
-        STATE => show(state),
-        SET_WORD => set_word(lines, command, words, COUNT),
-        WORDS => list_words(lines, command.first, words, COUNT),
+        STEP => return step(out, state, command.first, command.second, words),
+        BOUNDS => ask_bounds(out, state, command.first, words)?,
+        STATE => show(out, state)?,
+        SET_WORD => set_word(out, lines, command, words, COUNT)?,
+        WORDS => list_words(out, lines, command.first, words, COUNT)?,
         _ => {}
     }
-    state
+    Ok(state)
 }
 
 // `step INPUT CHOICE`: a refused step leaves the state as it was.
-fn step(state: SingleOperator, input: u64, choice: u64, words: &mut [u32; 1024]) -> SingleOperator {
+fn step<W: Write>(
+    out: &mut W,
+    state: SingleOperator,
+    input: u64,
+    choice: u64,
+    words: &mut [u32; 1024],
+) -> io::Result<SingleOperator> {
     let bounds = bounds_in(state, words, Units(input));
     match step_in(state, words, Units(input), Units(choice)) {
         Stepped::Refused(why) => {
-            refused(why);
-            state
+            refused(out, why)?;
+            Ok(state)
         }
         Stepped::Sent { output, next } => {
-            sent(state.slot, bounds, output, held_in(next, words));
-            next
+            sent(out, state.slot, bounds, output, held_in(next, words))?;
+            Ok(next)
         }
     }
 }
 
 // A step that is sent has bounds.
-fn sent(slot: Slots, bounds: Bounds, output: Units, held: u64) {
+fn sent<W: Write>(
+    out: &mut W,
+    slot: Slots,
+    bounds: Bounds,
+    output: Units,
+    held: u64,
+) -> io::Result<()> {
     if let Bounds::Outputs { least, greatest } = bounds {
         let numbers = [slot.0 as u64, least.0, greatest.0, output.0, held];
-        row(b"slot | least | greatest | output | held ", &numbers);
+        return row(out, b"slot | least | greatest | output | held ", &numbers);
     }
+    Ok(())
 }
 
 // `bounds INPUT`
-fn ask_bounds(state: SingleOperator, input: u64, words: &[u32; 1024]) {
+fn ask_bounds<W: Write>(
+    out: &mut W,
+    state: SingleOperator,
+    input: u64,
+    words: &[u32; 1024],
+) -> io::Result<()> {
     match bounds_in(state, words, Units(input)) {
-        Bounds::Refused(why) => refused(why),
+        Bounds::Refused(why) => refused(out, why),
         Bounds::Outputs { least, greatest } => {
             let numbers = [state.slot.0 as u64, least.0, greatest.0];
-            row(b"slot | least | greatest ", &numbers);
+            row(out, b"slot | least | greatest ", &numbers)
         }
     }
 }
@@ -105,7 +126,7 @@ fn held_in(mut state: SingleOperator, words: &[u32; 1024]) -> u64 {
 }
 
 // `state`
-fn show(state: SingleOperator) {
+fn show<W: Write>(out: &mut W, state: SingleOperator) -> io::Result<()> {
     let numbers = [state.slot.0 as u64, state.held.0, state.beside.0];
-    row(b"slot | held | beside ", &numbers);
+    row(out, b"slot | held | beside ", &numbers)
 }
