@@ -1,9 +1,10 @@
 -- How a test that was taken picks: the one law behind every checking constructor and every list of refusals.
 use mathlib.Core.Path.{◌≡◌, refl, ap, sym, ◌∙◌}
 use mathlib.Core.Bool.{Bool, true, false, false≢true}
-use Prim.Native.Nat.{ℕ, ◌≤◌}
+use Prim.Native.Nat.{ℕ, ◌≤◌, ◌<◌}
 use lib.Dec.{leb}
-use borrow.Author.Tests.{leb-true}
+use borrow.Author.Tests.{leb-true, ltb-false, lt-ltb, le-ltb}
+use Rattle.quantity.specs.Limits.{last_slot, no_slot_left}
 use Rattle.quantity.specs.Choice.{pick, either}
 use Rattle.quantity.specs.Ranges.{Range, in_range, checked_in}
 use Rattle.quantity.proofs.Sums.{both_true}
@@ -58,6 +59,20 @@ module _ (range : Range) (value : ℕ) (inside : in_range range value ≡ true) 
   pub le-largest : value ≤ range.largest
   unfolding in_range
   le-largest = leb-true value range.largest (both_true (leb range.least value) (leb value range.largest) inside).1
+
+-- whether a slot number is left, in plain facts
+module _ (t : ℕ) where
+  pub slot-left : no_slot_left t ≡ false → t ≤ last_slot
+  unfolding no_slot_left
+  slot-left left = ltb-false last_slot t left
+
+  pub left-of-le : t ≤ last_slot → no_slot_left t ≡ false
+  unfolding no_slot_left
+  left-of-le within = le-ltb last_slot t within
+
+  pub none-left-of-lt : last_slot < t → no_slot_left t ≡ true
+  unfolding no_slot_left
+  none-left-of-lt past = lt-ltb last_slot t past
 
 -- the test of either, from the two
 pub either_first : (a b : Bool) → a ≡ true → either a b ≡ true
