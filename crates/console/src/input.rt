@@ -1,6 +1,6 @@
 // The lines of standard input, one after the other.
 
-ghost use Rattle.std.specs.Prelude.{◌<◌, ◌≤◌, IfOk, length, take};
+ghost use Rattle.std.specs.Prelude.{◌≡◌, ◌<◌, ◌≤◌, IfOk, OnErr, length, take};
 ghost use Rattle.std.specs.Io.{ReadsAtMost};
 ghost use Rattle.std.specs.Io.KnownBytes.{Consumes, IsAtEnd};
 
@@ -39,13 +39,15 @@ pub fn begin() -> Input
 
 // Goes on to the line's end or to the end of the block, whichever comes first; behind a whole line the next one begins.
 // Where the input ends, bytes without a line feed are a line too. A line of more bytes than there are places begins anew.
+// The only error is the reader's own; the line is then as it was.
 pub fn advance<R: Read>(
     from: &mut R,
     input: Input,
     block: &mut [u8; 4096],
     line: &mut [u8; 1023],
 ) -> io::Result<Input>
-    ensures { IfOk result (λ next. next.length ≤ 1023) }
+    ensures ok { IfOk result (λ next. next.length ≤ 1023) }
+    ensures err { OnErr result (line.new ≡ line.old) }
 {
     let begun = begin_line(input);
     let count = begun.count;
@@ -66,7 +68,7 @@ pub fn advance<R: Read>(
     Ok(gather_block(next, &read[0..n], line))
 }
 
-// Reads until all places are taken or the input ends, and answers how many bytes stand at the front.
+// Reads until all places are taken or the input ends, and answers how many bytes stand at the front. The only error is the reader's own.
 pub fn read_full<R: Read>(from: &mut R, bytes: &mut [u8]) -> io::Result<usize>
     ensures count { ReadsAtMost result bytes.new }
     ensures front { IfOk result (λ n. Consumes (R.remaining from.old) (R.remaining from.new) (take n bytes.new)) }

@@ -1,4 +1,4 @@
-// Texts, numbers, bytes, refusals and errors, as a program writes them.
+// Texts, numbers, bytes, refusals and errors, as a program writes them. The only error is the writer's own, and what was written before it is not known.
 
 ghost use Rattle.std.specs.Prelude.{◌≡◌, ◌≤◌, ◌++◌, OnOk, codes, decimal};
 ghost use Rattle.std.specs.Io.KnownBytes.{Appends};
