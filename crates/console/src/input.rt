@@ -2,7 +2,7 @@
 
 ghost use Rattle.std.specs.Prelude.{◌≡◌, ◌<◌, ◌≤◌, IfOk, OnErr, length, take};
 ghost use Rattle.std.specs.Io.{ReadsAtMost};
-ghost use Rattle.std.specs.Io.KnownBytes.{Consumes, IsAtEnd};
+ghost use Rattle.std.specs.Io.KnownBytes.{Consumes, IsAtEnd, Keeps};
 
 use std::io;
 use std::io::Read;
@@ -39,7 +39,7 @@ pub fn begin() -> Input
 
 // Goes on to the line's end or to the end of the block, whichever comes first; behind a whole line the next one begins.
 // Where the input ends, bytes without a line feed are a line too. A line of more bytes than there are places begins anew.
-// The only error is the reader's own; the line is then as it was.
+// The only error is the reader's own; the line is then as it was, and so are the bytes that the reader still has, where they are known.
 pub fn advance<R: Read>(
     from: &mut R,
     input: Input,
@@ -47,7 +47,7 @@ pub fn advance<R: Read>(
     line: &mut [u8; 1023],
 ) -> io::Result<Input>
     ensures ok { IfOk result (λ next. next.length ≤ 1023) }
-    ensures err { OnErr result (line.new ≡ line.old) }
+    ensures err { OnErr result ((line.new ≡ line.old) × Keeps (R.remaining from.old) (R.remaining from.new)) }
 {
     let begun = begin_line(input);
     let count = begun.count;

@@ -2,7 +2,7 @@
 
 #![tactic(auto)]
 
-ghost use Rattle.std.specs.Prelude.{◌≤◌, IfOk};
+ghost use Rattle.std.specs.Prelude.{◌≡◌, ◌≤◌, IfOk, OnErr};
 
 use book::{confirm_path, hold_path, open_book, release_path};
 use console::input::{Input, advance, begin};
@@ -121,7 +121,8 @@ fn read_input<W: Write>(
     sheet: &mut [u8; 512],
 ) -> io::Result<Asked>
     requires { input.length ≤ 1023 }
-    ensures { IfOk result (λ asked. asked.length ≤ 512) }
+    ensures ok { IfOk result (λ asked. asked.length ≤ 512) }
+    ensures err { OnErr result (sheet.new ≡ sheet.old) }
 {
     let length = input.length;
     if input.too_long {
@@ -155,7 +156,8 @@ fn read_line<W: Write>(
     line: &[u8],
     sheet: &mut [u8; 512],
 ) -> io::Result<Asked>
-    ensures { IfOk result (λ asked. asked.length ≤ 512) }
+    ensures ok { IfOk result (λ asked. asked.length ≤ 512) }
+    ensures err { OnErr result (sheet.new ≡ sheet.old) }
 {
     let found = command_in(line);
     let command = found.index;
@@ -211,7 +213,8 @@ fn read_path<W: Write>(
     command: Found,
     sheet: &mut [u8; 512],
 ) -> io::Result<Asked>
-    ensures { IfOk result (λ asked. asked.length ≤ 512) }
+    ensures ok { IfOk result (λ asked. asked.length ≤ 512) }
+    ensures err { OnErr result (sheet.new ≡ sheet.old) }
 {
     let mut fault = NOT_A_NUMBER;
     match decimal_at(line, command.behind) {
@@ -241,7 +244,8 @@ fn read_sheet<W: Write>(
     path: u64,
     sheet: &mut [u8; 512],
 ) -> io::Result<Asked>
-    ensures { IfOk result (λ asked. asked.length ≤ 512) }
+    ensures ok { IfOk result (λ asked. asked.length ≤ 512) }
+    ensures err { OnErr result (sheet.new ≡ sheet.old) }
 {
     let mut fault = NOT_HEXADECIMAL;
     match hexadecimal_from(line, found.behind, sheet) {
