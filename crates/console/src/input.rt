@@ -1,6 +1,6 @@
 // The lines of standard input, one after the other.
 
-ghost use Rattle.std.specs.Prelude.{◌≡◌, ◌<◌, ◌≤◌, IfOk, OnErr, length, take};
+ghost use Rattle.std.specs.Prelude.{◌≡◌, ℕ, ◌<◌, ◌≤◌, IfOk, OnErr, length, take};
 ghost use Rattle.std.specs.Io.{ReadsAtMost};
 ghost use Rattle.std.specs.Io.KnownBytes.{Consumes, IsAtEnd, Keeps};
 
@@ -68,11 +68,13 @@ pub fn advance<R: Read>(
     Ok(gather_block(next, &read[0..n], line))
 }
 
-// Reads until all places are taken or the input ends, and answers how many bytes stand at the front. The only error is the reader's own.
+// Reads until all places are taken or the input ends, and answers how many bytes stand at the front. The only error is the reader's own;
+// what was taken from the reader then stands at the front.
 pub fn read_full<R: Read>(from: &mut R, bytes: &mut [u8]) -> io::Result<usize>
     ensures count { ReadsAtMost result bytes.new }
     ensures front { IfOk result (λ n. Consumes (R.remaining from.old) (R.remaining from.new) (take n bytes.new)) }
     ensures short { IfOk result (λ n. n < length bytes.new → IsAtEnd (R.remaining from.new)) }
+    ensures err { OnErr result ((n : ℕ) × Consumes (R.remaining from.old) (R.remaining from.new) (take n bytes.new)) }
 {
     let mut done = 0;
     while done < bytes.len() {
