@@ -5,39 +5,28 @@
 
 use flow::bound::{LENGTH, fill};
 use flow::{Declaration, DeclaredRow};
-use quantity::{Interval, Quota};
 use std::io;
 use std::io::Write;
-
-fn row(interval: u32, quota: u32) -> DeclaredRow {
-    DeclaredRow {
-        interval: Interval(interval),
-        quota: Quota(quota),
-    }
-}
 
 // As many slots as the constant table has.
 const SLOTS: usize = 1024;
 
 fn main(rt: HostRuntime) -> io::Result<()> {
-    let first = row(1, 9);
-    let second = row(3, 15);
-    let third = row(12, 48);
-    let unused = row(0, 0);
-    let rows = [first, second, third, unused];
+    let rows = [
+        DeclaredRow::of(1, 9),
+        DeclaredRow::of(3, 15),
+        DeclaredRow::of(12, 48),
+        DeclaredRow::CLEAR,
+    ];
     let mut bound = [0; LENGTH];
     fill(Declaration::of_rows(3, rows), &mut bound);
     print(&mut rt.stdout(), &bound[1..SLOTS + 1])
 }
 
-fn line<W: Write>(out: &mut W, number: u32) -> io::Result<()> {
-    writeln!(out, "{number}")
-}
-
 // The numbers, one a line.
 fn print<W: Write>(out: &mut W, numbers: &[u32]) -> io::Result<()> {
     for number in numbers {
-        line(out, *number)?;
+        writeln!(out, "{number}")?;
     }
     Ok(())
 }

@@ -1,84 +1,66 @@
-// A path, and what its lines put into it.
+// A path as far as its lines have come.
 
-use crate::line::{DELAYER, PROFILE, ROWS, UNIFORM, WANTED};
-use crate::numbers::number_at;
-use crate::profile::house_of;
-use console::rows::rows_of;
-use flow::{Declaration, Kind};
-use operator::Operator;
-use quantity::{Delay, Interval, Link, Quota, Rate, WantedDelay};
-use sheet::{Form, LinkedOperator, PathValue};
+use crate::fault::PathFault;
+use crate::line::Part;
+use sheet::{Form, PathValue, no_path};
 
-// The path with the part that a word and its numbers are.
-pub(crate) fn path_with(
-    mut path: PathValue,
-    word: usize,
-    count: usize,
-    numbers: &[u64; 10],
-) -> PathValue {
-    match word {
-        0..=DELAYER => path = with_linked(path, linked_of(word, numbers)),
-        WANTED => {
-            let wanted = WantedDelay(number_at(numbers, 0));
-            path.wanted = wanted;
+// Which line of a path comes next. Behind a wrong line the rest of its path is passed over.
+#[derive(Clone, Copy, PartialEq)]
+pub(crate) enum Next {
+    Declaration,
+    Wanted,
+    Operator,
+    Nothing,
+    Wrong,
+}
+
+#[derive(Clone, Copy)]
+pub(crate) struct Draft {
+    pub(crate) path: PathValue,
+    pub(crate) next: Next,
+}
+
+impl Draft {
+    pub(crate) fn empty() -> Draft {
+        Draft {
+            path: no_path(),
+            next: Next::Declaration,
         }
-        PROFILE => path = with_form(path, Form::House(house_of(numbers))),
-        _ => {
-            let declaration = declaration_of(word, count / 2, numbers);
-            path.declaration = declaration;
+    }
+
+    // The draft with one part more, which has to be the one that comes next: the declaration or a house profile, behind which comes nothing,
+    // then the delay wanted, then up to sixteen operators.
+    pub(crate) fn with(mut self, part: Part) -> Result<Draft, PathFault> {
+        match (self.next, part) {
+            (Next::Declaration, Part::Declared(declaration)) => {
+                self.path.declaration = declaration;
+                self.next = Next::Wanted;
+            }
+            (Next::Declaration, Part::House(house)) => {
+                self.path.form = Form::House(house);
+                self.next = Next::Nothing;
+            }
+            (Next::Declaration, _) => return Err(PathFault::DeclarationMissing),
+            (Next::Wanted, Part::Wanted(wanted)) => {
+                self.path.wanted = wanted;
+                self.next = Next::Operator;
+            }
+            (Next::Wanted, Part::Operator(_)) => return Err(PathFault::WantedMissing),
+            (Next::Operator, Part::Operator(linked)) if self.path.count < 16 => {
+                self.path.operators[self.path.count] = linked;
+                self.path.count += 1;
+            }
+            _ => return Err(PathFault::LineTooMany),
+        }
+        Ok(self)
+    }
+
+    // Whether nothing is missing: an operator has come, or a house profile.
+    pub(crate) fn is_whole(self) -> bool {
+        match self.next {
+            Next::Operator => 0 < self.path.count,
+            Next::Nothing => true,
+            _ => false,
         }
     }
-    path
-}
-
-fn with_linked(mut path: PathValue, linked: LinkedOperator) -> PathValue {
-    let count = path.count;
-    if count < 16 {
-        path.operators[count] = linked;
-        path.count = count + 1;
-    }
-    path
-}
-
-fn linked_of(word: usize, numbers: &[u64; 10]) -> LinkedOperator {
-    let number = number_at(numbers, 0);
-    let operator = match word {
-        0 => Operator::Limiter(Rate(number)),
-        1 => Operator::Compactor(Interval(number)),
-        2 => Operator::Expander(Interval(number)),
-        3 => Operator::Filter(Rate(number)),
-        _ => Operator::Delayer(Delay(number)),
-    };
-    let link = Link(number_at(numbers, 1));
-    LinkedOperator { operator, link }
-}
-
-fn with_form(path: PathValue, form: Form) -> PathValue {
-    let declaration = path.declaration;
-    let wanted = path.wanted;
-    let operators = path.operators;
-    PathValue {
-        form,
-        declaration,
-        wanted,
-        count: path.count,
-        operators,
-    }
-}
-
-// How many rows there may be, and in which order, the writer tests (document 02, item 6).
-fn declaration_of(word: usize, rows: usize, numbers: &[u64; 10]) -> Declaration {
-    if word == ROWS {
-        return Declaration::of_rows(rows, rows_of(numbers));
-    }
-    let kind = if word == UNIFORM {
-        Kind::Uniform
-    } else {
-        Kind::Smooth
-    };
-    Declaration::of_one_row(
-        kind,
-        Interval(number_at(numbers, 0)),
-        Quota(number_at(numbers, 1)),
-    )
 }

@@ -1,69 +1,68 @@
 // A line that is a whole path: `profile P hops N wanted N m N Q N`, with `R N` in profiles 1 and 2 and `L N X N C N` in profile 2.
 
-ghost use Rattle.std.specs.Prelude.{◌≡◌, ◌≤◌, length};
-
-use crate::fault::Fault;
-use crate::numbers::{Reached, Read, behind_label, number_at, number_from};
-use quantity::{Hops, Interval, Packet, Quota, Rate, WantedDelay};
+use crate::fault::PathFault;
+use crate::numbers::{behind_label, number_of, quantity_of};
+use console::fault::Fault;
+use quantity::{Packet, Rate};
 use sheet::House;
 
-// The number of the profile says how many follow; those that it does not use are 0.
-pub(crate) fn profile_from(line: &[u8], from: usize, numbers: &mut [u64]) -> Read
-    requires { length numbers.old ≡ 10 }
-{
-    let end = match number_from(line, from, numbers, 0) {
-        Reached::Byte(end) => end,
-        Reached::Wrong(why) => return Read::Wrong(why),
+// The labels of the numbers behind the profile's own.
+const LABELS: [&[u8]; 8] = [b"hops", b"wanted", b"m", b"Q", b"R", b"L", b"X", b"C"];
+
+// The number of the profile says how many follow.
+pub(crate) fn house_of(text: Option<&[u8]>) -> Result<House, PathFault> {
+    let (profile, rest) = number_of(text)?;
+    let mut numbers = [0; 8];
+    let (profile, count) = match profile {
+        0 => (0, 4),
+        1 => (1, 5),
+        2 => (2, 8),
+        _ => return Err(PathFault::OutOfRange("profile")),
     };
-    match numbers[0] {
-        0 => labelled_from(line, end, 5, numbers),
-        1 => labelled_from(line, end, 6, numbers),
-        2 => labelled_from(line, end, 9, numbers),
-        _ => Read::Wrong(Fault::PROFILE_OUT_OF_RANGE),
+    labelled(rest, &mut numbers[..count])?;
+    checked(profile, numbers)
+}
+
+// Puts the numbers of a text, each behind its label, into their places.
+fn labelled(text: &[u8], numbers: &mut [u64]) -> Result<(), PathFault> {
+    let mut rest = text;
+    let none = PathFault::Line(Fault::TooFewNumbers);
+    for (label, number) in LABELS.iter().zip(numbers) {
+        let behind = behind_label(rest, label, none, PathFault::UnknownWord)?;
+        (*number, rest) = number_of(behind)?;
+    }
+    if rest.is_empty() {
+        Ok(())
+    } else {
+        Err(PathFault::Line(Fault::TooManyNumbers))
     }
 }
 
-// The numbers behind the first, each with its label, up to a count.
-fn labelled_from(line: &[u8], from: usize, count: usize, numbers: &mut [u64]) -> Read
-    requires { count ≤ length numbers.old }
-{
-    let mut end = from;
-    let mut k = 1;
-    while k < count {
-        let begins = match behind_label(line, end, k, Fault::TOO_FEW_NUMBERS, Fault::UNKNOWN_WORD) {
-            Reached::Byte(begins) => begins,
-            Reached::Wrong(why) => return Read::Wrong(why),
-        };
-        end = match number_from(line, begins, numbers, k) {
-            Reached::Byte(next) => next,
-            Reached::Wrong(why) => return Read::Wrong(why),
-        };
-        k += 1;
+// Those that the profile does not use are 0. Where the others are in their ranges, the length of its delayer is left.
+fn checked(profile: u8, numbers: [u64; 8]) -> Result<House, PathFault> {
+    let [hops, wanted, interval, quota, rate, own, longest, link_rate] = numbers;
+    let mut house = House {
+        profile,
+        hops: quantity_of(hops, "hops")?,
+        wanted: quantity_of(wanted, "delay wanted")?,
+        interval: quantity_of(interval, "interval")?,
+        quota: quantity_of(quota, "quota")?,
+        rate: Rate(0),
+        own_packet: Packet(0),
+        longest_packet: Packet(0),
+        link_rate: Rate(0),
+    };
+    if 1 <= profile {
+        house.rate = quantity_of(rate, "rate")?;
     }
-    if end < line.len() {
-        return Read::Wrong(Fault::TOO_MANY_NUMBERS);
+    if profile == 2 {
+        house.own_packet = quantity_of(own, "packet")?;
+        house.longest_packet = quantity_of(longest, "packet")?;
+        house.link_rate = quantity_of(link_rate, "link rate")?;
     }
-    Read::Numbers(count)
-}
-
-pub(crate) fn house_of(numbers: &[u64; 10]) -> House {
-    House {
-        profile: profile_of(numbers[0]),
-        hops: Hops(number_at(numbers, 1)),
-        wanted: WantedDelay(number_at(numbers, 2)),
-        interval: Interval(number_at(numbers, 3)),
-        quota: Quota(number_at(numbers, 4)),
-        rate: Rate(number_at(numbers, 5)),
-        own_packet: Packet(number_at(numbers, 6)),
-        longest_packet: Packet(number_at(numbers, 7)),
-        link_rate: Rate(number_at(numbers, 8)),
-    }
-}
-
-fn profile_of(number: u64) -> u8 {
-    match number {
-        0 => 0,
-        1 => 1,
-        _ => 2,
+    if house.in_range() {
+        Ok(house)
+    } else {
+        Err(PathFault::DelayerTooLong)
     }
 }

@@ -1,7 +1,7 @@
 -- The text that stands for a value.
 use Rattle.std.specs.Prelude.{ℕ, ◌+◌, ◌/◌, ◌%◌, List, [], ◌∷◌, ◌++◌, codes, decimal, ltb}
 use Rattle.quantity.specs.Choice.{pick}
-use Rattle.quantity.specs.Refusals.{refusal_number, refusal_place}
+use Rattle.quantity.specs.Refusals.{refusal_text}
 use Rattle.quantity.specs.declared.refusal.Refusal.{Refusal}
 
 -- '0' to '9', then 'a' to 'f'
@@ -12,9 +12,9 @@ digit_of value = pick (ltb value 10) (value + 48) (value + 87)
 abbrev pub hexadecimal_of : ℕ → List ℕ
 hexadecimal_of byte = digit_of (byte / 16) ∷ digit_of (byte % 16) ∷ []
 
--- the refusal's number and its place
+-- the refusal, and the line's end
 abbrev pub refused_text : Refusal → List ℕ
-refused_text why = codes "refused " ++ decimal (refusal_number why) ++ codes " " ++ decimal (refusal_place why) ++ codes "\n"
+refused_text why = refusal_text why ++ codes "\n"
 
 -- the number of a line and what is wrong with it
 abbrev pub error_text : ℕ → List ℕ → List ℕ

@@ -1,71 +1,149 @@
 // The lines of standard input, one after the other.
 
-ghost use Rattle.std.specs.Prelude.{◌≡◌, ℕ, ◌<◌, ◌≤◌, IfOk, OnErr, length, take};
+ghost use Rattle.std.specs.Prelude.{◌≡◌, ℕ, ◌+◌, ◌<◌, ◌≤◌, IfOk, OnErr, length, take, unwrap_or};
 ghost use Rattle.std.specs.Io.{ReadsAtMost};
 ghost use Rattle.std.specs.Io.KnownBytes.{Consumes, IsAtEnd, Keeps};
 
 use std::io;
 use std::io::Read;
-use text::line::{Gathered, gather};
+use text::line::gather;
 
-const LINE_FEED: u8 = 10;
-
-// The place in the block that was read and the block's end; the line's number, its bytes so far, whether it has more than there are places,
-// and whether it is whole; and whether the input has ended.
-#[derive(Clone, Copy)]
-pub struct Input {
-    pub at: usize,
-    pub count: usize,
-    pub lines: u64,
-    pub length: usize,
-    pub too_long: bool,
+// Fixed memory with its length, as in the libraries (no heap), and so `Input`.
+// The number of the line, and whether it is whole; its bytes so far, as many as `length` says; none, if it has more than there are places.
+#[derive(Drop)]
+pub struct Line {
+    pub number: u64,
     pub whole: bool,
-    pub ended: bool,
+    length: Option<usize>,
+    bytes: [u8; 1023],
+    ghost within: { unwrap_or length 0 ≤ 1023 },
 }
 
-pub fn begin() -> Input
-    ensures { result.length ≤ 1023 }
-{
-    Input {
-        at: 0,
-        count: 0,
-        lines: 0,
-        length: 0,
-        too_long: false,
-        whole: false,
-        ended: false,
-    }
-}
-
-// Goes on to the line's end or to the end of the block, whichever comes first; behind a whole line the next one begins.
-// Where the input ends, bytes without a line feed are a line too. A line of more bytes than there are places begins anew.
-// The only error is the reader's own; the line is then as it was, and so are the bytes that the reader still has, where they are known.
-pub fn advance<R: Read>(
-    from: &mut R,
-    input: Input,
-    block: &mut [u8; 4096],
-    line: &mut [u8; 1023],
-) -> io::Result<Input>
-    ensures ok { IfOk result (λ next. next.length ≤ 1023) }
-    ensures err { OnErr result ((line.new ≡ line.old) × Keeps (R.remaining from.old) (R.remaining from.new)) }
-{
-    let begun = begin_line(input);
-    let count = begun.count;
-    if count <= 4096 {
-        if begun.at < count {
-            let read = &block[..];
-            return Ok(gather_block(begun, &read[0..count], line));
+impl Line {
+    pub fn new() -> Line {
+        Line {
+            number: 0,
+            whole: false,
+            length: Some(0),
+            bytes: [0; 1023],
         }
     }
-    let n = from.read(block)?;
-    if n == 0 {
-        return Ok(end_input(begun));
+
+    // Its bytes; none, if it has more than 1,023.
+    pub fn text(&self) -> Option<&[u8]> {
+        Some(&self.bytes[..self.length?])
     }
-    let mut next = begun;
-    next.at = 0;
-    next.count = n;
-    let read = &block[..];
-    Ok(gather_block(next, &read[0..n], line))
+
+    // Behind a whole line the next one begins.
+    fn begin(&mut self) {
+        if self.whole {
+            self.whole = false;
+            self.length = Some(0);
+        }
+    }
+
+    fn end(&mut self) {
+        self.whole = true;
+        self.number = self.number.wrapping_add(1);
+    }
+
+    // Goes on to the line's end or to the end of the bytes, whichever comes first, and answers how many bytes are passed.
+    fn gather(&mut self, bytes: &[u8]) -> usize
+        ensures { result ≤ length bytes.now }
+    {
+        match bytes.iter().position(|byte| *byte == b'\n') {
+            Some(n) => {
+                self.length = gather_bytes(&mut self.bytes, self.length, &bytes[..n]);
+                self.end();
+                n + 1
+            }
+            None => {
+                self.length = gather_bytes(&mut self.bytes, self.length, bytes);
+                bytes.len()
+            }
+        }
+    }
+}
+
+// How many bytes a line has with these behind it.
+fn gather_bytes(line: &mut [u8; 1023], length: Option<usize>, bytes: &[u8]) -> Option<usize>
+    requires { unwrap_or length 0 ≤ 1023 }
+    ensures { unwrap_or result 0 ≤ 1023 }
+{
+    let mut longer = length?;
+    for byte in bytes {
+        longer = gather(line, longer, *byte)?;
+    }
+    Some(longer)
+}
+
+// The block that was read, the place in it and its end, and whether the input has ended.
+#[derive(Drop)]
+pub struct Input {
+    pub ended: bool,
+    at: usize,
+    count: usize,
+    block: [u8; 4096],
+    ghost at_within: { at ≤ count },
+    ghost count_within: { count ≤ 4096 },
+}
+
+impl Input {
+    pub fn new() -> Input {
+        Input {
+            ended: false,
+            at: 0,
+            count: 0,
+            block: [0; 4096],
+        }
+    }
+
+    // Goes on to the line's end or to the end of the block, whichever comes first; behind a whole line the next one begins.
+    // Where the input ends, bytes without a line feed are a line too.
+    // The only error is the reader's own; the line is then as it was, and so are the place in the input and the bytes that the reader still has, where they are known.
+    pub fn advance<R: Read>(&mut self, from: &mut R, line: &mut Line) -> io::Result<()>
+        ensures err { OnErr result ((line.new ≡ line.old) × Keeps (R.remaining from.old) (R.remaining from.new)) }
+        ensures input { OnErr result ((self.new.ended ≡ self.old.ended) × (self.new.at ≡ self.old.at) × (self.new.count ≡ self.old.count)) }
+    {
+        if self.at == self.count {
+            let count = from.read(&mut self.block)?;
+            self.at = 0;
+            self.count = count;
+        }
+        line.begin();
+        if self.at < self.count {
+            self.at += line.gather(&self.block[self.at..self.count]);
+            return Ok(());
+        }
+        self.ended = true;
+        if line.length != Some(0) {
+            line.end();
+        }
+        Ok(())
+    }
+}
+
+// Hands each line to the closure, as long as it answers that more are wanted, and says how many lines there were.
+// The only errors are the reader's and the closure's.
+pub fn each_line<R: Read, F: FnMut(&Line) -> io::Result<bool>>(
+    from: &mut R,
+    mut each: F,
+) -> io::Result<u64>
+    requires { F.IsAlwaysCallable each }
+{
+    let mut input = Input::new();
+    let mut line = Line::new();
+    // A proved loop has to end, and nothing says that the input does, so there are more turns than any input uses up.
+    for _ in 0..u64::MAX {
+        input.advance(from, &mut line)?;
+        if line.whole && !each(&line)? {
+            break;
+        }
+        if input.ended {
+            break;
+        }
+    }
+    Ok(line.number)
 }
 
 // Reads until all places are taken or the input ends, and answers how many bytes stand at the front. The only error is the reader's own;
@@ -77,6 +155,7 @@ pub fn read_full<R: Read>(from: &mut R, bytes: &mut [u8]) -> io::Result<usize>
     ensures err { OnErr result ((n : ℕ) × Consumes (R.remaining from.old) (R.remaining from.new) (take n bytes.new)) }
 {
     let mut done = 0;
+    // A read gives as many bytes as it will, so no range counts the turns. Not `read_exact`: an end before the last place is no error here, and what was read is counted.
     while done < bytes.len() {
         let n = from.read(&mut bytes[done..])?;
         if n == 0 {
@@ -85,78 +164,4 @@ pub fn read_full<R: Read>(from: &mut R, bytes: &mut [u8]) -> io::Result<usize>
         done += n;
     }
     Ok(done)
-}
-
-fn begin_line(input: Input) -> Input
-    ensures { result.length ≤ 1023 }
-{
-    let mut next = input;
-    next.length = 0;
-    next.too_long = false;
-    next.whole = false;
-    if input.whole {
-        return next;
-    }
-    if 1023 < input.length {
-        return next;
-    }
-    input
-}
-
-fn end_input(input: Input) -> Input
-    requires { input.length ≤ 1023 }
-    ensures { result.length ≤ 1023 }
-{
-    let mut next = input;
-    next.ended = true;
-    if input.length == 0 {
-        if !input.too_long {
-            return next;
-        }
-    }
-    next.lines = std::num::wrapping_add_u64(input.lines, 1);
-    next.whole = true;
-    next
-}
-
-fn gather_block(input: Input, block: &[u8], line: &mut [u8; 1023]) -> Input
-    requires { input.length ≤ 1023 }
-    ensures { result.length ≤ 1023 }
-{
-    let mut next = input;
-    let mut at = input.at;
-    while at < block.len() && !next.whole {
-        let byte = block[at];
-        if byte == LINE_FEED {
-            next.lines = std::num::wrapping_add_u64(next.lines, 1);
-            next.whole = true;
-        } else {
-            let gathered = gather_byte(line, next.length, byte);
-            next.length = gathered.length;
-            next.too_long = gathered.full;
-        }
-        at += 1;
-    }
-    next.at = at;
-    next
-}
-
-// The bytes of a line so far, and whether the last one found no place.
-#[derive(Clone, Copy)]
-struct Length {
-    length: usize,
-    full: bool,
-}
-
-fn gather_byte(line: &mut [u8; 1023], length: usize, byte: u8) -> Length
-    requires { length ≤ 1023 }
-    ensures { result.length ≤ 1023 }
-{
-    match gather(line, length, byte) {
-        Gathered::To(longer) => Length {
-            length: longer,
-            full: false,
-        },
-        Gathered::Full => Length { length, full: true },
-    }
 }

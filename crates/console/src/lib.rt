@@ -2,10 +2,12 @@
 
 #![tactic(auto)]
 
+pub mod fault;
 pub mod input;
 pub mod listing;
 pub mod numbers;
 pub mod paper;
 pub mod print;
 pub mod rows;
+pub mod sheets;
 pub mod tables;

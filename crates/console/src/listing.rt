@@ -1,71 +1,34 @@
 // The listing of a sheet (document 01, section 8): a line for each operator and one for the path, or the refusal.
 
-use crate::print::{end_line, labelled, number, refused, text};
-use figures::Figure;
-use operator::Operator;
+use crate::print::refused;
+use figures::{Figure, PathFigures, figures};
 use quantity::Units;
-use sheet::PathValue;
-use sheet::read::Verdict;
 use std::io;
 use std::io::Write;
 
 pub fn list<W: Write>(out: &mut W, sheet: &[u8]) -> io::Result<()> {
-    let answer = figures::figures(sheet);
-    let verdict = answer.verdict;
-    match verdict {
-        Verdict::Accepted => {
-            let path = answer.path;
-            let figures = answer.figures;
-            let capacity = sum(figures);
-            lines(out, path, figures)?;
-            labelled(out, b"path ", capacity.0)?;
-            labelled(out, b" ", answer.delay.0 as u64)?;
-            end_line(out)
+    match figures(sheet) {
+        Ok(answer) => {
+            lines(out, &answer)?;
+            writeln!(out, "path {} {}", sum(&answer.figures).0, answer.delay.0)
         }
-        Verdict::Refused(why) => refused(out, why),
+        Err(why) => refused(out, why),
     }
 }
 
 // The capacities of all sixteen places: behind the path's operators they are 0.
-fn sum(figures: [Figure; 16]) -> Units {
-    let mut capacity = Units(0);
-    let mut k = 0;
-    while k < 16 {
-        let figure = figures[k];
-        capacity = capacity.plus(figure.capacity);
-        k += 1;
-    }
-    capacity
+fn sum(figures: &[Figure; 16]) -> Units {
+    figures
+        .iter()
+        .fold(Units(0), |sum, figure| sum.plus(figure.capacity))
 }
 
-fn lines<W: Write>(out: &mut W, path: PathValue, figures: [Figure; 16]) -> io::Result<()> {
-    let operators = path.operators;
-    let count = path.count;
-    let mut k = 0;
-    while k < 16 && k < count {
-        let linked = operators[k];
-        let operator = linked.operator;
-        let figure = figures[k];
-        line(out, k, operator, figure)?;
-        k += 1;
+fn lines<W: Write>(out: &mut W, answer: &PathFigures) -> io::Result<()> {
+    let path = &answer.path;
+    let placed = path.operators.iter().zip(&answer.figures);
+    for (k, (linked, figure)) in placed.take(path.count).enumerate() {
+        let kind = linked.operator.name();
+        writeln!(out, "{k} {kind} {} {}", figure.capacity.0, figure.delay.0)?;
     }
     Ok(())
-}
-
-fn line<W: Write>(out: &mut W, index: usize, operator: Operator, figure: Figure) -> io::Result<()> {
-    number(out, index as u64)?;
-    kind(out, operator)?;
-    number(out, figure.capacity.0)?;
-    labelled(out, b" ", figure.delay.0 as u64)?;
-    end_line(out)
-}
-
-fn kind<W: Write>(out: &mut W, operator: Operator) -> io::Result<()> {
-    match operator {
-        Operator::Limiter(_) => text(out, b" limiter "),
-        Operator::Compactor(_) => text(out, b" compactor "),
-        Operator::Expander(_) => text(out, b" expander "),
-        Operator::Filter(_) => text(out, b" filter "),
-        Operator::Delayer(_) => text(out, b" delayer "),
-    }
 }

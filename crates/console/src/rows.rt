@@ -2,21 +2,13 @@
 
 use crate::numbers::narrow;
 use flow::DeclaredRow;
-use quantity::{Interval, Quota};
 
 // The rows of up to ten numbers. A fifth row is left out: that there is one is said by the count of rows.
 pub fn rows_of(numbers: &[u64; 10]) -> [DeclaredRow; 4] {
-    [
-        row_of(numbers[0], numbers[1]),
-        row_of(numbers[2], numbers[3]),
-        row_of(numbers[4], numbers[5]),
-        row_of(numbers[6], numbers[7]),
-    ]
+    let [m, q, m2, q2, m3, q3, m4, q4, _, _] = *numbers;
+    [row_of(m, q), row_of(m2, q2), row_of(m3, q3), row_of(m4, q4)]
 }
 
 fn row_of(interval: u64, quota: u64) -> DeclaredRow {
-    DeclaredRow {
-        interval: Interval(narrow(interval)),
-        quota: Quota(narrow(quota)),
-    }
+    DeclaredRow::of(narrow(interval), narrow(quota))
 }

@@ -1,105 +1,27 @@
-// Tables of words: the words stand one behind the other, with a bar between two.
+// Tables of words, each with what it stands for.
 
-ghost use Rattle.std.specs.Prelude.{◌+◌, ◌≤◌, length};
+ghost use Rattle.std.specs.Prelude.{◌≤◌, length, IfSome};
 
-use crate::print::{end_line, error, labelled};
-use std::io;
-use std::io::Write;
-use text::line::starts_with;
-
-const BAR: u8 = 124;
-
-const SPACE: u8 = 32;
-
-// Where a word stands in its table.
+// What a line's first word stands for, and the text behind the word and a space; none, where the line ends with the word.
 #[derive(Clone, Copy)]
-struct Span {
-    from: usize,
-    end: usize,
+pub struct Found<'a, T> {
+    pub what: T,
+    pub behind: Option<&'a [u8]>,
 }
 
-// Which word a line begins with, and where the line goes on behind the word and a space; behind the last index there is none.
-#[derive(Clone, Copy)]
-pub struct Found {
-    pub index: usize,
-    pub behind: usize,
-}
-
-// Where the word ends that begins at an index.
-fn end_of(table: &[u8], from: usize) -> usize
-    requires { from ≤ length table.now }
-    ensures { (from ≤ result) × (result ≤ length table.now) }
+// The first word of the table with which a line begins, and behind which it ends or has a space.
+pub fn find<'a, T: Copy>(words: &[(&[u8], T)], line: &'a [u8]) -> Option<Found<'a, T>>
+    ensures { IfSome result (λ found. IfSome found.behind (λ behind. length behind.now ≤ length line.now)) }
 {
-    let mut end = from;
-    while end < table.len() && table[end] != BAR {
-        end += 1;
-    }
-    end
-}
-
-// The word of an index, or the last one where there are not so many.
-fn span_of(table: &[u8], index: usize) -> Span
-    ensures { (result.from ≤ result.end) × (result.end ≤ length table.now) }
-{
-    let mut from = 0;
-    let mut end = end_of(table, 0);
-    let mut left = index;
-    while left > 0 {
-        if table.len() <= end {
-            return Span { from, end };
-        }
-        from = end + 1;
-        end = end_of(table, from);
-        left -= 1;
-    }
-    Span { from, end }
-}
-
-// `error`, the number of the line, and what is wrong with it: the word of an index.
-pub fn error_of<W: Write>(out: &mut W, line: u64, table: &[u8], index: usize) -> io::Result<()> {
-    let span = span_of(table, index);
-    let from = span.from;
-    let end = span.end;
-    error(out, line, &table[from..end])
-}
-
-// A line of numbers, each behind its label, the word of its index.
-pub fn row<W: Write>(out: &mut W, labels: &[u8], numbers: &[u64]) -> io::Result<()> {
-    for (k, number) in numbers.iter().enumerate() {
-        let span = span_of(labels, k);
-        let from = span.from;
-        let end = span.end;
-        labelled(out, &labels[from..end], *number)?;
-    }
-    end_line(out)
-}
-
-pub fn find(table: &[u8], line: &[u8]) -> Found
-    ensures { result.behind ≤ length table.now + 1 }
-{
-    let mut index = 0;
-    let mut from = 0;
-    while from < table.len() {
-        let end = end_of(table, from);
-        if has_word(line, &table[from..end]) {
-            return Found {
-                index,
-                behind: end - from + 1,
-            };
-        }
-        index += 1;
-        from = end + 1;
-    }
-    Found { index, behind: 0 }
-}
-
-// Whether a text begins with a word that ends there or at a space.
-fn has_word(line: &[u8], word: &[u8]) -> bool {
-    let end = word.len();
-    if end < line.len() {
-        if line[end] != SPACE {
-            return false;
-        }
-    }
-    starts_with(line, word)
+    words.iter().find_map(|(word, what)| match line.strip_prefix(*word) {
+        Some([]) => Some(Found {
+            what: *what,
+            behind: None,
+        }),
+        Some([b' ', behind @ ..]) => Some(Found {
+            what: *what,
+            behind: Some(behind),
+        }),
+        _ => None,
+    })
 }

@@ -2,6 +2,7 @@
 use Prim.Native.Nat.{ℕ, suc, ◌+◌, ◌*◌, ◌≤◌, ◌<◌, ◌-◌}
 use mathlib.Core.Path.{◌≡◌, sym, ap, subst, ◌∙◌}
 use mathlib.Core.List.{List}
+use Rattle.std.specs.Prelude.{Option, None, Some}
 use lib.ListN.{length}
 use mathlib.Core.Bool.{Bool, true, false}
 use native.Mathlib.Nat.{le_trans, le-mul_of_pos_right, mul-le-mul, mul_comm, div-mul-le_self, le-min, min-le_left}
@@ -31,8 +32,8 @@ use Rattle.operator.specs.FilterPart.{Slowest, unfiltered, filtered, slower}
 use Rattle.operator.specs.Operators.{number_in_range}
 use Rattle.operator.specs.declared.Operator.{Operator}
 use Rattle.operator.specs.declared.Operator.TheVariants.{Limiter, Compactor, Expander, Filter, Delayer}
-use Rattle.figures.specs.declared.carried.LeastRate.{LeastRate}
-use Rattle.figures.specs.declared.carried.LeastRate.TheVariants.{NoFilter, Least}
+use Rattle.figures.specs.declared.carried.Least.{Least}
+use Rattle.figures.specs.declared.class.Source.{Source}
 use Rattle.figures.specs.Progress.{Progress, behind}
 use Rattle.figures.specs.Figures.{part_delay, delay_of_part, own_delay, quota_behind, largest_changed_quota}
 use Rattle.figures.specs.declared.class.FlowClass.{FlowClass}
@@ -57,10 +58,10 @@ pub round-up-times : (x y : ℕ) → round_up x y * y ≤ x + (y - 1)
 unfolding round_up
 round-up-times x y = div-mul-le_self (x + (y - 1)) y
 
-pub rate-within : {slowest : LeastRate} {rate : Rate} {burst : Units} {slots : Slots} → slowest ≡ Least rate burst slots → RateWithin (slowest_in slowest) → (1 ≤ rate.0) × (rate.0 ≤ 65_535)
-rate-within e within = subst (λ (slowest : LeastRate). RateWithin (slowest_in slowest)) e within
+pub rate-within : {slowest : Option Least} {least : Least} → slowest ≡ Some least → RateWithin (slowest_in slowest) → (1 ≤ least.rate.0) × (least.rate.0 ≤ 65_535)
+rate-within e within = subst (λ (slowest : Option Least). RateWithin (slowest_in slowest)) e within
 
-pub burst-kept : {slowest : LeastRate} {rate : Rate} {burst : Units} {slots : Slots} (c : Class) → slowest ≡ Least rate burst slots → BurstKept c slowest → (burst.0 ≡ burst_at c rate.0) × (slots.0 ≡ round_up burst.0 rate.0)
+pub burst-kept : {slowest : Option Least} {least : Least} (c : Class) → slowest ≡ Some least → BurstKept c slowest → (least.burst.0 ≡ burst_at c least.rate.0) × (least.slots.0 ≡ round_up least.burst.0 least.rate.0)
 burst-kept c e kept = subst (BurstKept c) e kept
 
 -- burst + e·P, as units added to units
@@ -155,17 +156,14 @@ own-delay-bound p (Delayer d) paired within inside = omega (arith, part-delay-bo
 
 -- What the code keeps of a part is what the definitions say.
 
-kept-delay : (c : Class) (e : ℕ) (slowest : LeastRate) → BurstKept c slowest → slots_kept slowest + e ≡ part_delay c e (slowest_in slowest)
+kept-delay : (c : Class) (e : ℕ) (slowest : Option Least) → BurstKept c slowest → slots_kept slowest + e ≡ part_delay c e (slowest_in slowest)
 unfolding part_delay
-kept-delay c e NoFilter kept = omega arith
-kept-delay c e (Least rate burst slots) (same, counted) = rw (counted, same)
+kept-delay c e None kept = omega arith
+kept-delay c e (Some least) (same, counted) = rw (counted, same)
 
-module _ {longest : ℕ} {declared : Declaration} {bound : List ℕ} {carried : Carried} (ready : Ready longest declared bound carried) where
-  pub delay-kept : slots_kept carried.slowest + carried.e.0 ≡ delay_of_part (progress_in declared carried)
-  delay-kept = kept-delay (class_in declared carried.class) carried.e.0 carried.slowest ready.burst
-
-  pub ready-longer : {longer : ℕ} → longest ≤ longer → Ready longer declared bound carried
-  ready-longer h = record { within = within-le h ready.within; lent = ready.lent; burst = ready.burst }
+module _ {longest : ℕ} {source : Source} {carried : Carried} (ready : Ready longest source carried) where
+  pub delay-kept : slots_kept carried.slowest + carried.e.0 ≡ delay_of_part (progress_in source.declared.now carried)
+  delay-kept = kept-delay (class_in source.declared.now carried.class) carried.e.0 carried.slowest ready.burst
 
 -- How late a part is: a table of its rows reaches one slot beyond.
 
@@ -175,47 +173,48 @@ rows-slots given k m R within positive some short =
     round-up-least (rows_burst given k R) R (m - 1) positive (rows-burst-slots given k within.0 (λ i less. (within.2 i less).large) R m some short)
 
 rows-late : (declared : Declaration) (bound : List ℕ) → ClassWithin (rows (several_at declared) declared.count) → (e : ℕ) → ReachesPast Kind.Rows declared bound e
-    → (slowest : LeastRate) → RateWithin (slowest_in slowest) → BurstKept (rows (several_at declared) declared.count) slowest → suc (slots_kept slowest + e) ≤ length bound
+    → (slowest : Option Least) → RateWithin (slowest_in slowest) → BurstKept (rows (several_at declared) declared.count) slowest → suc (slots_kept slowest + e) ≤ length bound
 unfolding burst_at
-rows-late declared bound within e far NoFilter rate kept = omega (arith, far 0 within.0, (within.2 0 within.0).large)
-rows-late declared bound within e far (Least R burst slots) rate (same, counted) =
+rows-late declared bound within e far None rate kept = omega (arith, far 0 within.0, (within.2 0 within.0).large)
+rows-late declared bound within e far (Some least) rate (same, counted) =
+    let R = least.rate in
     let some : suc e ≤ length bound = omega (arith, far 0 within.0, (within.2 0 within.0).large) in
     let sent = rows-slots (several_at declared) declared.count (length bound - e) R.0 within rate.0 (omega arith) (λ i less. omega (arith, far i less)) in
-    let slots-are : slots.0 ≡ round_up (rows_burst (several_at declared) declared.count R.0) R.0 = counted ∙ ap (λ (units : ℕ). round_up units R.0) same in
+    let slots-are : least.slots.0 ≡ round_up (rows_burst (several_at declared) declared.count R.0) R.0 = counted ∙ ap (λ (units : ℕ). round_up units R.0) same in
     omega (arith, sent, slots-are)
 
 reaches-by : (kind : Kind) (declared : Declaration) (bound : List ℕ) (interval : Interval) (quota : Units) → let class : FlowClass = record { kind = kind; interval = interval; quota = quota } in
-    ClassWithin (class_in declared class) → (e : ℕ) → ReachesPast kind declared bound e → (slowest : LeastRate) → RateWithin (slowest_in slowest) → BurstKept (class_in declared class) slowest
+    ClassWithin (class_in declared class) → (e : ℕ) → ReachesPast kind declared bound e → (slowest : Option Least) → RateWithin (slowest_in slowest) → BurstKept (class_in declared class) slowest
     → Reaches kind bound (suc (slots_kept slowest + e))
 reaches-by Kind.Smooth declared bound interval quota within e far slowest rate kept = tt
 reaches-by Kind.Uniform declared bound interval quota within e far slowest rate kept = tt
 reaches-by Kind.Rows declared bound interval quota within e far slowest rate kept = rows-late declared bound within e far slowest rate kept
 
-module _ {declared : Declaration} {bound : List ℕ} {carried : Carried} (ready : Ready most_before declared bound carried) where
+module _ {source : Source} {carried : Carried} (ready : Ready most_before source carried) where
   pub late-small : slots_kept carried.slowest + carried.e.0 ≤ 134_218_750
-  late-small = omega (arith, delay-kept ready, part-delay-bound most_before (progress_in declared carried) ready.within)
+  late-small = omega (arith, delay-kept ready, part-delay-bound most_before (progress_in source.declared.now carried) ready.within)
 
-  pub late-reaches : ReachesPast carried.class.kind declared bound carried.e.0 → Reaches carried.class.kind bound (suc (slots_kept carried.slowest + carried.e.0))
+  pub late-reaches : ReachesPast carried.class.kind source.declared.now source.bound.now carried.e.0 → Reaches carried.class.kind source.bound.now (suc (slots_kept carried.slowest + carried.e.0))
   late-reaches far =
-      reaches-by carried.class.kind declared bound carried.class.interval carried.class.quota ready.within.class carried.e.0 far carried.slowest ready.within.slowest ready.burst
+      reaches-by carried.class.kind source.declared.now source.bound.now carried.class.interval carried.class.quota ready.within.class carried.e.0 far carried.slowest ready.within.slowest ready.burst
 
 -- behind a delayer
-pub delayer-ready : {declared : Declaration} {bound : List ℕ} (carried : Carried) (d : Delay) → Ready most_before declared bound carried → number_in_range (Delayer d) ≡ true
-    → Ready most_with declared bound (record { class = carried.class; filtering = true; e = record { 0 = carried.e.0 + d.0 }; slowest = carried.slowest })
+pub delayer-ready : {source : Source} (carried : Carried) (d : Delay) → Ready most_before source carried → number_in_range (Delayer d) ≡ true
+    → Ready most_with source (record { class = carried.class; filtering = true; e = record { 0 = carried.e.0 + d.0 }; slowest = carried.slowest })
 unfolding behind
-delayer-ready {declared} carried d ready inside =
-    record { within = delayer-within (progress_in declared carried) d ready.within inside; lent = ready.lent; burst = ready.burst }
+delayer-ready {source} carried d ready inside =
+    record { within = delayer-within (progress_in source.declared.now carried) d ready.within inside; lent = ready.lent; burst = ready.burst }
 
 -- behind a filter, what the slots that are kept come to more is what it adds to the delay of its part; it takes nothing where its rate carries the class
-module _ {declared : Declaration} {bound : List ℕ} (before after : Carried) (R : Rate) (ready : Ready most_before declared bound before) (later : Ready most_with declared bound after)
-    (same : progress_in declared after ≡ behind (progress_in declared before) (Filter R)) where
+module _ {source : Source} (before after : Carried) (R : Rate) (ready : Ready most_before source before) (later : Ready most_with source after)
+    (same : progress_in source.declared.now after ≡ behind (progress_in source.declared.now before) (Filter R)) where
   same-slots : after.e.0 ≡ before.e.0
   unfolding behind
   same-slots = ap (λ (p : Progress). p.e) same
 
-  pub filter-own : slots_kept after.slowest - slots_kept before.slowest ≡ delay_of_part (behind (progress_in declared before) (Filter R)) - delay_of_part (progress_in declared before)
+  pub filter-own : slots_kept after.slowest - slots_kept before.slowest ≡ delay_of_part (behind (progress_in source.declared.now before) (Filter R)) - delay_of_part (progress_in source.declared.now before)
   filter-own = omega (arith, same-slots, delay-kept ready, delay-kept later, ap delay_of_part same)
 
-  pub filter-adds : number_in_range (Filter R) ≡ true → carries (class_in declared before.class) R.0 ≡ true → slots_kept before.slowest ≤ slots_kept after.slowest
+  pub filter-adds : number_in_range (Filter R) ≡ true → carries (class_in source.declared.now before.class) R.0 ≡ true → slots_kept before.slowest ≤ slots_kept after.slowest
   filter-adds inside enough =
-      omega (arith, same-slots, delay-kept ready, delay-kept later, ap delay_of_part same, filter-delays most_before (progress_in declared before) R ready.within inside enough)
+      omega (arith, same-slots, delay-kept ready, delay-kept later, ap delay_of_part same, filter-delays most_before (progress_in source.declared.now before) R ready.within inside enough)

@@ -1,9 +1,10 @@
 -- A class by its kind, and the lent table: what the code reads there is what section 4 and document 02, item 6 say of the class.
 use Prim.Native.Nat.{ℕ, zero, suc, ◌+◌, ◌-◌, ◌*◌, ◌≤◌, ◌<◌, max}
 use mathlib.Core.Path.{◌≡◌, refl, sym, ap, ap₂, subst, subst⁻¹}
-use mathlib.Core.Bool.{true, false, true≢false}
+use mathlib.Core.Bool.{true, false}
 use mathlib.Core.List.{List, ◌∷◌}
-use mathlib.Core.Logic.{⊎_elim}
+use mathlib.Core.Logic.{◌⊎◌, ⊎_elim}
+use Rattle.std.specs.Prelude.{Option, None, Some, is_some}
 use native.Mathlib.Nat.{not-suc-le-zero, le_of_suc-le-suc, eq-or-lt_of_le, le_trans}
 use native.Mathlib.Numerals.{add-one}
 use native.Mathlib.Omega.{arith}
@@ -19,37 +20,36 @@ use Rattle.flow.proofs.Laws.{rows_none, reach-le}
 use Rattle.flow.proofs.Declarations.{kind-of-rows}
 use Rattle.flow.proofs.ClassBounds.{rows-most-bound}
 use Rattle.figures.specs.declared.class.FlowClass.{FlowClass}
-use Rattle.figures.specs.Carried.{class_in, HasBound, Lent, Reaches, ReachesPast}
+use Rattle.figures.specs.Carried.{class_in, HasBound, Lent, Reaches, ReachesPast, Reached}
+use Rattle.quantity.specs.declared.Interval.{Interval}
 
 -- The row that a rate reaches over.
 
--- past one more row that the rate does not carry
-pub none-next : (given : ℕ → Row) (i R : ℕ) → rows_carried given i R ≡ false → row_carried (given i) R ≡ false → (rows_carried given (i + 1) R ≡ false) × (reach given (i + 1) R ≡ 0)
+-- of rows that the rate does not carry none is reached
+pub none-carried : (given : ℕ → Row) (k R : ℕ) → ((i : ℕ) → i < k → row_carried (given i) R ≡ false) → (rows_carried given k R ≡ false) × (reach given k R ≡ 0)
 unfolding rows_carried reach
-none-next given i R before here = rw (add-one, before, here) (refl, refl)
+none-carried given zero R none = (refl, refl)
+none-carried given (suc k) R none = let (before, reached) = none-carried given k R (λ i less. none i (omega arith)) in rw (before, none k (omega arith)) (refl, refl)
 
 -- the first that it carries, with more behind it
-reach-first-of : (given : ℕ → Row) (i R : ℕ) → rows_carried given i R ≡ false → row_carried (given i) R ≡ true → (k : ℕ) → i < k → (rows_carried given k R ≡ true) × (reach given k R ≡ (given i).interval)
+pub reach-first : (given : ℕ → Row) (i R : ℕ) → rows_carried given i R ≡ false → row_carried (given i) R ≡ true → (k : ℕ) → i < k → (rows_carried given k R ≡ true) × (reach given k R ≡ (given i).interval)
 unfolding rows_carried reach
-reach-first-of given i R before here zero less = absurd (not-suc-le-zero less)
-reach-first-of given i R before here (suc k) less =
+reach-first given i R before here zero less = absurd (not-suc-le-zero less)
+reach-first given i R before here (suc k) less =
     ⊎_elim
     (λ same. rw (← same, before, here) (refl, refl))
-    (λ below. let (some, reached) = reach-first-of given i R before here k below in rw some (refl, reached))
+    (λ below. let (some, reached) = reach-first given i R before here k below in rw some (refl, reached))
     (eq-or-lt_of_le (le_of_suc-le-suc less))
 
-pub reach-first : (given : ℕ → Row) (i R k : ℕ) → rows_carried given i R ≡ false → row_carried (given i) R ≡ true → i < k → reach given k R ≡ (given i).interval
-reach-first given i R k before here less = (reach-first-of given i R before here k less).1
+-- where there is such a row, the rows are carried
+pub reached-carried : (given : ℕ → Row) (k R : ℕ) (found : Option Interval) → Reached given k R found → is_some found ≡ rows_carried given k R
+reached-carried given k R None (none, reached) = sym none
+reached-carried given k R (Some interval) (some, reached) = sym some
 
 -- of one row, the rate makes its quota in its interval
-pub one-carried : (declared : Declaration) (class : FlowClass) (R : ℕ) → has_rows class.kind ≡ false → carries (class_in declared class) R ≡ leb class.quota.0 (class.interval.0 * R)
+pub one-carried : (declared : Declaration) (class : FlowClass) (R : ℕ) → (class.kind ≡ Kind.Smooth) ⊎ (class.kind ≡ Kind.Uniform) → carries (class_in declared class) R ≡ leb class.quota.0 (class.interval.0 * R)
 unfolding carries
-one-carried declared class R = by-kind class.kind
-  where
-    by-kind : (kind : Kind) → has_rows kind ≡ false → carries (class_in declared (record { kind = kind; interval = class.interval; quota = class.quota })) R ≡ leb class.quota.0 (class.interval.0 * R)
-    by-kind Kind.Smooth e = refl
-    by-kind Kind.Uniform e = refl
-    by-kind Kind.Rows e = absurd (true≢false e)
+one-carried declared class R = ⊎_elim (λ e. rw e) (λ e. rw e)
 
 -- The lent table.
 

@@ -19,13 +19,12 @@ use Rattle.quantity.specs.Refusals.{Case, first_of}
 use Rattle.quantity.specs.declared.Slots.{Slots}
 use Rattle.quantity.specs.declared.refusal.Refusal.{Refusal}
 use Rattle.quantity.specs.declared.refusal.Refusal.TheVariants.{DelayAboveWanted}
-use Rattle.quantity.proofs.Refusals.{NoneStands, none-of-both, none-of-each, first_of-none, first_of-append, first_of-map, none-where-result}
+use Rattle.quantity.proofs.Refusals.{NoneStands, none-of-both, none-of-each, first_of-none, first_of-append, first_of-map}
 use Rattle.quantity.proofs.Quantities.{slots-sum}
 use Rattle.quantity.proofs.Laws.{pick_true, pick-false}
 use Rattle.quantity.proofs.Sums.{both_true, total-zero, total-suc, total-next, total-le, total-same, list_of-ext}
 use Rattle.operator.specs.Operators.{number_in_range}
 use Rattle.flow.specs.Declarations.{declaration_in_range, class_of}
-use Rattle.flow.specs.declared.Declaration.{Declaration}
 use Rattle.flow.proofs.ClassBounds.{class-within}
 use Rattle.operator.specs.declared.Operator.{Operator}
 use Rattle.sheet.specs.Paths.{Path, no_linked_operator}
@@ -34,15 +33,16 @@ use Rattle.sheet.specs.Bodies.{operator_in_range}
 use Rattle.sheet.specs.Sheets.{rest_in_range, path_in_range, operators_in_range}
 use Rattle.sheet.specs.declared.LinkedOperator.{LinkedOperator}
 use Rattle.sheet.specs.declared.PathValue.{PathValue}
-use Rattle.sheet.specs.declared.read.Verdict.{Verdict}
 use Rattle.figures.specs.declared.Figure.{Figure}
-use Rattle.figures.specs.declared.PathFigures.{PathFigures}
 use Rattle.figures.specs.declared.carried.Carried.{Carried}
 use Rattle.figures.specs.Progress.{Progress, start, behind, progress_at}
 use Rattle.figures.specs.Figures.{pairs, quota_behind, figure_too_large, largest_changed_quota}
-use Rattle.figures.specs.Answers.{operator_at, before, paired_at, capacity_at, delay_at, operator_cases, operators_cases, path_cases, figure_at, no_figure, figure_in, path_delay, refused_figures, accepted_figures}
-use Rattle.figures.specs.declared.carried.LeastRate.TheVariants.{NoFilter}
-use Rattle.figures.specs.Carried.{class_in, progress_in, Within, Lent, BurstKept, Ready, most_before, slots_of, slots_before, Outcome, has_figure, has_refusal, planned_of, PathWithin, figures_of_value}
+use Rattle.figures.specs.Answers.{operator_at, before, paired_at, capacity_at, delay_at, operator_cases, operators_cases, path_cases, figure_at, no_figure, figure_in, path_delay}
+use Rattle.sheet.proofs.AnswerLaws.{none-of-ok, ok-is}
+use Rattle.std.specs.Prelude.{None, Some, Result, Ok, Err}
+use Rattle.figures.specs.declared.class.Source.{Source}
+use Rattle.operator.specs.Single.{words_used}
+use Rattle.figures.specs.Carried.{class_in, progress_in, Within, Lent, BurstKept, Ready, most_before, slots_before, planned_of, pairs_with, follower_in, PathWithin, PlannedPath, planned_of_value}
 use Rattle.figures.proofs.Bounds.{in-range, within-le, behind-within, own-delay-bound}
 
 -- the figure at each place, once the first k operators are done
@@ -50,10 +50,10 @@ unfoldable pub figure_up_to : Path → ℕ → ℕ → Figure
 figure_up_to path k j = pick (ltb j k) (figure_at path j) no_figure
 
 -- what holds before operator k
-pub record Walked (declared : Declaration) (bound : List ℕ) (path : Path) (k : ℕ) (carried : Carried) (figures : List Figure) (delay : Slots) : Type 0 where
-  pub carries : progress_in declared carried ≡ before path k
-  pub lent : Lent carried.class.kind declared bound
-  pub burst : BurstKept (class_in declared carried.class) carried.slowest
+pub record Walked (source : Source) (path : Path) (k : ℕ) (carried : Carried) (figures : List Figure) (delay : Slots) : Type 0 where
+  pub carries : progress_in source.declared.now carried ≡ before path k
+  pub lent : Lent carried.class.kind source.declared.now source.bound.now
+  pub burst : BurstKept (class_in source.declared.now carried.class) carried.slowest
   pub passed : NoneStands (operators_cases path k)
   pub long : length figures ≡ 16
   pub written : (j : ℕ) → j < 16 → get_or figures j no_figure ≡ figure_up_to path k j
@@ -116,26 +116,26 @@ module _ (path : Path) (few : length path.operators ≤ 16) (inside : path_in_ra
 
 -- The slots of delayers.
 
-slots-behind : (p : Progress) (op : Operator) → (behind p op).e ≤ p.e + slots_of op
-unfolding behind
+slots-behind : (p : Progress) (op : Operator) → (behind p op).e ≤ p.e + words_used op
+unfolding behind words_used
 slots-behind p (Operator.Limiter R) = omega arith
 slots-behind p (Operator.Compactor n) = omega arith
 slots-behind p (Operator.Expander n) = omega arith
 slots-behind p (Operator.Filter R) = omega arith
 slots-behind p (Operator.Delayer d) = omega arith
 
-slots-up-to : (path : Path) (k : ℕ) → (before path k).e ≤ total (λ j. slots_of (operator_at path j)) k
+slots-up-to : (path : Path) (k : ℕ) → (before path k).e ≤ total (λ j. words_used (operator_at path j)) k
 unfolding before progress_at
 slots-up-to path zero = omega arith
 slots-up-to path (suc k) =
-    omega (arith, total-suc (λ j. slots_of (operator_at path j)) k, slots-up-to path k, slots-behind (before path k) (operator_at path k))
+    omega (arith, total-suc (λ j. words_used (operator_at path j)) k, slots-up-to path k, slots-behind (before path k) (operator_at path k))
 
 slots-at-most : (slots : ℕ → ℕ) (n : ℕ) → ((k : ℕ) → k < n → slots k ≤ 64) → total slots n ≤ 64 * n
 slots-at-most slots zero small = omega (arith, total-zero slots)
 slots-at-most slots (suc n) small = omega (arith, total-suc slots n, slots-at-most slots n (λ k less. small k (omega arith)), small n (omega arith))
 
-slots_small : (op : Operator) → number_in_range op ≡ true → slots_of op ≤ 64
-unfolding number_in_range
+slots_small : (op : Operator) → number_in_range op ≡ true → words_used op ≤ 64
+unfolding number_in_range words_used
 slots_small (Operator.Limiter R) inside = omega arith
 slots_small (Operator.Compactor n) inside = omega arith
 slots_small (Operator.Expander n) inside = omega arith
@@ -143,10 +143,10 @@ slots_small (Operator.Filter R) inside = omega arith
 slots_small (Operator.Delayer d) inside = (in-range delay_range d.0 inside).1
 
 -- before operator 0
-pub walked_start : (declared : Declaration) (bound : List ℕ) (path : Path) (carried : Carried) (figure : Figure) → progress_in declared carried ≡ start (class_of path.declaration)
-    → Lent carried.class.kind declared bound → carried.slowest ≡ NoFilter → figure ≡ no_figure → Walked declared bound path 0 carried (replicate 16 figure) (record { 0 = 0 })
+pub walked_start : (source : Source) (path : Path) (carried : Carried) (figure : Figure) → progress_in source.declared.now carried ≡ start (class_of path.declaration)
+    → Lent carried.class.kind source.declared.now source.bound.now → carried.slowest ≡ None → figure ≡ no_figure → Walked source path 0 carried (replicate 16 figure) (record { 0 = 0 })
 unfolding before progress_at operators_cases figure_up_to
-walked_start declared bound path carried figure e lent none f =
+walked_start source path carried figure e lent none f =
     record {
       carries = e;
       lent = lent;
@@ -157,31 +157,27 @@ walked_start declared bound path carried figure e lent none f =
       summed = sym (total-zero (delay_at path));
     }
 
-abbrev HasFigure : Outcome → Type 0
-HasFigure (has_figure figure) = Unit {0}
-HasFigure (has_refusal why) = ⊥
-
-abbrev answer_of : {A : Type 0} → (Refusal → A) → A → Outcome → A
-answer_of refused rest (has_figure figure) = rest
-answer_of refused rest (has_refusal why) = refused why
+abbrev answer_of : {A : Type 0} → (Refusal → A) → A → Result Figure Refusal → A
+answer_of refused rest (Ok figure) = rest
+answer_of refused rest (Err why) = refused why
 
 module _ (path : Path) (k : ℕ) where
-  abbrev pub planned_at : Outcome
+  abbrev pub planned_at : Result Figure Refusal
   planned_at = planned_of (before path k) (operator_at path k) (paired_at path k) k
 
   -- operator k's figure fits
-  pub fits-passed : {figure : Figure} → has_figure figure ≡ planned_at → NoneStands (operator_cases path k)
+  pub fits-passed : {figure : Figure} → Ok figure ≡ planned_at → NoneStands (operator_cases path k)
   unfolding planned_of
-  fits-passed planned = none-where-result has_refusal (has_figure _) HasFigure (λ why h. h) (operator_cases path k) (subst HasFigure planned tt)
+  fits-passed planned = none-of-ok _ (operator_cases path k) (sym planned)
 
-  pub fits-figure : {figure : Figure} → has_figure figure ≡ planned_at → figure ≡ figure_at path k
+  pub fits-figure : {figure : Figure} → Ok figure ≡ planned_at → figure ≡ figure_at path k
   unfolding planned_of figure_at capacity_at delay_at
-  fits-figure planned = let e = planned ∙ first_of-none has_refusal (has_figure _) (operator_cases path k) (fits-passed planned) in (cc)
+  fits-figure planned = ok-is _ (operator_cases path k) (sym planned)
 
   -- operator k is refused
-  refused-here : {A : Type 0} (refused : Refusal → A) (rest : A) {why : Refusal} → has_refusal why ≡ planned_at → refused why ≡ first_of (operator_cases path k) refused rest
+  refused-here : {A : Type 0} (refused : Refusal → A) (rest : A) {why : Refusal} → Err why ≡ planned_at → refused why ≡ first_of (operator_cases path k) refused rest
   unfolding planned_of
-  refused-here refused rest planned = ap (answer_of refused rest) planned ∙ first_of-map (answer_of refused rest) has_refusal (has_figure _) (operator_cases path k)
+  refused-here refused rest planned = ap (answer_of refused rest) planned ∙ first_of-map (answer_of refused rest) Err (Ok _) (operator_cases path k)
 
   operators-split : (j : ℕ) → (rest : List Case) × (operators_cases path (suc k + j) ≡ operators_cases path k ++ (operator_cases path k ++ rest))
   unfolding operators_cases
@@ -189,7 +185,7 @@ module _ (path : Path) (k : ℕ) where
   operators-split (suc j) = let (rest, e) = operators-split j in (rest ++ operator_cases path (suc k + j), rw (add-suc, e) (simp append_assoc))
 
   -- so the path is: no operator before k stands in the way, and none behind it counts
-  pub refused-answer : {A : Type 0} (refused : Refusal → A) (result : A) (n : ℕ) (last : List Case) {why : Refusal} → k < n → NoneStands (operators_cases path k) → has_refusal why ≡ planned_at → refused why ≡ first_of (operators_cases path n ++ last) refused result
+  pub refused-answer : {A : Type 0} (refused : Refusal → A) (result : A) (n : ℕ) (last : List Case) {why : Refusal} → k < n → NoneStands (operators_cases path k) → Err why ≡ planned_at → refused why ≡ first_of (operators_cases path n ++ last) refused result
   refused-answer refused result n last h passed planned =
       let (j, e) = le_dest h in
       let (rest, split) = operators-split j in
@@ -213,9 +209,9 @@ ltb_next : (j k : ℕ) (t : Bool) → ltb j k ≡ t → (j ≡ k → ⊥) → t 
 ltb_next j k true e other = let less = ltb-true j k e in sym (lt-ltb j (k + 1) (omega arith))
 ltb_next j k false e other = let more = ltb-false j k e in sym (le-ltb j (k + 1) (omega arith))
 
-module _ {declared : Declaration} {bound : List ℕ} {path : Path} {k : ℕ} {carried : Carried} {figures : List Figure} {delay : Slots} (walked : Walked declared bound path k carried figures delay) where
+module _ {source : Source} {path : Path} {k : ℕ} {carried : Carried} {figures : List Figure} {delay : Slots} (walked : Walked source path k carried figures delay) where
   -- what was planned of what is carried is planned of operator k
-  pub walked-planned : {op : Operator} {paired : Bool} {planned : Outcome} → op ≡ operator_at path k → paired ≡ paired_at path k → planned ≡ planned_of (progress_in declared carried) op paired k → planned ≡ planned_at path k
+  pub walked-planned : {op : Operator} {paired : Bool} {planned : Result Figure Refusal} → op ≡ operator_at path k → paired ≡ paired_at path k → planned ≡ planned_of (progress_in source.declared.now carried) op paired k → planned ≡ planned_at path k
   walked-planned {op} {paired} e f g =
       g
       ∙ ap (λ (p : Progress). planned_of p op paired k) walked.carries
@@ -232,9 +228,9 @@ module _ {declared : Declaration} {bound : List ℕ} {path : Path} {k : ℕ} {ca
       ∙ ap (λ (t : Bool). pick t (figure_at path j) no_figure) (ltb_next j k (ltb j k) refl (eqb-false j k other))
 
   -- one operator on
-  pub walked_next : {figure : Figure} {next : Carried} {op : Operator} {later : Slots} → k < 16 → op ≡ operator_at path k → has_figure figure ≡ planned_at path k
-      → progress_in declared next ≡ behind (progress_in declared carried) op → Lent next.class.kind declared bound → BurstKept (class_in declared next.class) next.slowest
-      → later.0 ≡ delay.0 + figure.delay.0 → Walked declared bound path (k + 1) next (set figures k figure) later
+  pub walked_next : {figure : Figure} {next : Carried} {op : Operator} {later : Slots} → k < 16 → op ≡ operator_at path k → Ok figure ≡ planned_at path k
+      → progress_in source.declared.now next ≡ behind (progress_in source.declared.now carried) op → Lent next.class.kind source.declared.now source.bound.now → BurstKept (class_in source.declared.now next.class) next.slowest
+      → later.0 ≡ delay.0 + figure.delay.0 → Walked source path (k + 1) next (set figures k figure) later
   unfolding figure_at
   walked_next {figure} inside e planned f lent burst counted =
       let own = fits-figure path k planned in
@@ -249,7 +245,7 @@ module _ {declared : Declaration} {bound : List ℕ} {path : Path} {k : ℕ} {ca
       }
 
 -- behind the last operator
-module _ {declared : Declaration} {bound : List ℕ} {path : Path} {carried : Carried} {figures : List Figure} {delay : Slots} (walked : Walked declared bound path (length path.operators) carried figures delay) where
+module _ {source : Source} {path : Path} {carried : Carried} {figures : List Figure} {delay : Slots} (walked : Walked source path (length path.operators) carried figures delay) where
   pub walked-figures : figures ≡ list_of (figure_in path) 16
   unfolding figure_up_to figure_in
   walked-figures = list_of-ext no_figure (figure_in path) 16 figures walked.long walked.written
@@ -272,8 +268,8 @@ module _ {declared : Declaration} {bound : List ℕ} {path : Path} {carried : Ca
         let stands = rw walked-delay at (le-ltb path.wanted delay.0 soon) in
         sym (first_of-none refused result (path_cases path) (none-of-both (operators_cases path (length path.operators)) _ walked.passed (stands, tt)))
 
-abbrev accepted_path : PathValue → List Figure → ℕ → PathFigures
-accepted_path value figures delay = record { verdict = Verdict.Accepted; path = value; figures = figures; delay = record { 0 = delay } }
+abbrev planned_path : List Figure → ℕ → PlannedPath
+planned_path figures delay = record { figures = figures; delay = record { 0 = delay } }
 
 -- the same of such a path value
 module _ {value : PathValue} (within : PathWithin value) where
@@ -283,18 +279,18 @@ module _ {value : PathValue} (within : PathWithin value) where
   path-few : length (in_full value).operators ≤ 16
   path-few = rw path-size within.few
 
-  pub operator-slots : (k : ℕ) → k < value.count → slots_of (get_or value.operators k no_linked_operator).operator ≤ 64
+  pub operator-slots : (k : ℕ) → k < value.count → words_used (get_or value.operators k no_linked_operator).operator ≤ 64
   operator-slots k here =
-      subst (λ (op : Operator). slots_of op ≤ 64) (path-operator value k here)
+      subst (λ (op : Operator). words_used op ≤ 64) (path-operator value k here)
       (slots_small (operator_at (in_full value) k) (number-inside (in_full value) path-few within.inside k (rw path-size here)))
 
   pub slots-few : slots_before value ≤ most_before
   unfolding slots_before
   slots-few =
       let few = within.few in
-      omega (arith, slots-at-most (λ k. slots_of (get_or value.operators k no_linked_operator).operator) (value.count - 1) (λ k less. operator-slots k (omega arith)))
+      omega (arith, slots-at-most (λ k. words_used (get_or value.operators k no_linked_operator).operator) (value.count - 1) (λ k less. operator-slots k (omega arith)))
 
-  module _ {bound : List ℕ} {k : ℕ} {carried : Carried} {figures : List Figure} {delay : Slots} (walked : Walked value.declaration bound (in_full value) k carried figures delay) (here : k < value.count) where
+  module _ {source : Source} {k : ℕ} {carried : Carried} {figures : List Figure} {delay : Slots} (walked : Walked source (in_full value) k carried figures delay) (here : k < value.count) where
     before-end : k < length (in_full value).operators
     before-end = rw path-size here
 
@@ -306,33 +302,27 @@ module _ {value : PathValue} (within : PathWithin value) where
           arith,
           ap (λ (p : Progress). p.e) walked.carries,
           slots-up-to (in_full value) k,
-          total-same (λ j. slots_of (operator_at (in_full value) j)) (λ j. slots_of (get_or value.operators j no_linked_operator).operator) k (λ j less. ap slots_of (path-operator value j (omega arith))),
-          total-le (λ j. slots_of (get_or value.operators j no_linked_operator).operator) {n = k} {m = value.count - 1} (omega arith),
+          total-same (λ j. words_used (operator_at (in_full value) j)) (λ j. words_used (get_or value.operators j no_linked_operator).operator) k (λ j less. ap words_used (path-operator value j (omega arith))),
+          total-le (λ j. words_used (get_or value.operators j no_linked_operator).operator) {n = k} {m = value.count - 1} (omega arith),
         )
 
-    pub operator-ready : Ready most_before value.declaration bound carried × (number_in_range (get_or value.operators k no_linked_operator).operator ≡ true)
+    pub operator-ready : Ready most_before source carried × (number_in_range (operator_at (in_full value) k) ≡ true)
     operator-ready = (
       record { within = rw walked.carries (before-operator (in_full value) path-few within.inside k before-end walked.passed); lent = walked.lent; burst = walked.burst },
-      rw (← path-operator value k here) (number-inside (in_full value) path-few within.inside k before-end),
+      number-inside (in_full value) path-few within.inside k before-end,
     )
 
-    -- it is paired with the operator at the next place, if one follows
-    pub paired-here : {next : ℕ} → (k + 1 < 16 → next ≡ k + 1)
-        → pick (ltb (k + 1) value.count) (pairs (get_or value.operators k no_linked_operator).operator (get_or value.operators next no_linked_operator).operator) false ≡ paired_at (in_full value) k
-    unfolding paired_at
-    paired-here {next} found = by-test (ltb (k + 1) value.count) refl ∙ ap (λ (n : ℕ). pick (ltb (k + 1) n) (pairs (operator_at (in_full value) k) (operator_at (in_full value) (k + 1))) false) (sym path-size)
+    -- it is paired with the operator that follows it, if one does
+    pub paired-here : pairs_with (operator_at (in_full value) k) (follower_in (in_full value).operators k) ≡ paired_at (in_full value) k
+    unfolding paired_at operator_at
+    paired-here = by-test (ltb (k + 1) (length (in_full value).operators))
       where
-        by-test : (t : Bool) → ltb (k + 1) value.count ≡ t
-            → pick t (pairs (get_or value.operators k no_linked_operator).operator (get_or value.operators next no_linked_operator).operator) false ≡ pick t (pairs (operator_at (in_full value) k) (operator_at (in_full value) (k + 1))) false
-        by-test true e =
-            let follows = ltb-true (k + 1) value.count e in
-            let few = within.few in
-            ap₂ pairs (sym (path-operator value k here))
-            (ap (λ (n : ℕ). (get_or value.operators n no_linked_operator).operator) (found (omega arith)) ∙ sym (path-operator value (k + 1) follows))
-        by-test false e = refl
+        by-test : (t : Bool) → pairs_with (operator_at (in_full value) k) (pick t (Some (operator_at (in_full value) (k + 1))) None) ≡ pick t (pairs (operator_at (in_full value) k) (operator_at (in_full value) (k + 1))) false
+        by-test true = refl
+        by-test false = refl
 
     -- the sum of the delays does not stop at its largest number
-    pub delay-counted : {figure : Figure} {later : Slots} → has_figure figure ≡ planned_at (in_full value) k → later ≡ slots_sum delay figure.delay → later.0 ≡ delay.0 + figure.delay.0
+    pub delay-counted : {figure : Figure} {later : Slots} → Ok figure ≡ planned_at (in_full value) k → later ≡ slots_sum delay figure.delay → later.0 ≡ delay.0 + figure.delay.0
     unfolding figure_at
     delay-counted {figure} planned sum =
         let own = ap (λ (f : Figure). f.delay.0) (fits-figure (in_full value) k planned) in
@@ -345,20 +335,20 @@ module _ {value : PathValue} (within : PathWithin value) where
         ) in
         ap (λ (s : Slots). s.0) sum ∙ slots-sum delay figure.delay fits
 
-    pub refused-path : {why : Refusal} → has_refusal why ≡ planned_at (in_full value) k → refused_figures why ≡ figures_of_value value
-    unfolding figures_of_value
-    refused-path planned = refused-answer (in_full value) k refused_figures _ (length (in_full value).operators) _ before-end walked.passed planned
+    pub refused-path : {why : Refusal} → Err why ≡ planned_at (in_full value) k → Err why ≡ planned_of_value value
+    unfolding planned_of_value
+    refused-path planned = refused-answer (in_full value) k Err _ (length (in_full value).operators) _ before-end walked.passed planned
 
-  module _ {bound : List ℕ} {carried : Carried} {figures : List Figure} {delay : Slots} (walked : Walked value.declaration bound (in_full value) value.count carried figures delay) where
-    walked_end : Walked value.declaration bound (in_full value) (length (in_full value).operators) carried figures delay
+  module _ {source : Source} {carried : Carried} {figures : List Figure} {delay : Slots} (walked : Walked source (in_full value) value.count carried figures delay) where
+    walked_end : Walked source (in_full value) (length (in_full value).operators) carried figures delay
     walked_end = rw path-size walked
 
-    pub late-path : value.wanted.0 < delay.0 → refused_figures DelayAboveWanted ≡ figures_of_value value
-    unfolding figures_of_value in_full
-    late-path late = late-answer walked_end refused_figures _ late
+    pub late-path : value.wanted.0 < delay.0 → Err DelayAboveWanted ≡ planned_of_value value
+    unfolding planned_of_value in_full
+    late-path late = late-answer walked_end Err _ late
 
-    pub accepted-path : delay.0 ≤ value.wanted.0 → accepted_path value figures delay.0 ≡ figures_of_value value
-    unfolding figures_of_value accepted_figures in_full
+    pub accepted-path : delay.0 ≤ value.wanted.0 → Ok (planned_path figures delay.0) ≡ planned_of_value value
+    unfolding planned_of_value in_full
     accepted-path soon =
-        let answer = accepted-answer walked_end refused_figures (accepted_path value (list_of (figure_in (in_full value)) 16) (path_delay (in_full value))) soon in
-        ap₂ (accepted_path value) (walked-figures walked_end) (walked-delay walked_end) ∙ answer
+        let answer = accepted-answer walked_end Err (Ok (planned_path (list_of (figure_in (in_full value)) 16) (path_delay (in_full value)))) soon in
+        ap₂ (λ (figures : List Figure) (delay : ℕ). Ok (planned_path figures delay)) (walked-figures walked_end) (walked-delay walked_end) ∙ answer

@@ -1,25 +1,24 @@
 -- What the figures promise of a path that they accept, and of its sheet.
 use mathlib.Core.Path.{◌≡◌, refl}
 use mathlib.Core.Bool.{true, false}
-use mathlib.Core.List.{List, ◌++◌}
+use mathlib.Core.List.{List}
 use Prim.Native.Nat.{ℕ, ◌*◌, ◌≤◌, ◌<◌}
 use native.Mathlib.Nat.{le_refl, le_of_lt}
-use lib.ListN.{length, replicate}
+use lib.ListN.{length}
+use Rattle.std.specs.Prelude.{Ok}
 use Rattle.quantity.specs.Limits.{largest_amount, most_operators}
 use Rattle.quantity.specs.Sums.{list_of}
-use Rattle.quantity.specs.declared.refusal.Refusal.{Refusal}
-use Rattle.quantity.proofs.Refusals.{NoneStands, none-of-each, none-where-result, first_of-none}
+use Rattle.quantity.proofs.Refusals.{NoneStands, none-of-each}
 use Rattle.flow.specs.Flows.{Flow}
 use Rattle.flow.specs.Classes.{Positive, Keeps}
 use Rattle.flow.specs.Declarations.{class_of}
 use Rattle.operator.specs.Operators.{number_in_range}
-use Rattle.sheet.specs.declared.read.Verdict.{Verdict}
 use Rattle.sheet.specs.Paths.{Path}
-use Rattle.sheet.specs.Forms.{no_path}
 use Rattle.sheet.specs.Sheets.{sheet_cases, value_in, path_in, path_in_range}
-use Rattle.sheet.proofs.Accepted.{sheet-path, never-accepted}
+use Rattle.sheet.proofs.Accepted.{sheet-path}
+use Rattle.sheet.proofs.AnswerLaws.{none-of-ok, ok-is}
 use Rattle.figures.specs.declared.PathFigures.{PathFigures}
-use Rattle.figures.specs.Answers.{operator_at, before, held_at, capacity_at, path_delay, operators_cases, path_cases, figure_in, figures_of}
+use Rattle.figures.specs.Answers.{operator_at, before, held_at, capacity_at, path_delay, operators_cases, path_cases, figure_in, figures_cases, accepted_figures, figures_of}
 use Rattle.figures.specs.Figures.{figure_too_large}
 use Rattle.figures.specs.Along.{AllFit, Promised}
 use Rattle.figures.proofs.Capacities.{held-passed, capacity-le}
@@ -43,36 +42,25 @@ promised path inside none r choices kept fits =
       in_time = reached-end path r choices (reached path inside none r choices kept fits (length path.operators) (le_refl _));
     }
 
-module _ (sheet : List ℕ) where
-  abbrev answered : PathFigures
-  answered =
-      record { verdict = Verdict.Accepted; path = value_in sheet; figures = list_of (figure_in (path_in sheet)) 16; delay = record { 0 = path_delay (path_in sheet) } }
-
-  abbrev refused-for : Refusal → PathFigures
-  refused-for why =
-      record { verdict = Verdict.Refused why; path = no_path; figures = replicate 16 (record { capacity = record { 0 = 0 }; delay = record { 0 = 0 } }); delay = record { 0 = 0 } }
-
-  -- no refusal stands against an accepted sheet or its path
-  accepted-stands : (figures_of sheet).verdict ≡ Verdict.Accepted → NoneStands (sheet_cases sheet ++ path_cases (path_in sheet))
+-- a sheet whose figures are answered
+module _ (sheet : List ℕ) {answer : PathFigures} (accepted : figures_of sheet ≡ Ok answer) where
+  -- no refusal stands against it or its path
+  accepted-stands : NoneStands (figures_cases sheet)
   unfolding figures_of
-  accepted-stands =
-      none-where-result refused-for answered (λ (answer : PathFigures). answer.verdict ≡ Verdict.Accepted) never-accepted (sheet_cases sheet ++ path_cases (path_in sheet))
+  accepted-stands = none-of-ok (accepted_figures (value_in sheet) (path_in sheet)) (figures_cases sheet) accepted
 
-  accepted-answer : (figures_of sheet).verdict ≡ Verdict.Accepted → figures_of sheet ≡ answered
-  unfolding figures_of
-  accepted-answer accepted = first_of-none refused-for answered (sheet_cases sheet ++ path_cases (path_in sheet)) (accepted-stands accepted)
+  -- no refusal stands against its fields, nor against its path
+  pub accepted-none : NoneStands (sheet_cases sheet) × NoneStands (path_cases (path_in sheet))
+  accepted-none = none-of-each (sheet_cases sheet) (path_cases (path_in sheet)) accepted-stands
 
--- the theorem of the figures: of every accepted sheet, every flow that keeps the declaration and all choices that fit
-pub figures-promised : (sheet : List ℕ) → (figures_of sheet).verdict ≡ Verdict.Accepted
-    → (r : Flow) (choices : ℕ → Flow) → Keeps (class_of (path_in sheet).declaration) r → AllFit (path_in sheet) r choices → Promised (path_in sheet) r choices
-figures-promised sheet accepted =
-    let (of-sheet, of-path) = none-of-each (sheet_cases sheet) (path_cases (path_in sheet)) (accepted-stands sheet accepted) in
-    promised (path_in sheet) (sheet-path sheet of-sheet).inside of-path
+  -- the theorem of the figures: of every accepted sheet, every flow that keeps the declaration and all choices that fit
+  pub figures-promised : (r : Flow) (choices : ℕ → Flow) → Keeps (class_of (path_in sheet).declaration) r → AllFit (path_in sheet) r choices → Promised (path_in sheet) r choices
+  figures-promised = promised (path_in sheet) (sheet-path sheet accepted-none.0).inside accepted-none.1
 
--- the path and the delay that the figures answer are those of the theorem
-pub accepted-figures : (sheet : List ℕ) → (figures_of sheet).verdict ≡ Verdict.Accepted
-    → ((figures_of sheet).path ≡ value_in sheet) × ((figures_of sheet).delay.0 ≡ path_delay (path_in sheet)) × ((figures_of sheet).figures ≡ list_of (figure_in (path_in sheet)) 16)
-accepted-figures sheet accepted = rw (accepted-answer sheet accepted) (refl, refl, refl)
+  -- the path and the delay that the figures answer are those of the theorem
+  pub accepted-figures : (answer.path ≡ value_in sheet) × (answer.delay.0 ≡ path_delay (path_in sheet)) × (answer.figures ≡ list_of (figure_in (path_in sheet)) 16)
+  unfolding figures_of accepted_figures
+  accepted-figures = rw (ok-is (accepted_figures (value_in sheet) (path_in sheet)) (figures_cases sheet) accepted) (refl, refl, refl)
 
 -- a declaration in range has rows, and counts over at least one slot in each
 pub declared-positive : (path : Path) → path_in_range path ≡ true → Positive (class_of path.declaration)
@@ -105,7 +93,3 @@ module _ (path : Path) (inside : path_in_range path ≡ true) (none : NoneStands
 pub held-le-capacity : (path : Path) (k : ℕ) → held_at path k ≤ capacity_at path k
 unfolding held_at capacity_at
 held-le-capacity path k = Capacities.held-le-capacity (before path k) (operator_at path k)
-
--- no refusal stands against an accepted sheet's fields, nor against its path
-pub accepted-none : (sheet : List ℕ) → (figures_of sheet).verdict ≡ Verdict.Accepted → NoneStands (sheet_cases sheet) × NoneStands (path_cases (path_in sheet))
-accepted-none sheet accepted = none-of-each (sheet_cases sheet) (path_cases (path_in sheet)) (accepted-stands sheet accepted)

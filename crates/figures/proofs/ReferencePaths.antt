@@ -24,7 +24,9 @@ use Rattle.words.specs.Stored.{stored_fits, word_fits}
 use Rattle.operator.specs.Single
 use Rattle.flow.specs.declared.Kind.{Kind}
 use Rattle.operator.specs.declared.Operator.{Operator}
-use Rattle.operator.specs.declared.single.Stepped.{Stepped}
+use Rattle.operator.specs.declared.single.Sent.{Sent}
+use Rattle.quantity.specs.declared.refusal.Refusal.{Refusal}
+use Rattle.std.specs.Prelude.{Result, Ok, Err}
 use Rattle.sheet.specs.Paths.{Path}
 use Rattle.figures.specs.Progress.{behind, progress_at}
 use Rattle.figures.specs.Figures.{part_held, part_delay, held_figure, most_arriving, capacity, own_delay, pairs, is_framed, framed_after_filter, quota_behind, figure_too_large, rate_too_low}
@@ -73,9 +75,9 @@ outcome path =
     (figures (list_of (capacity_at path) (length path.operators)) (list_of (delay_at path) (length path.operators)) (total (capacity_at path) (length path.operators)) (path_delay path))
 
 -- a new filter 2's first step, of input 5
-abbrev pub step_outcome : Stepped → Outcome
-step_outcome (Stepped.Sent s next) = output (s.0 ∷ [])
-step_outcome (Stepped.Refused why) = refused (refusal_number why) (refusal_place why)
+abbrev pub step_outcome : Result Sent Refusal → Outcome
+step_outcome (Ok sent) = output (sent.output.0 ∷ [])
+step_outcome (Err why) = refused (refusal_number why) (refusal_place why)
 
 abbrev pub filtered : ℕ → Outcome
 filtered choice =

@@ -1,18 +1,16 @@
 -- The figures of a sheet from what reading it answered: a refusal of the reader is theirs, and an accepted sheet's path has its numbers in their ranges.
 use Prim.Native.Nat.{ℕ, suc, ◌+◌, ◌-◌, ◌≤◌, ◌<◌}
-use mathlib.Core.Path.{◌≡◌, refl, sym, ap, subst, subst⁻¹, ◌∙◌}
-use mathlib.Core.Bool.{Bool, true, false, true≢false}
-use mathlib.Core.List.{List, [], ◌∷◌, ◌++◌}
-use native.Mathlib.Nat.{not-suc-le-zero}
+use mathlib.Core.Path.{◌≡◌, sym, ap, subst, ◌∙◌}
+use mathlib.Core.Bool.{true, false, true≢false}
+use mathlib.Core.List.{List, ◌++◌}
 use native.Mathlib.Omega.{arith}
 use lib.ListN.{length, get_or, take, drop, replicate, length-append, length-drop, length-replicate, get_or-append}
 use lib.Seq.{length-take-le, get_or-take, get_or-drop}
 use Rattle.quantity.specs.Sums.{list_of}
-use Rattle.quantity.specs.Choice.{pick}
-use Rattle.quantity.specs.Refusals.{Case, first_of}
+use Rattle.quantity.specs.Refusals.{first_of}
 use Rattle.quantity.specs.declared.refusal.Refusal.{Refusal}
 use Rattle.quantity.proofs.Sums.{get_d-list_of}
-use Rattle.quantity.proofs.Refusals.{NoneStands, first_of-none, first_of-append, first_of-map, none-where-result}
+use Rattle.quantity.proofs.Refusals.{NoneStands, first_of-append, first_of-map}
 use borrow.Author.Tests.{le-leb}
 use Rattle.flow.specs.Declarations.{has_rows, declaration_in_range, several_at, class_of}
 use Rattle.flow.specs.Rows.{rows_most}
@@ -22,142 +20,87 @@ use Rattle.flow.proofs.Declarations.{kind-of-rows}
 use Rattle.flow.proofs.ClassBounds.{class-within}
 use Rattle.flow.specs.declared.Declaration.{Declaration}
 use Rattle.sheet.specs.Paths.{Path, no_linked_operator}
-use Rattle.sheet.specs.Forms.{in_full, value_of_path, no_path}
+use Rattle.sheet.specs.Forms.{in_full, value_of_path}
 use Rattle.sheet.specs.Sheets.{sheet_cases, value_in, path_in, read_sheet}
 use Rattle.sheet.specs.declared.Form.{Form}
 use Rattle.sheet.specs.declared.PathValue.{PathValue}
-use Rattle.sheet.specs.declared.read.Verdict.{Verdict}
-use Rattle.sheet.specs.declared.read.ReadSheet.{ReadSheet}
 use Rattle.sheet.proofs.Accepted.{sheet-path, sheet-full}
 use Rattle.sheet.proofs.InRange.{declaration-of-path}
+use Rattle.sheet.proofs.AnswerLaws.{none-of-ok, ok-is, behind, behind-first}
+use Rattle.std.specs.Prelude.{Result, Ok, Err}
 use Rattle.figures.specs.declared.PathFigures.{PathFigures}
-use Rattle.figures.specs.Answers.{path_cases, figure_in, path_delay, refused_figures, accepted_figures, figures_of}
+use Rattle.figures.specs.Answers.{path_cases, figure_in, path_delay, accepted_figures, figures_of}
 use Rattle.figures.specs.Cameras.{is_camera}
-use Rattle.figures.specs.Carried.{HasBound, Lent, ReachesPast, most_before, slots_of, slots_before, WasRead, Readable, PathWithin, figures_of_value, figures_of_read}
+use Rattle.figures.specs.Carried.{HasBound, Lent, ReachesPast, most_before, slots_before, Readable, PathWithin, PlannedPath, planned_of_value}
 use Rattle.figures.proofs.ClassLaws.{has-bound}
 use Rattle.figures.proofs.CameraTable.{table, camera-bound, camera-reaches}
-use Rattle.figures.proofs.EachOperator.{operator-slots}
-
--- the figures of a path: 6 to 9
-figures_of_path : PathValue → Path → PathFigures
-figures_of_path value path = first_of (path_cases path) refused_figures (accepted_figures value path)
-
-abbrev answer_to : PathFigures → Verdict → PathFigures
-answer_to accepted Verdict.Accepted = accepted
-answer_to accepted (Verdict.Refused why) = refused_figures why
-
-abbrev IsAccepted : Verdict → Type 0
-IsAccepted Verdict.Accepted = Unit {0}
-IsAccepted (Verdict.Refused why) = ⊥
-
-abbrev IsRefused : Verdict → Type 0
-IsRefused Verdict.Accepted = ⊥
-IsRefused (Verdict.Refused why) = Unit {0}
-
--- what holds of each answer holds of the one that is given
-first_of-all : {A : Type 0} (P : A → Type 0) (refused : Refusal → A) (result : A) → ((why : Refusal) → P (refused why)) → P result → (cs : List Case) → P (first_of cs refused result)
-first_of-all P refused result each last [] = last
-first_of-all P refused result each last (c ∷ cs) = by-test c.stands (first_of-all P refused result each last cs)
-  where
-    by-test : (t : Bool) → P (first_of cs refused result) → P (pick t (refused c.refusal) (first_of cs refused result))
-    by-test true rest = each c.refusal
-    by-test false rest = rest
 
 -- the value of a path has sixteen places
 value-operators : (form : Form) (path : Path) → length (value_of_path form path).operators ≡ 16
 unfolding value_of_path
 value-operators form path = length-take-le 16 (path.operators ++ replicate 16 no_linked_operator) (simp (length-append, length-replicate) (omega arith))
 
-module _ {read : ReadSheet} (sheet : List ℕ) (answered : read ≡ read_sheet sheet) where
-  answer-figures : answer_to (figures_of_path (value_in sheet) (path_in sheet)) read.verdict ≡ figures_of sheet
-  unfolding figures_of_path read_sheet figures_of
-  answer-figures =
-      let answer : ReadSheet → PathFigures = λ r. answer_to (figures_of_path (value_in sheet) (path_in sheet)) r.verdict in
-      ap answer answered
-      ∙ first_of-map answer (λ why. record { verdict = Verdict.Refused why; path = no_path }) (record { verdict = Verdict.Accepted; path = value_in sheet }) (sheet_cases sheet)
-      ∙ sym (first_of-append refused_figures (accepted_figures (value_in sheet) (path_in sheet)) (sheet_cases sheet) (path_cases (path_in sheet)))
+-- what the figures of a sheet are behind what reading it answers
+abbrev figures_behind : List ℕ → PathValue → Result PathFigures Refusal
+figures_behind sheet value = first_of (path_cases (path_in sheet)) Err (Ok (accepted_figures value (path_in sheet)))
 
-  -- beside a refusal the empty path is handed back
-  refused-path : {why : Refusal} → read.verdict ≡ Verdict.Refused why → read.path ≡ no_path
-  unfolding read_sheet
-  refused-path {why} verdict =
-      let kept : ReadSheet → Type 0 = λ r. IsRefused r.verdict → r.path ≡ no_path in
-      subst kept (sym answered)
-      (first_of-all kept (λ why. record { verdict = Verdict.Refused why; path = no_path }) (record { verdict = Verdict.Accepted; path = value_in sheet }) (λ why h. refl) (λ h. absurd h) (sheet_cases sheet))
-      (subst⁻¹ IsRefused verdict tt)
+-- what was planned, beside its path
+abbrev pub with_path : PathValue → PlannedPath → Result PathFigures Refusal
+with_path value planned = Ok (record { path = value; figures = planned.figures; delay = planned.delay })
 
-  module _ (accepted : read.verdict ≡ Verdict.Accepted) where
+module _ {read : Result PathValue Refusal} (sheet : List ℕ) (answered : read ≡ read_sheet sheet) where
+  read-figures : figures_of sheet ≡ behind (figures_behind sheet) read
+  unfolding read_sheet figures_of
+  read-figures =
+      first_of-append Err (Ok (accepted_figures (value_in sheet) (path_in sheet))) (sheet_cases sheet) (path_cases (path_in sheet))
+      ∙ behind-first (figures_behind sheet) (value_in sheet) (sheet_cases sheet) answered
+
+  -- the reader's refusal is theirs
+  pub refused-read : {why : Refusal} → read ≡ Err why → Err why ≡ figures_of sheet
+  refused-read e = rw read-figures (rw e)
+
+  module _ {value : PathValue} (accepted : read ≡ Ok value) where
     sheet-stands : NoneStands (sheet_cases sheet)
     unfolding read_sheet
-    sheet-stands =
-        none-where-result (λ why. record { verdict = Verdict.Refused why; path = no_path }) (record { verdict = Verdict.Accepted; path = value_in sheet })
-        (λ (r : ReadSheet). IsAccepted r.verdict) (λ why h. h) (sheet_cases sheet) (subst (λ (r : ReadSheet). IsAccepted r.verdict) answered (subst⁻¹ IsAccepted accepted tt))
+    sheet-stands = none-of-ok (value_in sheet) (sheet_cases sheet) (sym answered ∙ accepted)
 
-    value_read : read.path ≡ value_in sheet
+    value_read : value ≡ value_in sheet
     unfolding read_sheet
-    value_read =
-        ap (λ (r : ReadSheet). r.path)
-        (answered
-        ∙ first_of-none (λ why. record { verdict = Verdict.Refused why; path = no_path }) (record { verdict = Verdict.Accepted; path = value_in sheet }) (sheet_cases sheet) sheet-stands)
+    value_read = ok-is (value_in sheet) (sheet_cases sheet) (sym answered ∙ accepted)
 
-    value-within : PathWithin (value_of_path (value_in sheet).form (path_in sheet))
+    full-read : in_full value ≡ path_in sheet
+    full-read = ap in_full value_read ∙ sheet-full sheet sheet-stands
+
+    -- the path that was read is within its ranges
+    pub path-within : PathWithin value
     unfolding value_of_path
-    value-within =
+    path-within =
         let path = sheet-path sheet sheet-stands in
-        record {
+        rw (value_read, path.value)
+        (record {
           few = path.few;
           full = value-operators (value_in sheet).form (path_in sheet);
           inside = rw (← path.value, sheet-full sheet sheet-stands) path.inside;
           clear = path.clear;
-        }
+        })
 
-    path-within : PathWithin read.path
-    path-within = rw (value_read, (sheet-path sheet sheet-stands).value) value-within
+    -- and planning it says what the figures are
+    pub planned-figures : figures_of sheet ≡ behind (with_path value) (planned_of_value value)
+    unfolding planned_of_value accepted_figures
+    planned-figures =
+        rw full-read
+        (read-figures
+        ∙ ap (behind (figures_behind sheet)) accepted
+        ∙ sym (first_of-map (behind (with_path value)) Err (Ok (record { figures = list_of (figure_in (path_in sheet)) 16; delay = record { 0 = path_delay (path_in sheet) } })) (path_cases (path_in sheet))))
 
-    accepted-figures : figures_of_value read.path ≡ figures_of sheet
-    unfolding figures_of_value figures_of_path accepted_figures
-    accepted-figures =
-        ap figures_of_value value_read
-        ∙ ap {B = PathFigures}
-        (λ (path : Path).
-        first_of (path_cases path) refused_figures
-        (record { verdict = Verdict.Accepted; path = value_in sheet; figures = list_of (figure_in path) 16; delay = record { 0 = path_delay path } }))
-        (sheet-full sheet sheet-stands)
-        ∙ sym (ap (answer_to (figures_of_path (value_in sheet) (path_in sheet))) accepted)
-        ∙ answer-figures
-
-  pub was_read : WasRead read.verdict read.path
-  was_read = by-verdict read.verdict refl
-    where
-      by-verdict : (verdict : Verdict) → read.verdict ≡ verdict → WasRead verdict read.path
-      by-verdict Verdict.Accepted e = path-within e
-      by-verdict (Verdict.Refused why) e = refused-path e
-
-  pub figures-answered : figures_of_read read.verdict read.path ≡ figures_of sheet
-  unfolding figures_of_read
-  figures-answered = by-verdict read.verdict refl
-    where
-      by-verdict : (verdict : Verdict) → read.verdict ≡ verdict → figures_of_read verdict read.path ≡ figures_of sheet
-      by-verdict Verdict.Accepted e = accepted-figures e
-      by-verdict (Verdict.Refused why) e = sym (ap (answer_to (figures_of_path (value_in sheet) (path_in sheet))) e) ∙ answer-figures
-
--- what was read, with the table of its bound
-pub readable : (verdict : Verdict) (value : PathValue) (bound : List ℕ) → WasRead verdict value
-    → (PathWithin value → declaration_in_range value.declaration ≡ true
-    → Lent value.declaration.kind value.declaration bound × ReachesPast value.declaration.kind value.declaration bound (slots_before value))
-    → Readable verdict value bound
+-- a path value with a table of its bound
+pub readable : (value : PathValue) (bound : List ℕ) → PathWithin value
+    → (declaration_in_range value.declaration ≡ true → Lent value.declaration.kind value.declaration bound × ReachesPast value.declaration.kind value.declaration bound (slots_before value))
+    → Readable value bound
 unfolding in_full
-readable Verdict.Accepted value bound within lent =
-    let (has, far) = lent within (subst (λ (d : Declaration). declaration_in_range d ≡ true) within.clear (declaration-of-path (in_full value) within.inside)) in
-    (within, has, far)
-readable (Verdict.Refused why) value bound empty lent = empty
-
--- a path that has an operator was accepted, and its figures are those of its value
-pub has-operator : (verdict : Verdict) (value : PathValue) (bound : List ℕ) {k : ℕ} → k < value.count → Readable verdict value bound
-    → Readable Verdict.Accepted value bound × (figures_of_value value ≡ figures_of_read verdict value)
-unfolding figures_of_read
-has-operator Verdict.Accepted value bound here read = (read, refl)
-has-operator (Verdict.Refused why) value bound here empty = absurd (not-suc-le-zero (rw empty at here))
+readable value bound within lent =
+    let (has, far) = lent (subst (λ (d : Declaration). declaration_in_range d ≡ true) within.clear (declaration-of-path (in_full value) within.inside)) in
+    record { within = within; lent = has; reaches = far }
 
 -- the rows of a declaration in its ranges
 several-within : (declared : Declaration) → declared.kind ≡ Kind.Rows → ClassWithin (class_of declared) → RowsInside (several_at declared) declared.count
@@ -210,9 +153,3 @@ pub unread-bound : (kind : Kind) (declared : Declaration) (bound : List ℕ) (sl
 unread-bound Kind.Smooth declared bound slots one = (tt, tt)
 unread-bound Kind.Uniform declared bound slots one = (tt, tt)
 unread-bound Kind.Rows declared bound slots one = absurd (true≢false one)
-
--- what a path that was read asks of its delayers
-pub slots_read : (verdict : Verdict) (value : PathValue) → WasRead verdict value
-    → (value.count ≤ 16) × ((k : ℕ) → k < value.count → slots_of (get_or value.operators k no_linked_operator).operator ≤ 64)
-slots_read Verdict.Accepted value within = (within.few, operator-slots within)
-slots_read (Verdict.Refused why) value empty = rw empty (omega arith, λ k less. absurd (omega arith))

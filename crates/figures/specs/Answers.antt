@@ -1,5 +1,5 @@
 -- Sections 4 and 7: the figures of a path and of a sheet, or the first refusal of 2 to 9.
-use Rattle.std.specs.Prelude.{ℕ, zero, suc, ◌+◌, Bool, false, List, [], ◌∷◌, ◌++◌, length, get_or, replicate, ltb}
+use Rattle.std.specs.Prelude.{ℕ, zero, suc, ◌+◌, Bool, false, List, [], ◌∷◌, ◌++◌, length, get_or, ltb, Result, Ok, Err}
 use Rattle.quantity.specs.Choice.{pick}
 use Rattle.quantity.specs.Limits.{most_operators}
 use Rattle.quantity.specs.Sums.{total, list_of}
@@ -9,10 +9,8 @@ use Rattle.quantity.specs.declared.refusal.Refusal.TheVariants.{FramedAfterFilte
 use Rattle.flow.specs.Declarations.{class_of}
 use Rattle.operator.specs.declared.Operator.{Operator}
 use Rattle.sheet.specs.Paths.{Path, no_linked_operator}
-use Rattle.sheet.specs.Forms.{no_path}
 use Rattle.sheet.specs.Sheets.{sheet_cases, value_in, path_in}
 use Rattle.sheet.specs.declared.PathValue.{PathValue}
-use Rattle.sheet.specs.declared.read.Verdict.{Verdict}
 use Rattle.figures.specs.declared.Figure.{Figure}
 use Rattle.figures.specs.declared.PathFigures.{PathFigures}
 use Rattle.figures.specs.Progress.{Progress, progress_at}
@@ -78,16 +76,11 @@ unfoldable pub figure_in : Path → ℕ → Figure
 unfolding figure_at no_figure
 figure_in path k = pick (ltb k (length path.operators)) (figure_at path k) no_figure
 
-unfoldable pub refused_figures : Refusal → PathFigures
-unfolding no_figure
-refused_figures why = record { verdict = Verdict.Refused why; path = no_path; figures = replicate most_operators no_figure; delay = record { 0 = 0 } }
-
 -- the path that was read, and the figures of the path that it stands for
 unfoldable pub accepted_figures : PathValue → Path → PathFigures
-accepted_figures value path =
-    record { verdict = Verdict.Accepted; path = value; figures = list_of (figure_in path) most_operators; delay = record { 0 = path_delay path } }
+accepted_figures value path = record { path = value; figures = list_of (figure_in path) most_operators; delay = record { 0 = path_delay path } }
 
 -- what the figures of a sheet are, or the first of 2 to 9 that stands
-unfoldable pub figures_of : List ℕ → PathFigures
-unfolding refused_figures accepted_figures
-figures_of sheet = first_of (figures_cases sheet) refused_figures (accepted_figures (value_in sheet) (path_in sheet))
+unfoldable pub figures_of : List ℕ → Result PathFigures Refusal
+unfolding accepted_figures
+figures_of sheet = first_of (figures_cases sheet) Err (Ok (accepted_figures (value_in sheet) (path_in sheet)))

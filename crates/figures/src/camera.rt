@@ -72,23 +72,19 @@ pub(crate) const MOST: [u32; 1024] = [
     4080, 4089, 4095, 4095, 4104,
 ];
 
-// Whether several rows are just these.
+// Whether several rows are just these. By their numbers: three derives of equality would be for this one test.
+#[tactic(auto, unfolding(crate::specs::Cameras::is_camera))]
 pub(crate) fn is_camera(declaration: Declaration) -> bool
     ensures { result ≡ is_camera declaration }
 {
     let rows = declaration.rows;
-    if declaration.count != 3 {
-        return false;
-    }
-    if !row_is(rows[0], 1, 9) {
-        return false;
-    }
-    if !row_is(rows[1], 3, 15) {
-        return false;
-    }
-    row_is(rows[2], 12, 48)
+    declaration.count == 3
+        && row_is(rows[0], 1, 9)
+        && row_is(rows[1], 3, 15)
+        && row_is(rows[2], 12, 48)
 }
 
+#[tactic(auto, unfolding(crate::specs::Cameras::row_is))]
 fn row_is(row: DeclaredRow, interval: u32, quota: u32) -> bool
     ensures { result ≡ row_is (row_of row) interval quota }
 {

@@ -2,6 +2,7 @@ pub mod Laws
 pub mod Blocks
 pub mod Declarations
 pub mod ClassBounds
+pub mod Folds
 mod Windows
 mod Reached
 mod Rows

@@ -44,6 +44,10 @@ pub record RowInside (row : Row) : Type 0 where
 abbrev pub RowsInside : (ℕ → Row) → ℕ → Type 0
 RowsInside given k = (i : ℕ) → i < k → RowInside (given i)
 
+-- the two numbers of a row, as large as in their ranges
+abbrev pub RowWithin : ℕ → ℕ → Type 0
+RowWithin m Q = (1 ≤ m) × (m ≤ 1_024) × (Q ≤ 65_535)
+
 -- the largest signed number of 32 bits
 abbrev pub largest_signed : ℕ
 largest_signed = 2_147_483_647

@@ -1,11 +1,11 @@
 // A part, for the crate that works out figures: the most that several rows allow in n slots, for each n at once (document 02, item 6).
 // Worked out row by row from the last; the number of rows left falls at each call.
 
-ghost use Rattle.std.specs.Prelude.{◌≡◌, ℕ, suc, ◌+◌, ◌-◌, ◌*◌, ◌≤◌, ◌<◌, min, length, get_or};
+ghost use Rattle.std.specs.Prelude.{◌≡◌, ℕ, [], ◌∷◌, suc, ◌+◌, ◌-◌, ◌*◌, ◌≤◌, ◌<◌, min, length, get_or};
 ghost use Rattle.quantity.specs.Sums.{list_of};
 ghost use Rattle.flow.specs.Rows.{rows_most};
 ghost use Rattle.flow.specs.Declarations.{empty_row, row_of};
-ghost use Rattle.flow.specs.Bounds.{largest_signed, boundable, bound_filled, pair_at, RowsInside, Sized, Table, with_row, Stepped, Remade, Lowers, lowered};
+ghost use Rattle.flow.specs.Bounds.{largest_signed, boundable, bound_filled, pair_at, RowsInside, RowWithin, Sized, Table, with_row, Stepped, Remade, Lowers, lowered};
 
 use crate::{Declaration, DeclaredRow};
 
@@ -15,21 +15,14 @@ pub const SHORTEST: usize = 1025;
 pub const LENGTH: usize = 1985;
 
 // Fills a table with the bound of the declaration's rows. Where it has none, or one out of its range, or the table is shorter or longer, it answers so and writes nothing.
+// Yes or no: there is no value but the table, which is lent.
 pub fn fill(declaration: Declaration, table: &mut [u32]) -> bool
     ensures { (result ≡ boundable declaration table.old) × (table.new ≡ bound_filled declaration table.old) }
 {
-    let length = table.len();
-    if length < SHORTEST {
-        return false;
-    }
-    if LENGTH < length {
-        return false;
-    }
-    let kind = declaration.kind;
-    if !kind.has_rows() {
-        return false;
-    }
-    if !declaration.in_range() {
+    if !(SHORTEST..=LENGTH).contains(&table.len())
+        || !declaration.kind.has_rows()
+        || !declaration.in_range()
+    {
         return false;
     }
     let rows = declaration.rows;
@@ -37,20 +30,17 @@ pub fn fill(declaration: Declaration, table: &mut [u32]) -> bool
     true
 }
 
-// The rows as an array of arrays: four pairs of interval and quota.
+// The rows as an array of arrays by value, beside their count (document 01 names the form): four pairs of interval and quota.
 fn pairs(rows: [DeclaredRow; 4]) -> [[u32; 2]; 4]
     ensures { (i : ℕ) → i < 4 → pair_at result i ≡ row_of (get_or rows i empty_row) }
 {
-    let first = rows[0];
-    let second = rows[1];
-    let third = rows[2];
-    let fourth = rows[3];
-    [
-        [first.interval.0, first.quota.0],
-        [second.interval.0, second.quota.0],
-        [third.interval.0, third.quota.0],
-        [fourth.interval.0, fourth.quota.0],
-    ]
+    rows.map(pair)
+}
+
+fn pair(row: DeclaredRow) -> [u32; 2]
+    ensures { result ≡ row.interval.0 ∷ row.quota.0 ∷ [] }
+{
+    [row.interval.0, row.quota.0]
 }
 
 // With one row left entry n is ⌈n/m⌉·Q; else the same of one row less, and then the last of them is used or not.
@@ -78,9 +68,10 @@ fn first_row(table: &mut [u32], rows: [[u32; 2]; 4])
     row_alone(table, interval, quota);
 }
 
+// The interval goes as a number of its own, not in a row: here and in `with_row` short ones are constants.
 // An interval of up to four slots is given as a constant, so that its entries are stored at once.
 fn row_alone(table: &mut [u32], interval: usize, quota: u32)
-    requires { Sized table.old × (1 ≤ interval) × (interval ≤ 1_024) × (quota ≤ 65_535) × (get_or table.old 0 0 ≡ 0) }
+    requires { Sized table.old × (get_or table.old 0 0 ≡ 0) × RowWithin interval quota }
     ensures { Stepped interval quota table.new (length table.new) }
 {
     match interval {
@@ -92,9 +83,9 @@ fn row_alone(table: &mut [u32], interval: usize, quota: u32)
     }
 }
 
-// A quota more in each interval.
+// A quota more in each interval. A block goes by its place: of what is written through `chunks_mut` a proof knows no element.
 fn each_interval(table: &mut [u32], interval: usize, quota: u32)
-    requires { Sized table.old × (1 ≤ interval) × (interval ≤ 1_024) × (quota ≤ 65_535) × (get_or table.old 0 0 ≡ 0) }
+    requires { Sized table.old × (get_or table.old 0 0 ≡ 0) × RowWithin interval quota }
     ensures { Stepped interval quota table.new (length table.new) }
 {
     let length = table.len();
@@ -113,11 +104,7 @@ fn level(table: &mut [u32], from: usize, end: usize, most: u32)
     requires { (from ≤ end) × (end ≤ length table.old) }
     ensures { Remade table.old table.new from end (λ j. most) }
 {
-    let mut n = from;
-    while n < end {
-        table[n] = most;
-        n += 1;
-    }
+    table[from..end].fill(most);
 }
 
 // One row more: it is not used in n slots, or once more than in those that its interval leaves.
@@ -140,7 +127,7 @@ fn smaller(a: u32, b: u32) -> u32
 
 // A short interval is given as a constant, so that the entries of the last interval stay in registers.
 fn with_row(table: &mut [u32], interval: usize, quota: u32)
-    requires { Table table.old × (1 ≤ interval) × (interval ≤ 1_024) × (quota ≤ 65_535) }
+    requires { Table table.old × RowWithin interval quota }
     ensures { table.new ≡ with_row interval quota table.old }
 {
     if 15 < interval {
@@ -166,9 +153,9 @@ fn with_row(table: &mut [u32], interval: usize, quota: u32)
     }
 }
 
-// An interval's entries at a time.
+// An interval's entries at a time, by their place, as in `each_interval`.
 fn short_row(table: &mut [u32], interval: usize, quota: u32)
-    requires { Table table.old × (1 ≤ interval) × (interval ≤ 15) × (quota ≤ 65_535) }
+    requires { Table table.old × (interval ≤ 15) × RowWithin interval quota }
     ensures { table.new ≡ with_row interval quota table.old }
 {
     let length = table.len();
@@ -181,28 +168,27 @@ fn short_row(table: &mut [u32], interval: usize, quota: u32)
     row_block(table, from, length, interval, quota);
 }
 
-// The slots of one interval, by the entries of the one before.
+// The slots of one interval, by the entries of the one before. By the index: tried over two zipped `iter_mut`, what the table holds behind them did not prove.
 fn row_interval(table: &mut [u32], last: &mut [u32; 15], from: usize, interval: usize, quota: u32)
     requires { (interval ≤ 15) × (length last.old ≡ 15) × (from + interval ≤ length table.old) × ((k : ℕ) → k < interval → (get_or table.old (from + k) 0 ≤ largest_signed) × (quota + get_or last.old k 0 ≤ largest_signed)) }
     ensures { Remade table.old table.new from (from + interval) (λ j. min (get_or table.old j 0) (quota + get_or last.old (j - from) 0)) × ((k : ℕ) → k < interval → get_or last.new k 0 ≡ get_or table.new (from + k) 0) × (length last.new ≡ 15) }
 {
-    let mut k = 0;
-    while k < interval {
+    for k in 0..interval {
         let most = smaller(table[from + k], quota + last[k]);
         table[from + k] = most;
         last[k] = most;
-        k += 1;
     }
 }
 
 // The first interval's slots: the row is not used, or once. Then eight entries at a time.
 fn long_row(table: &mut [u32], interval: usize, quota: u32)
-    requires { Table table.old × (8 ≤ interval) × (interval ≤ 1_024) × (quota ≤ 65_535) }
+    requires { Table table.old × (8 ≤ interval) × RowWithin interval quota }
     ensures { table.new ≡ with_row interval quota table.old }
 {
     let length = table.len();
     let mut from = interval + 1;
     row_start(table, from, quota);
+    // By the place: each block reads entries before it, so it cannot be lent as a chunk.
     while from + 8 <= length {
         row_four(table, from, interval, quota);
         row_four(table, from + 4, interval, quota);
@@ -211,16 +197,13 @@ fn long_row(table: &mut [u32], interval: usize, quota: u32)
     row_block(table, from, length, interval, quota);
 }
 
-// One row more in an interval's slots or fewer: it is not used, or once.
+// One row more in an interval's slots or fewer: it is not used, or once. By the index: over `iter_mut` a table with long rows takes an eighth longer.
 fn row_start(table: &mut [u32], end: usize, quota: u32)
     requires { (1 ≤ end) × (end ≤ length table.old) × (quota ≤ largest_signed) × ((j : ℕ) → j < end → get_or table.old j 0 ≤ largest_signed) }
     ensures { Remade table.old table.new 1 end (λ j. min (get_or table.old j 0) quota) }
 {
-    let mut n = 1;
-    while n < end {
-        let most = table[n];
-        table[n] = smaller(most, quota);
-        n += 1;
+    for n in 1..end {
+        table[n] = smaller(table[n], quota);
     }
 }
 
@@ -232,7 +215,7 @@ fn lower(table: &[u32], n: usize, interval: usize, quota: u32) -> u32
     smaller(table[n], quota + table[n - interval])
 }
 
-// Four entries at once: all are read before any is stored.
+// Four entries at once: all are read before any is stored. Through `array::from_fn` and `copy_from_slice` a table with long rows takes half as long again.
 fn row_four(table: &mut [u32], from: usize, interval: usize, quota: u32)
     requires { (4 ≤ interval) × Lowers table.old from (from + 4) interval quota }
     ensures { Remade table.old table.new from (from + 4) (lowered table.old interval quota) }
@@ -248,14 +231,12 @@ fn row_four(table: &mut [u32], from: usize, interval: usize, quota: u32)
 }
 
 // One row more in the slots of a block, which is no longer than the interval: the entries that it reads are before the block.
+// By the place: what is read and what is written are of one table.
 fn row_block(table: &mut [u32], from: usize, end: usize, interval: usize, quota: u32)
     requires { (end ≤ from + interval) × Lowers table.old from end interval quota }
     ensures { Remade table.old table.new from end (lowered table.old interval quota) }
 {
-    let mut n = from;
-    while n < end {
-        let most = lower(table, n, interval, quota);
-        table[n] = most;
-        n += 1;
+    for n in from..end {
+        table[n] = lower(table, n, interval, quota);
     }
 }

@@ -2,13 +2,11 @@
 
 #![tactic(auto)]
 
-ghost use Rattle.std.specs.Prelude.{◌≡◌, suc, ◌-◌, get_or};
-ghost use Rattle.quantity.specs.Choice.{both, either};
-ghost use Rattle.quantity.specs.Sums.{every};
-ghost use Rattle.quantity.specs.Ranges.{in_range};
-ghost use Rattle.flow.specs.Declarations.{has_rows, several_range, empty_row, row_of, row_in_range, rises, row_clear, rows_clear_from, only_row, last_row, of_one_row, declaration_in_range, rows_in_order, unused_clear};
+ghost use Rattle.std.specs.Prelude.{◌≡◌, ◌-◌, fold, true, ◌&&◌, ◌||◌, leb, ltb, zip, drop, take};
+ghost use Rattle.std.specs.List.{enumerate_from};
+ghost use Rattle.flow.specs.Declarations.{has_rows, row_of, row_in_range, rises, row_clear, only_row, last_row, of_one_row, declaration_in_range, rows_in_order, unused_clear};
 
-use quantity::{Interval, Quota};
+use quantity::{Interval, Quantity, Quota};
 
 pub mod bound;
 
@@ -27,7 +25,8 @@ pub struct DeclaredRow {
     pub quota: Quota,
 }
 
-// What a source may send: smooth or uniform by interval and quota, or by the first `count` rows.
+// What a source may send: smooth or uniform by interval and quota, or by the first `count` rows (document 01 names the form; no heap).
+// A record and no enum with its rows: what a kind does not use may hold anything, and refusal 1 tests it (unused_clear).
 #[derive(Clone, Copy)]
 pub struct Declaration {
     pub kind: Kind,
@@ -42,16 +41,29 @@ impl Kind {
     pub fn has_rows(self) -> bool
         ensures { result ≡ has_rows self }
     {
-        match self {
-            Kind::Smooth => false,
-            Kind::Uniform => false,
-            Kind::Rows => true,
-        }
+        matches!(self, Kind::Rows)
     }
 }
 
 impl DeclaredRow {
+    // What stands in a row that is not used.
+    pub const CLEAR: DeclaredRow = DeclaredRow {
+        interval: Interval(0),
+        quota: Quota(0),
+    };
+
+    // The row of two numbers, whatever they are.
+    pub fn of(interval: u32, quota: u32) -> DeclaredRow
+        ensures { result ≡ record { interval = record { 0 = interval }; quota = record { 0 = quota } } }
+    {
+        DeclaredRow {
+            interval: Interval(interval),
+            quota: Quota(quota),
+        }
+    }
+
     // Whether the row's interval and quota are in their ranges.
+    #[tactic(auto, unfolding(crate::specs::Declarations::row_in_range))]
     pub fn in_range(self) -> bool
         ensures { result ≡ row_in_range (row_of self) }
     {
@@ -59,6 +71,7 @@ impl DeclaredRow {
     }
 
     // Whether the row is not used.
+    #[tactic(auto, unfolding(crate::specs::Declarations::row_clear))]
     pub fn is_clear(self) -> bool
         ensures { result ≡ row_clear (row_of self) }
     {
@@ -71,17 +84,12 @@ impl Declaration {
     pub fn of_one_row(kind: Kind, interval: Interval, quota: Quota) -> Declaration
         ensures { result ≡ of_one_row kind interval.0 quota.0 }
     {
-        let empty = DeclaredRow {
-            interval: Interval(0),
-            quota: Quota(0),
-        };
-        let rows = [empty; 4];
         Declaration {
             kind,
             interval,
             quota,
             count: 0,
-            rows,
+            rows: [DeclaredRow::CLEAR; 4],
         }
     }
 
@@ -102,148 +110,93 @@ impl Declaration {
     pub fn in_range(self) -> bool
         ensures { result ≡ declaration_in_range self }
     {
-        let kind = self.kind;
-        if kind.has_rows() {
-            let count = self.count;
-            let rows = self.rows;
-            return rows_in_range(rows, count);
+        if self.kind.has_rows() {
+            let several = (2 <= self.count) & (self.count <= 4);
+            several && rows_in_range(self.rows, self.count)
+        } else {
+            self.only_row().in_range()
         }
-        let row = self.only_row();
-        row.in_range()
     }
 
     // Whether from one row to the next the interval rises and the quota does not fall.
     pub fn in_order(self) -> bool
         ensures { result ≡ rows_in_order self }
     {
-        let kind = self.kind;
-        if kind.has_rows() {
-            let count = self.count;
-            let rows = self.rows;
-            return rows_rise(rows, count);
+        if self.kind.has_rows() {
+            self.count <= 4 && rows_rise(self.rows, self.count.saturating_sub(1))
+        } else {
+            true
         }
-        true
     }
 
     // Whether all that the declaration's kind does not use is 0.
     pub fn unused_clear(self) -> bool
         ensures { result ≡ unused_clear self }
     {
-        let kind = self.kind;
-        let count = self.count;
-        let rows = self.rows;
-        if kind.has_rows() {
-            let row = self.only_row();
-            return and(row.is_clear(), rows_clear(rows, count));
+        if self.kind.has_rows() {
+            self.only_row().is_clear() & rows_clear(self.rows, self.count)
+        } else {
+            (self.count == 0) & rows_clear(self.rows, 0)
         }
-        let none = count == 0;
-        and(none, rows_clear(rows, 0))
     }
 
     // The last row; a smooth or uniform declaration has one.
     pub fn last_row(self) -> DeclaredRow
         ensures { row_of result ≡ last_row self }
     {
-        let kind = self.kind;
-        if kind.has_rows() {
-            let count = self.count;
-            let rows = self.rows;
-            return last_of(rows, count);
+        if self.kind.has_rows() {
+            let last = self.count.saturating_sub(1);
+            self.rows.get(last).copied().unwrap_or(DeclaredRow::CLEAR)
+        } else {
+            self.only_row()
         }
-        self.only_row()
     }
 
     fn only_row(self) -> DeclaredRow
         ensures { row_of result ≡ only_row self }
     {
-        let interval = self.interval;
-        let quota = self.quota;
-        DeclaredRow { interval, quota }
+        DeclaredRow {
+            interval: self.interval,
+            quota: self.quota,
+        }
     }
 }
 
-// All rows are tested, so that the loops have no branch.
-fn and(a: bool, b: bool) -> bool
-    ensures { result ≡ both a b }
-{
-    if a { b } else { false }
-}
-
-fn or(a: bool, b: bool) -> bool
-    ensures { result ≡ either a b }
-{
-    if a { true } else { b }
-}
-
+#[tactic(auto, unfolding(crate::specs::Declarations::rises))]
 fn rises(row: DeclaredRow, next: DeclaredRow) -> bool
     ensures { result ≡ rises (row_of row) (row_of next) }
 {
     row.interval.0 < next.interval.0 && row.quota.0 <= next.quota.0
 }
 
+// All rows are tested, so that the loops have no branch; those of a fixed number of turns are unrolled.
 fn rows_in_range(rows: [DeclaredRow; 4], count: usize) -> bool
-    ensures { result ≡ both (in_range several_range count) (every (λ i. row_in_range (row_of (get_or rows i empty_row))) count) }
+    ensures { result ≡ fold (λ fit row. fit && row_in_range (row_of row)) true (take count rows) }
 {
-    if count < 2 {
-        return false;
-    }
-    if 4 < count {
-        return false;
-    }
-    let mut fit = true;
-    let mut i = 0;
-    while i < count {
-        let row = rows[i];
-        fit = and(fit, row.in_range());
-        i += 1;
-    }
-    fit
+    rows.iter()
+        .take(count)
+        .fold(true, |fit, row| fit & row.in_range())
 }
 
-// Behind the fourth row there is none, and none rises.
-fn rows_rise(rows: [DeclaredRow; 4], count: usize) -> bool
-    ensures { result ≡ every (λ i. rises (row_of (get_or rows i empty_row)) (row_of (get_or rows (suc i) empty_row))) (count - 1) }
+// Whether the rows before the last rise, each to the next.
+fn rows_rise(rows: [DeclaredRow; 4], last: usize) -> bool
+    ensures { result ≡ fold (λ rise pair. rise && (leb last pair.0 || rises (row_of pair.1.0) (row_of pair.1.1))) true (enumerate_from 0 (zip rows (drop 1 rows))) }
 {
-    if 4 < count {
-        return false;
-    }
-    let mut rise = true;
-    let mut i = 0;
-    while i + 1 < count {
-        let row = rows[i];
-        i += 1;
-        let next = rows[i];
-        rise = and(rise, rises(row, next));
-    }
-    rise
+    let next = rows.iter().skip(1);
+    let pairs = rows.iter().zip(next).enumerate();
+    pairs.fold(
+        true,
+        |rise, (i, (row, next))| rise & ((last <= i) | rises(*row, *next)),
+    )
 }
 
 // Whether the rows from one on are not used.
 fn rows_clear(rows: [DeclaredRow; 4], from: usize) -> bool
-    ensures { result ≡ rows_clear_from from rows }
+    ensures { result ≡ fold (λ clear at. clear && (ltb at.0 from || row_clear (row_of at.1))) true (enumerate_from 0 rows) }
 {
-    let mut clear = true;
-    let mut i = 0;
-    while i < 4 {
-        let row = rows[i];
-        let used = i < from;
-        clear = and(clear, or(used, row.is_clear()));
-        i += 1;
-    }
-    clear
-}
-
-fn last_of(rows: [DeclaredRow; 4], count: usize) -> DeclaredRow
-    ensures { result ≡ get_or rows (count - 1) empty_row }
-{
-    if 4 < count {
-        return DeclaredRow {
-            interval: Interval(0),
-            quota: Quota(0),
-        };
-    }
-    if count == 0 {
-        return rows[0];
-    }
-    rows[count - 1]
+    let places = rows.iter().enumerate();
+    places.fold(
+        true,
+        |clear, (i, row)| clear & ((i < from) | row.is_clear()),
+    )
 }

@@ -1,26 +1,25 @@
 -- Demand 2: each refusal of 1 to 12 is kept from standing by its condition, and by that alone. And asking is answered by the capacities and totals alone.
-use Rattle.std.proofs.Common.{◌≡◌, ℕ, ◌+◌, ◌<◌, ◌≤◌, Bool, true, false, not, eqb, ltb, ◌↔◌, List, ◌++◌, length, sym, refl, ap, ◌∙◌, subst, ap₂, arith, ltb-false, ltb-true, eq-eqb, ne_eqb, le-leb}
+use Rattle.std.proofs.Common.{◌≡◌, ℕ, ◌+◌, ◌<◌, ◌≤◌, Bool, true, false, not, eqb, ltb, ◌↔◌, List, ◌++◌, length, is_ok, IsOk, Result, Ok, Err, sym, refl, ap, ◌∙◌, subst, ap₂, arith, ltb-false, ltb-true, eq-eqb, ne_eqb, le-leb}
 use borrow.Author.Tests.{eqb-false, not-false, not-true}
 use Rattle.quantity.specs.Choice.{both}
 use Rattle.quantity.specs.Ranges.{in_range, path_number_range}
 use Rattle.quantity.specs.declared.LinkCapacity.{LinkCapacity}
 use Rattle.quantity.specs.declared.Rate.{Rate}
+use Rattle.quantity.specs.declared.refusal.Refusal.{Refusal}
 use Rattle.quantity.proofs.Laws.{le-largest}
 use Rattle.quantity.proofs.Sums.{every-at, every_holds, every-fails}
 use Rattle.quantity.proofs.Refusals.{NoneStands, none-of-both, none-of-each, none-where-result, first_of-none}
 use Rattle.sheet.specs.Paths.{Path, link_at}
 use Rattle.sheet.specs.Sheets.{sheet_cases, value_in, path_in}
-use Rattle.sheet.specs.declared.read.Verdict.{Verdict}
-use Rattle.sheet.proofs.Accepted.{sheet-path, never-accepted}
-use Rattle.figures.specs.Answers.{path_cases, figures_of, refused_figures, accepted_figures}
+use Rattle.sheet.proofs.Accepted.{sheet-path}
+use Rattle.figures.specs.Answers.{path_cases, figures_cases, figures_of, accepted_figures}
 use Rattle.figures.specs.declared.PathFigures.{PathFigures}
-use Rattle.figures.proofs.Promise.{accepted-none}
 use Rattle.ledger.specs.declared.Record.{Record}
 use Rattle.ledger.specs.declared.Ledger.{Ledger}
 use Rattle.ledger.specs.declared.holding.Holding.{Holding}
 use Rattle.ledger.specs.Records.{number_at, among, stands}
 use Rattle.ledger.specs.Ledgers.{record_count, link_count, capacity_of, total_of}
-use Rattle.ledger.specs.Holding.{rate_of, names_link, ledger_full, link_short, standing_cases, holding_cases, refused_holding, accepted_holding, holding_of}
+use Rattle.ledger.specs.Holding.{rate_of, names_link, ledger_full, link_short, standing_cases, holding_cases, accepted_holding, holding_of}
 use Rattle.ledger.specs.Spare.{total_fits, links_unusable, spare_of}
 use Rattle.ledger.specs.Admissible.{Admissible}
 use Rattle.ledger.proofs.UsableLedger.{usable-ledger}
@@ -72,23 +71,23 @@ module _ (ledger : Ledger) (records : List Record) (number : ℕ) (sheet : List 
   new-where absent j less = eqb-false (number_at records j) number (not-true _ (every-at _ ledger.count (not-false _ absent) j less))
 
   admissible : NoneStands (holding_cases ledger records number sheet) → Admissible ledger records number sheet
-  unfolding ledger_full figures_of refused_figures accepted_figures
+  unfolding ledger_full figures_of
   admissible none =
       let (planned, standing) = none-of-each (sheet_cases sheet ++ path_cases value) (standing_cases ledger records number value) none.1.1 in
       record {
         numbered = le-largest path_number_range number (not-false _ none.0);
         usable = none.1.0;
         summed = total-is ledger records none.1.0;
-        planned = ap (λ (f : PathFigures). f.verdict) (first_of-none refused_figures (accepted_figures (value_in sheet) value) (sheet_cases sheet ++ path_cases value) planned);
+        planned = ap (λ (answer : Result PathFigures Refusal). is_ok answer) (first_of-none Err (Ok (accepted_figures (value_in sheet) value)) (figures_cases sheet) planned);
         new = new-where standing.0;
         room = let other = eqb-false ledger.count record_count standing.1.0 in let few = (usable-ledger ledger records none.1.0).few in omega arith;
         carried = carried-where (none-of-each (sheet_cases sheet) (path_cases value) planned).0 standing.1.1.0;
       }
 
   none-where : Admissible ledger records number sheet → NoneStands (holding_cases ledger records number sheet)
-  unfolding ledger_full in_range stands
+  unfolding ledger_full in_range stands figures_of
   none-where a =
-      let (fields, figures) = accepted-none sheet a.planned in (
+      let (fields, figures) = none-of-each (sheet_cases sheet) (path_cases value) (none-where-result Err (Ok (accepted_figures (value_in sheet) value)) (λ (answer : Result PathFigures Refusal). IsOk answer) (λ why ok. absurd (cc)) (figures_cases sheet) a.planned) in (
         ap not (ap₂ both (le-leb 0 number (omega arith)) (le-leb number 65535 a.numbered)),
         (
           a.usable,
@@ -97,11 +96,11 @@ module _ (ledger : Ledger) (records : List Record) (number : ℕ) (sheet : List 
         ),
       )
 
-  pub held-iff : ((holding_of ledger records number sheet).verdict ≡ Verdict.Accepted) ↔ Admissible ledger records number sheet
-  unfolding holding_of refused_holding accepted_holding
+  pub held-iff : IsOk (holding_of ledger records number sheet) ↔ Admissible ledger records number sheet
+  unfolding holding_of
   held-iff = (
-    (λ accepted. admissible (none-where-result (refused_holding ledger) (accepted_holding ledger value) (λ (a : Holding). a.verdict ≡ Verdict.Accepted) (λ why. never-accepted why) (holding_cases ledger records number sheet) accepted)),
-    (λ a. ap (λ (r : Holding). r.verdict) (first_of-none (refused_holding ledger) (accepted_holding ledger value) (holding_cases ledger records number sheet) (none-where a))),
+    (λ accepted. admissible (none-where-result Err (Ok (accepted_holding ledger value)) (λ (answer : Result Holding Refusal). IsOk answer) (λ why ok. absurd (cc)) (holding_cases ledger records number sheet) accepted)),
+    (λ a. ap (λ (answer : Result Holding Refusal). is_ok answer) (first_of-none Err (Ok (accepted_holding ledger value)) (holding_cases ledger records number sheet) (none-where a))),
   )
 
 -- Neither the count nor a record tells in what asking answers.

@@ -1,19 +1,17 @@
 -- Demand 2: 1, 10 and 16 are each kept from standing by its condition, and by that alone.
-use Rattle.std.proofs.Common.{◌≡◌, ℕ, ◌<◌, ◌≤◌, Bool, true, false, not, ltb, ◌↔◌, List, sym, refl, ap, ◌∙◌, ap₂, arith, ltb-true, lt-ltb, ne_eqb, le-leb}
+use Rattle.std.proofs.Common.{◌≡◌, ℕ, ◌<◌, ◌≤◌, Bool, true, false, not, ltb, ◌↔◌, List, Result, Ok, Err, sym, refl, ap, ◌∙◌, ap₂, arith, ltb-true, lt-ltb, ne_eqb, le-leb}
 use borrow.Author.Tests.{eqb-false, not-false, not-true}
 use Rattle.quantity.specs.Choice.{both}
 use Rattle.quantity.specs.Ranges.{in_range, path_number_range, rate_range}
+use Rattle.quantity.specs.declared.refusal.Refusal.{Refusal}
 use Rattle.quantity.proofs.Laws.{pick_true, le-largest}
 use Rattle.quantity.proofs.Sums.{both_true, every-at}
 use Rattle.quantity.proofs.Refusals.{NoneStands, none-where-result, first_of-none}
-use Rattle.sheet.specs.declared.read.Verdict.{Verdict}
-use Rattle.sheet.proofs.Accepted.{never-accepted}
 use Rattle.ledger.specs.declared.Record.{Record}
 use Rattle.ledger.specs.declared.Ledger.{Ledger}
-use Rattle.ledger.specs.declared.confirming.Confirmed.{Confirmed}
 use Rattle.ledger.specs.Records.{mark_confirmed, record_at, number_at, mark_at, among, all_differ, place_among, stands}
 use Rattle.ledger.specs.Ledgers.{record_count, links_range, mark_range, record_in_range, record_clear, record_fits, ledger_unusable}
-use Rattle.ledger.specs.Confirming.{confirmed_already, confirm_cases, refused_confirming, confirmed_of}
+use Rattle.ledger.specs.Confirming.{confirmed_already, confirm_cases, confirmed_of}
 use Rattle.ledger.specs.Confirmable.{Confirmable}
 use Rattle.ledger.proofs.UsableLedger.{usable-ledger}
 use Rattle.ledger.proofs.Numbers.{at_place, place_of, among-at}
@@ -81,9 +79,9 @@ module _ (ledger : Ledger) (records : List Record) (number : ℕ) where
     ),
   )
 
-  pub confirmed-iff : ((confirmed_of ledger records number).verdict ≡ Verdict.Accepted) ↔ Confirmable ledger records number
-  unfolding confirmed_of refused_confirming
+  pub confirmed-iff : (confirmed_of ledger records number ≡ Ok tt) ↔ Confirmable ledger records number
+  unfolding confirmed_of
   confirmed-iff = (
-    (λ accepted. confirmable (none-where-result refused_confirming (record { verdict = Verdict.Accepted }) (λ (a : Confirmed). a.verdict ≡ Verdict.Accepted) (λ why. never-accepted why) (confirm_cases ledger records number) accepted)),
-    (λ c. ap (λ (a : Confirmed). a.verdict) (first_of-none refused_confirming (record { verdict = Verdict.Accepted }) (confirm_cases ledger records number) (none-confirmed c))),
+    (λ accepted. confirmable (none-where-result Err (Ok tt) (λ (answer : Result (Unit {0}) Refusal). answer ≡ Ok tt) (λ why ok. absurd (cc)) (confirm_cases ledger records number) accepted)),
+    (λ c. first_of-none Err (Ok tt) (confirm_cases ledger records number) (none-confirmed c)),
   )

@@ -1,5 +1,5 @@
 -- What holding decides: 1 and the sheet's refusals first, then 10 to 12 of its path, which names the links and reserves the rate of the definitions.
-use Rattle.std.proofs.Common.{◌≡◌, ℕ, zero, suc, ◌+◌, ◌-◌, ◌^◌, ◌<◌, ◌≤◌, Bool, true, false, not, eqb, ltb, List, [], ◌∷◌, ◌++◌, length, get_or, replicate, sym, ap, ◌∙◌, subst, ap₂, append-nil, mod-eq_of_lt, div-le_self, arith, get_or-take, take-take, le-ltb, lt-ltb, eq-eqb, ne_eqb}
+use Rattle.std.proofs.Common.{◌≡◌, ℕ, zero, suc, ◌+◌, ◌-◌, ◌^◌, ◌<◌, ◌≤◌, Bool, true, false, not, eqb, ltb, List, [], ◌∷◌, ◌++◌, length, inr, Result, Ok, Err, get_or, replicate, sym, refl, ap, ◌∙◌, subst, ap₂, append-nil, mod-eq_of_lt, div-le_self, arith, get_or-take, take-take, eq-eqb, ne_eqb}
 use native.Mathlib.Decide.{dec_lt}
 use lib.ListN.{length-replicate, get_or-replicate, get_or-eq_default}
 use lib.Seq.{take-append_seam}
@@ -15,7 +15,7 @@ use Rattle.quantity.specs.declared.refusal.Refusal.{Refusal}
 use Rattle.quantity.specs.declared.refusal.Refusal.TheVariants.{Unusable, PathNumberWrong, LedgerFull, LinkShort}
 use Rattle.quantity.proofs.Laws.{pick_true, pick-false, le-largest}
 use Rattle.quantity.proofs.Quantities.{rates-sum}
-use Rattle.quantity.proofs.Refusals.{first_of-map, first_of-append}
+use Rattle.quantity.proofs.Refusals.{first_of-none, first_of-append, first-answered, first-of-more}
 use Rattle.quantity.proofs.Sums.{both_true, total-same, every-same}
 use Rattle.operator.specs.Operators.{number_in_range}
 use Rattle.sheet.specs.Bodies.{operator_in_range}
@@ -23,24 +23,24 @@ use Rattle.sheet.specs.declared.Form.{Form}
 use Rattle.sheet.specs.Paths.{Path, no_linked_operator, link_at}
 use Rattle.sheet.proofs.InRange.{declaration-of-path, operators-of-path}
 use Rattle.sheet.specs.Forms.{in_full, value_of_path}
-use Rattle.sheet.specs.Sheets.{sheet_cases, value_in, path_in, operators_in_range, path_in_range}
+use Rattle.sheet.specs.Sheets.{value_in, path_in, operators_in_range, path_in_range}
 use Rattle.sheet.specs.declared.LinkedOperator.{LinkedOperator}
 use Rattle.sheet.specs.declared.PathValue.{PathValue}
-use Rattle.sheet.specs.declared.read.Verdict.{Verdict}
 use Rattle.sheet.proofs.Accepted.{sheet-path}
 use Rattle.flow.specs.Declarations.{last_row}
 use Rattle.flow.proofs.Declarations.{last-inside}
-use Rattle.figures.specs.Answers.{path_cases, path_delay, refused_figures, accepted_figures, figures_of}
+use Rattle.figures.specs.Answers.{path_delay, figures_cases, accepted_figures, figures_of}
 use Rattle.figures.specs.declared.PathFigures.{PathFigures}
 use Rattle.figures.proofs.Promise.{accepted-figures, accepted-none}
 use Rattle.ledger.specs.declared.Record.{Record}
 use Rattle.ledger.specs.declared.Ledger.{Ledger}
 use Rattle.ledger.specs.declared.holding.Appending.{Appending}
-use Rattle.ledger.specs.Records.{mark_held, number_at, has_link, share, stands, place_among}
+use Rattle.ledger.specs.Records.{mark_held, has_link, share, stands}
 use Rattle.ledger.specs.Ledgers.{link_count, record_count, capacity_of, total_of, ledger_unusable}
-use Rattle.ledger.specs.Holding.{rate_of, names_link, rate_on, links_of, record_of, ledger_full, link_short, standing_cases, bits_of}
-use Rattle.ledger.specs.Steps.{rate_at, charged, short_of, Decidable, refused_appending, accepted_appending, appending_of}
-use Rattle.ledger.proofs.Deciding.{count-few, total-le, capacity-le, stands-below}
+use Rattle.ledger.specs.Holding.{rate_of, names_link, rate_on, links_of, record_of, ledger_full, link_short, standing_cases, holding_cases, bits_of}
+use Rattle.ledger.specs.Steps.{rate_at, charged, short_of, Decidable, accepted_appending, appending_of}
+use Rattle.ledger.proofs.Answering.{first-of-err, none-of-ok}
+use Rattle.ledger.proofs.Deciding.{count-few, total-le, capacity-le}
 use Rattle.ledger.proofs.Reserving.{share-at-most, list_of-same}
 use Rattle.ledger.proofs.Links.{has_named, share-named}
 
@@ -144,16 +144,16 @@ module _ (path : Path) (value : PathValue) (same : value ≡ value_of_path value
         ap (λ (r : Rate). (rates_sum (rate_at ledger.totals link) r).0) is ∙ rates-sum (rate_at ledger.totals link) (record { 0 = rate_of path }) (sum_fits ledger records usable path inside link less) in
         ap₂ (λ (names : Bool) (n : ℕ). not (both names (ltb (capacity_of ledger link) n))) (named-link link less) with))
 
--- 10 to 12 can be decided of a ledger that can be used and the path of an accepted sheet, whose figures answer the path and its delay
-module _ (sheet : List ℕ) (accepted : (figures_of sheet).verdict ≡ Verdict.Accepted) {answer : PathFigures} (answered : answer ≡ figures_of sheet) where
+-- 10 to 12 can be decided of a ledger that can be used and the path of a sheet whose figures are answered
+module _ (sheet : List ℕ) {answer : PathFigures} (accepted : figures_of sheet ≡ Ok answer) where
   pub accepted-inside : path_in_range (path_in sheet) ≡ true
   accepted-inside = (sheet-path sheet (accepted-none sheet accepted).0).inside
 
   pub accepted-path : answer.path ≡ value_of_path answer.path.form (path_in sheet)
-  accepted-path = rw (ap (λ (figures : PathFigures). figures.path) answered ∙ (accepted-figures sheet accepted).0) (sheet-path sheet (accepted-none sheet accepted).0).value
+  accepted-path = rw (accepted-figures sheet accepted).0 (sheet-path sheet (accepted-none sheet accepted).0).value
 
   pub accepted-delay : answer.delay ≡ record { 0 = path_delay (path_in sheet) }
-  accepted-delay = ap (λ (figures : PathFigures). figures.delay) answered ∙ ap (λ (n : ℕ). record { 0 = n }) (accepted-figures sheet accepted).1
+  accepted-delay = ap (λ (n : ℕ). record { 0 = n }) (accepted-figures sheet accepted).1
 
   pub accepted-decidable : (ledger : Ledger) (records : List Record) → ledger_unusable ledger records ≡ false → Decidable ledger answer.path
   unfolding value_of_path
@@ -168,58 +168,53 @@ module _ (sheet : List ℕ) (accepted : (figures_of sheet).verdict ≡ Verdict.A
 -- 10 to 12.
 
 module _ (ledger : Ledger) (records : List Record) (number : ℕ) (path : Path) where
-  abbrev pub standing : Appending
-  standing = first_of (standing_cases ledger records number path) (refused_appending ledger) (accepted_appending ledger number path)
+  abbrev pub standing : Result Appending Refusal
+  standing = first_of (standing_cases ledger records number path) Err (Ok (accepted_appending ledger number path))
 
-  module _ {at : ℕ} (found : at ≡ place_among (number_at records) ledger.count number) where
-    pub standing-known : at < ledger.count → refused_appending ledger PathNumberWrong ≡ standing
-    standing-known less = sym (pick_true _ _ _ (sym (stands-below records ledger.count number found) ∙ lt-ltb at ledger.count less))
+  pub standing-known : stands records ledger.count number ≡ true → Err PathNumberWrong ≡ standing
+  standing-known known = sym (pick_true _ _ _ known)
 
-    module _ (past : ledger.count ≤ at) where
-      new : stands records ledger.count number ≡ false
-      new = sym (stands-below records ledger.count number found) ∙ le-ltb at ledger.count past
+  module _ (new : stands records ledger.count number ≡ false) where
+    pub standing-full : ledger.count ≡ record_count → Err LedgerFull ≡ standing
+    unfolding ledger_full
+    standing-full full = sym (pick-false _ _ _ new ∙ pick_true _ _ _ (eq-eqb ledger.count record_count full))
 
-      pub standing-full : ledger.count ≡ record_count → refused_appending ledger LedgerFull ≡ standing
+    module _ (room : ledger.count ≡ record_count → ⊥) where
+      pub standing-short : link_short ledger path ≡ true → Err LinkShort ≡ standing
       unfolding ledger_full
-      standing-full full = sym (pick-false _ _ _ new ∙ pick_true _ _ _ (eq-eqb ledger.count record_count full))
+      standing-short short = sym (pick-false _ _ _ new ∙ pick-false _ _ _ (ne_eqb ledger.count record_count room) ∙ pick_true _ _ _ short)
 
-      module _ (room : ledger.count ≡ record_count → ⊥) where
-        pub standing-short : link_short ledger path ≡ true → refused_appending ledger LinkShort ≡ standing
-        unfolding ledger_full
-        standing-short short = sym (pick-false _ _ _ new ∙ pick-false _ _ _ (ne_eqb ledger.count record_count room) ∙ pick_true _ _ _ short)
-
-        pub standing-accepted : link_short ledger path ≡ false → accepted_appending ledger number path ≡ standing
-        unfolding ledger_full
-        standing-accepted enough = sym (pick-false _ _ _ new ∙ pick-false _ _ _ (ne_eqb ledger.count record_count room) ∙ pick-false _ _ _ enough)
+      pub standing-accepted : link_short ledger path ≡ false → Ok (accepted_appending ledger number path) ≡ standing
+      unfolding ledger_full
+      standing-accepted enough = sym (pick-false _ _ _ new ∙ pick-false _ _ _ (ne_eqb ledger.count record_count room) ∙ pick-false _ _ _ enough)
 
 -- 1 and the sheet's refusals before them.
 
 module _ (ledger : Ledger) (records : List Record) (number : ℕ) (sheet : List ℕ) where
-  pub holding-outside : in_range path_number_range number ≡ false → refused_appending ledger Unusable ≡ appending_of ledger records number sheet
+  pub holding-outside : in_range path_number_range number ≡ false → Err Unusable ≡ appending_of ledger records number sheet
   unfolding appending_of
   holding-outside outside = sym (pick_true _ _ _ (ap not outside))
 
   module _ (inside : in_range path_number_range number ≡ true) where
-    pub holding-unusable : ledger_unusable ledger records ≡ true → refused_appending ledger Unusable ≡ appending_of ledger records number sheet
+    pub holding-unusable : ledger_unusable ledger records ≡ true → Err Unusable ≡ appending_of ledger records number sheet
     unfolding appending_of
     holding-unusable unusable = sym (pick-false _ _ _ (ap not inside) ∙ pick_true _ _ _ unusable)
 
     module _ (usable : ledger_unusable ledger records ≡ false) where
-      -- the verdict on the figures decides
-      abbrev appending_by : Verdict → Appending
-      appending_by Verdict.Accepted = standing ledger records number (path_in sheet)
-      appending_by (Verdict.Refused why) = refused_appending ledger why
-
-      appending-by : appending_by (figures_of sheet).verdict ≡ appending_of ledger records number sheet
+      -- the figures refuse, or 10 to 12 are left
+      pub holding-refused : {why : Refusal} → figures_of sheet ≡ Err why → Err why ≡ appending_of ledger records number sheet
       unfolding appending_of figures_of
-      appending-by =
-          first_of-map (λ (figures : PathFigures). appending_by figures.verdict) refused_figures (accepted_figures (value_in sheet) (path_in sheet)) (sheet_cases sheet ++ path_cases (path_in sheet))
-          ∙ sym
+      holding-refused {why} refused =
+          let first = first-of-err (figures_cases sheet) (accepted_figures (value_in sheet) (path_in sheet)) refl refused in
+          sym
+          (first-answered Err (Ok (accepted_appending ledger number (path_in sheet))) why (holding_cases ledger records number sheet)
+          (inr (ap not inside, inr (usable, first-of-more why (figures_cases sheet) (standing_cases ledger records number (path_in sheet)) first))))
+
+      pub holding-standing : {answer : PathFigures} → figures_of sheet ≡ Ok answer → standing ledger records number (path_in sheet) ≡ appending_of ledger records number sheet
+      unfolding appending_of figures_of
+      holding-standing accepted =
+          let (none, _) = none-of-ok (figures_cases sheet) (accepted_figures (value_in sheet) (path_in sheet)) refl accepted in
+          sym
           (pick-false _ _ _ (ap not inside) ∙ pick-false _ _ _ usable
-          ∙ first_of-append (refused_appending ledger) (accepted_appending ledger number (path_in sheet)) (sheet_cases sheet ++ path_cases (path_in sheet)) (standing_cases ledger records number (path_in sheet)))
-
-      pub holding-refused : {why : Refusal} → (figures_of sheet).verdict ≡ Verdict.Refused why → refused_appending ledger why ≡ appending_of ledger records number sheet
-      holding-refused verdict = sym (ap appending_by verdict) ∙ appending-by
-
-      pub holding-standing : (figures_of sheet).verdict ≡ Verdict.Accepted → standing ledger records number (path_in sheet) ≡ appending_of ledger records number sheet
-      holding-standing verdict = sym (ap appending_by verdict) ∙ appending-by
+          ∙ first_of-append Err (Ok (accepted_appending ledger number (path_in sheet))) (figures_cases sheet) (standing_cases ledger records number (path_in sheet))
+          ∙ first_of-none Err (standing ledger records number (path_in sheet)) (figures_cases sheet) none)

@@ -1,70 +1,43 @@
--- A number sought among some, each compared: met or not as 1 or 0. And numbers of 16 bits in a ring of 64, each sought among the 32 behind it unless it is 0: of any two, one is among those behind the other. How often 0 stands is counted.
-use Rattle.std.proofs.Common.{◌≡◌, ℕ, zero, suc, ◌+◌, ◌-◌, ◌*◌, ◌<◌, ◌≤◌, Bool, true, false, not, eqb, ltb, leb, List, length, get_or, take, drop, set, sym, refl, ap, ◌∙◌, ap₂, add-zero, mod-eq_of_lt, add-sub_cancel, add-one, arith, length-drop, length-take-le, get_or-drop, get_or-take, ltb-true, le-ltb, lt-ltb, eq-eqb, ne_eqb, eqb-true, le-leb}
+-- A number sought among some, each compared. And numbers of 16 bits in a ring of 64, each sought among the 32 behind it unless it is 0: of any two, one is among those behind the other. How often 0 stands is counted.
+use Rattle.std.proofs.Common.{◌≡◌, ℕ, zero, suc, ◌+◌, ◌-◌, ◌*◌, ◌<◌, ◌≤◌, Bool, true, false, not, ◌&&◌, ◌||◌, eqb, ltb, leb, List, length, get_or, take, drop, sym, refl, ap, ◌∙◌, ap₂, add-zero, mod-eq_of_lt, add-sub_cancel, add-one, arith, length-drop, length-take-le, get_or-drop, get_or-take, ltb-true, le-ltb, lt-ltb, eq-eqb, ne_eqb, eqb-true, le-leb}
 use native.Mathlib.Decide.{dec_le, dec_lt}
-use lib.Bits.{bit_or}
 use borrow.Author.Tests.{lt-leb, eqb-false, not-true, not-false}
-use Rattle.quantity.specs.Choice.{pick, both, either}
+use Rattle.std.specs.List.{CopiedTo, SameBelow}
+use Rattle.quantity.specs.Choice.{both, either}
 use Rattle.quantity.specs.Sums.{every, list_of}
 use Rattle.quantity.proofs.Laws.{pick_true, pick-false}
-use Rattle.quantity.proofs.Sums.{total-zero, total-suc, total-next, total-le, total-same, total-none, term-le-total, both_true, every-next, every-at, every_holds, every-fails, get_d-list_of}
+use Rattle.quantity.proofs.Sums.{list_of-ext, total-zero, total-suc, total-next, total-le, total-same, total-none, term-le-total, both_true, every-next, every-at, every_holds, every-fails, get_d-list_of}
 use Rattle.ledger.specs.Records.{among, place_among, all_differ}
 use Rattle.ledger.specs.Ledgers.{record_count}
 use Rattle.ledger.specs.Steps.{half, ring_size, low_bits, ring_at, one_if, met_behind, repeats_in, zeros_in, Narrow}
-use Rattle.ledger.proofs.Numbers.{Written, written_next, not-both, among-suc, among_same, not-among, among-at, place-among, at_place}
-use Rattle.ledger.proofs.Reserving.{list_of-same, total_at_most}
+use Rattle.ledger.proofs.Numbers.{Written, and-both, or-either, not-both, among-suc, among_same, not-among, among-at, place-among, at_place}
+use Rattle.ledger.proofs.Reserving.{total_at_most}
 
 contrary : {t : Bool} → t ≡ true → t ≡ false → ⊥
 contrary e f = let z : ◌≡◌ {A = ℕ} 0 1 = cc in omega arith
 
--- what was met, as the code joins it
-pub one-or : (a b : Bool) → bit_or (one_if a) (one_if b) ≡ one_if (either a b)
-one-or true true = refl
-one-or true false = refl
-one-or false true = refl
-one-or false false = refl
-
-pub one-met : (t : Bool) → not (eqb (one_if t) 0) ≡ t
-one-met true = refl
-one-met false = refl
-
 module _ (numbers : ℕ → ℕ) (number : ℕ) where
-  pub met-first : 0 ≡ one_if (among numbers 0 number)
+  pub met-first : false ≡ among numbers 0 number
   unfolding among every
   met-first = refl
 
-  pub met_next : (n : ℕ) {met same : ℕ} → met ≡ one_if (among numbers n number) → same ≡ one_if (eqb (numbers n) number)
-      → bit_or met same ≡ one_if (among numbers (n + 1) number)
-  met_next n before here = ap₂ bit_or before here ∙ one-or (among numbers n number) (eqb (numbers n) number) ∙ ap one_if (sym (among-suc numbers number n) ∙ ap (λ (k : ℕ). among numbers k number) (sym (add-one n)))
+  pub met_next : (n : ℕ) {met : Bool} → met ≡ among numbers n number → (met || eqb (numbers n) number) ≡ among numbers (n + 1) number
+  met_next n before =
+      ap (λ (met : Bool). met || eqb (numbers n) number) before ∙ or-either (among numbers n number) (eqb (numbers n) number)
+      ∙ sym (among-suc numbers number n) ∙ ap (λ (k : ℕ). among numbers k number) (sym (add-one n))
 
--- The first 64 of a list, and from there on its first once more.
-module _ (xs : List ℕ) where
-  abbrev pub once_more : ℕ → ℕ
-  once_more j = pick (ltb j record_count) (get_or xs j 0) (get_or xs (j - record_count) 0)
-
-  more-front : (j : ℕ) → j < record_count → once_more j ≡ get_or xs j 0
-  more-front j less = pick_true (ltb j record_count) _ _ (lt-ltb j record_count less)
-
-  more-behind : (j : ℕ) → once_more (j + record_count) ≡ get_or xs j 0
-  more-behind j = pick-false (ltb (j + record_count) record_count) _ _ (le-ltb (j + record_count) record_count (omega arith)) ∙ ap (λ (k : ℕ). get_or xs k 0) (add-sub_cancel j record_count)
-
-  pub more-first : length xs ≡ ring_size → Written 0 once_more ring_size xs record_count
-  more-first sized = record { few = omega arith; sized = sized; each = λ k less. sym (more-front k less) }
-
-  pub more-next : {ring : List ℕ} (k : ℕ) → Written 0 once_more ring_size ring (k + record_count) → k < half → Written 0 once_more ring_size (set ring (k + record_count) (get_or ring k 0)) (k + 1 + record_count)
-  more-next {ring} k written less =
-      let next : k + record_count + 1 ≡ k + 1 + record_count = omega arith in
-      rw next at (written_next 0 once_more ring_size written (omega arith) (written.each k (omega arith) ∙ more-front k (omega arith) ∙ sym (more-behind k)))
-
--- the numbers written, with the first half once more, are the ring
-pub ring-written : (numbers : List ℕ) {ring : List ℕ} → Written 0 (low_bits numbers) ring_size ring record_count → list_of (once_more ring) ring_size ≡ list_of (ring_at numbers) ring_size
+-- the numbers written, with the first half copied behind them, are the ring
+pub ring-written : (numbers : List ℕ) {written ring : List ℕ} → Written 0 (low_bits numbers) ring_size written record_count → length ring ≡ length written
+    → SameBelow written ring record_count → CopiedTo written ring 0 record_count half → ring ≡ list_of (ring_at numbers) ring_size
 unfolding ring_at
-ring-written numbers {ring} written = list_of-same (once_more ring) (ring_at numbers) ring_size each
+ring-written numbers {written} {ring} front sized same copied = list_of-ext 0 (ring_at numbers) ring_size ring (sized ∙ front.sized) each
   where
-    each : (k : ℕ) → k < ring_size → once_more ring k ≡ ring_at numbers k
+    each : (k : ℕ) → k < ring_size → get_or ring k 0 ≡ ring_at numbers k
     each k less = elim (dec_lt k record_count) [
-      | yes front ↦ more-front ring k front ∙ written.each k front ∙ sym (pick_true (ltb k record_count) _ _ (lt-ltb k record_count front))
+      | yes before ↦ same k 0 before ∙ front.each k before ∙ sym (pick_true (ltb k record_count) _ _ (lt-ltb k record_count before))
       | no behind ↦
-          pick-false (ltb k record_count) _ _ (le-ltb k record_count (omega arith)) ∙ written.each (k - record_count) (omega arith)
+          let shift : 0 + (k - record_count) ≡ k - record_count = omega arith in
+          copied k 0 (omega arith) (omega arith) ∙ ap (λ (i : ℕ). get_or written i 0) shift ∙ front.each (k - record_count) (omega arith)
           ∙ sym (pick-false (ltb k record_count) _ _ (le-ltb k record_count (omega arith)))
     ]
 
@@ -82,26 +55,20 @@ module _ (ring : List ℕ) (sized : length ring ≡ ring_size) where
       ∙ among_same (λ k. get_or (behind_in j) k 0) (λ k. get_or ring (j + 1 + k) 0) half
       (λ k near. get_or-take (j + 1 + half - (j + 1)) (drop (j + 1) ring) k 0 (omega arith) ∙ get_or-drop (j + 1) ring k 0) number
 
-  pub behind-zero : (j : ℕ) → get_or ring j 0 ≡ 0 → 0 ≡ one_if (met_behind ring j)
+  pub behind-met : (j : ℕ) {behind : Bool} → j < record_count → behind ≡ among (λ k. get_or (behind_in j) k 0) (length (behind_in j)) (get_or ring j 0) → (not (eqb (get_or ring j 0) 0) && behind) ≡ met_behind ring j
   unfolding met_behind
-  behind-zero j none = sym (ap (λ (t : Bool). one_if (both (not t) (among (λ k. get_or ring (j + 1 + k) 0) half (get_or ring j 0)))) (eq-eqb (get_or ring j 0) 0 none))
-
-  pub behind-met : (j : ℕ) {behind : ℕ} → j < record_count → (get_or ring j 0 ≡ 0 → ⊥) → behind ≡ one_if (among (λ k. get_or (behind_in j) k 0) (length (behind_in j)) (get_or ring j 0)) → behind ≡ one_if (met_behind ring j)
-  unfolding met_behind
-  behind-met j less some is =
-      is ∙ ap one_if (among-behind j (get_or ring j 0) less)
-      ∙ sym (ap (λ (t : Bool). one_if (both (not t) (among (λ k. get_or ring (j + 1 + k) 0) half (get_or ring j 0)))) (ne_eqb (get_or ring j 0) 0 some))
+  behind-met j {behind} less is = and-both (not (eqb (get_or ring j 0) 0)) behind ∙ ap (both (not (eqb (get_or ring j 0) 0))) (is ∙ among-behind j (get_or ring j 0) less)
 
 module _ (ring : List ℕ) where
-  pub repeats-first : 0 ≡ one_if (repeats_in ring 0)
+  pub repeats-first : false ≡ repeats_in ring 0
   unfolding repeats_in every
   repeats-first = refl
 
-  pub repeats-next : (n : ℕ) {met here : ℕ} → met ≡ one_if (repeats_in ring n) → here ≡ one_if (met_behind ring n) → bit_or met here ≡ one_if (repeats_in ring (n + 1))
+  pub repeats-next : (n : ℕ) {met here : Bool} → met ≡ repeats_in ring n → here ≡ met_behind ring n → (met || here) ≡ repeats_in ring (n + 1)
   unfolding repeats_in
-  repeats-next n before here =
-      ap₂ bit_or before here ∙ one-or (repeats_in ring n) (met_behind ring n)
-      ∙ ap one_if (sym (not-both (every (λ j. not (met_behind ring j)) n) (met_behind ring n)) ∙ ap not (sym (every-next (λ j. not (met_behind ring j)) n)))
+  repeats-next n {met} {here} before now =
+      or-either met here ∙ ap₂ either before now
+      ∙ sym (not-both (every (λ j. not (met_behind ring j)) n) (met_behind ring n)) ∙ ap not (sym (every-next (λ j. not (met_behind ring j)) n))
 
   none-repeats : {n : ℕ} → repeats_in ring n ≡ false → (j : ℕ) → j < n → met_behind ring j ≡ false
   unfolding repeats_in

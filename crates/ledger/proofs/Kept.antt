@@ -1,27 +1,25 @@
 -- By induction over the calls the ledger and its records are the account's; of these the promise holds.
-use Rattle.std.proofs.Common.{◌≡◌, ℕ, ◌-◌, ◌<◌, true, not, eqb, List, [], ◌∷◌, ◌++◌, length, replicate, sym, refl, ap, ◌∙◌, subst, ap₂, inl, inr, ⊎_elim, arith, eqb-true}
+use Rattle.std.proofs.Common.{◌≡◌, ℕ, ◌-◌, ◌<◌, true, not, eqb, List, [], ◌∷◌, ◌++◌, length, replicate, IsOk, Result, Ok, Err, sym, refl, ap, ◌∙◌, subst, ap₂, inl, inr, ⊎_elim, arith, eqb-true}
 use borrow.Author.Tests.{not-false}
 use Rattle.quantity.specs.Sums.{list_of}
 use Rattle.quantity.specs.Ranges.{in_range, path_number_range}
 use Rattle.quantity.specs.Refusals.{Case, ◌⇒◌, refusal_number}
 use Rattle.quantity.specs.declared.refusal.Refusal.{Refusal}
 use Rattle.quantity.specs.declared.refusal.Refusal.TheVariants.{Unusable, PathNumberWrong, LedgerFull, LinkShort}
-use Rattle.quantity.proofs.Refusals.{NoneStands, FirstIs, none-or-first, none-where-result, first_of-none, first-answered, first-of-each}
+use Rattle.quantity.proofs.Refusals.{NoneStands, FirstIs, none-where-result, first_of-none, first-of-each}
 use Rattle.sheet.specs.Sheets.{sheet_cases, path_in}
-use Rattle.sheet.specs.declared.read.Verdict.{Verdict}
-use Rattle.sheet.proofs.Accepted.{never-accepted}
 use Rattle.figures.specs.Answers.{path_cases}
 use Rattle.ledger.specs.declared.Record.{Record}
 use Rattle.ledger.specs.declared.Ledger.{Ledger}
-use Rattle.ledger.specs.declared.opening.Opened.{Opened}
 use Rattle.ledger.specs.Records.{no_record, number_at, reserved}
 use Rattle.ledger.specs.Ledgers.{record_count, total_of, capacities_fit, ledger_unusable}
-use Rattle.ledger.specs.Opening.{asked_for, open_cases, new_ledger, refused_opening, opened_of, records_opened}
+use Rattle.ledger.specs.Opening.{asked_for, open_cases, new_ledger, no_ledger, opened_of, records_opened}
 use Rattle.ledger.specs.Release.{record_of_number}
-use Rattle.ledger.specs.Calls.{Call, hold, confirm, release, spare, number_wrong, Answer, refused_by}
+use Rattle.ledger.specs.Calls.{Call, hold, confirm, release, spare, number_wrong, Grant}
 use Rattle.ledger.specs.Account.{Account, reserved_on, stands_in, short_in, without, call_cases, granted, account_answer, account_next, account_after}
-use Rattle.ledger.specs.Lists.{Book, opened, answered, called, called_all, account_all}
+use Rattle.ledger.specs.Lists.{Book, ledger_by, opened, answered, called, called_all, account_all}
 use Rattle.ledger.specs.Kept.{Kept}
+use Rattle.ledger.proofs.Answering.{first-of-err, none-of-ok}
 use Rattle.ledger.proofs.UsableLedger.{ledger-usable}
 use Rattle.ledger.proofs.Entries.{numbers-once, remove-count, mark-in}
 use Rattle.ledger.proofs.Books.{ledger_of, book_of, SoundAccount, reserved-same, total-same, usable_same}
@@ -46,47 +44,26 @@ new-ledger : (capacities : List ℕ) → new_ledger capacities ≡ ledger_of cap
 unfolding new_ledger reserved_on list_of
 new-ledger capacities = refl
 
-led-new : (capacities : List ℕ) (lent : List Record) → (opened_of capacities lent).verdict ≡ Verdict.Accepted → Led capacities (opened capacities lent) []
-unfolding opened opened_of records_opened refused_opening new_ledger reserved_on
+led-new : (capacities : List ℕ) (lent : List Record) → IsOk (opened_of capacities lent) → Led capacities (opened capacities lent) []
+unfolding opened opened_of records_opened new_ledger reserved_on
 led-new capacities lent accepted =
     let cases = open_cases capacities lent in
-    let none : NoneStands cases = none-where-result refused_opening (record { verdict = Verdict.Accepted; ledger = new_ledger capacities }) (λ (o : Opened). o.verdict ≡ Verdict.Accepted) (λ why. never-accepted why) cases accepted in
+    let none : NoneStands cases = none-where-result Err (Ok (new_ledger capacities)) (λ (answer : Result Ledger Refusal). IsOk answer) (λ why ok. absurd (cc)) cases accepted in
     record {
       is =
           ap₂ (λ (l : Ledger) (r : List Record). record { ledger = l; records = r })
-          (ap (λ (o : Opened). o.ledger) (first_of-none refused_opening (record { verdict = Verdict.Accepted; ledger = new_ledger capacities }) cases none) ∙ new-ledger capacities)
+          (ap (λ (answer : Result Ledger Refusal). ledger_by (λ (l : Ledger). l) no_ledger answer) (first_of-none Err (Ok (new_ledger capacities)) cases none) ∙ new-ledger capacities)
           (first_of-none (λ why. lent) (replicate record_count no_record) cases none);
       sound = record { inside = not-false (capacities_fit (asked_for capacities)) none.1.0; few = omega arith; sound = tt; within = λ link less. omega arith };
     }
 
 -- An answer 1 comes from the number alone, and 11 from a full ledger alone: a sheet is refused by 2 to 9.
 
-not-refused : (a : Answer) (why : Refusal) → a.verdict ≡ Verdict.Accepted → a.verdict ≡ Verdict.Refused why → ⊥
-not-refused a why accepted refused = never-accepted why (sym refused ∙ accepted)
-
-verdict-number : (why other : Refusal) → Verdict.Refused why ≡ Verdict.Refused other → refusal_number why ≡ refusal_number other
-verdict-number why other e = ap number e
-  where
-    number : Verdict → ℕ
-    number (Verdict.Refused w) = refusal_number w
-    number Verdict.Accepted = 0
-
 module _ (capacities : List ℕ) (entries : Account) where
-  granted-accepted : (call : Call) → (granted capacities entries call).verdict ≡ Verdict.Accepted
-  unfolding granted
-  granted-accepted (hold number sheet) = refl
-  granted-accepted (confirm number) = refl
-  granted-accepted (release number) = refl
-  granted-accepted (spare link) = refl
-
   -- the first refusal of a call that answers one
-  first-of-answer : (call : Call) (why : Refusal) → (account_answer capacities entries call).verdict ≡ Verdict.Refused why → (other : Refusal) × (FirstIs (call_cases capacities entries call) other × (refusal_number other ≡ refusal_number why))
+  first-of-answer : (call : Call) {why : Refusal} → account_answer capacities entries call ≡ Err why → FirstIs (call_cases capacities entries call) why
   unfolding account_answer
-  first-of-answer call why refused =
-      ⊎_elim
-      (λ none. absurd (not-refused (granted capacities entries call) why (granted-accepted call) (ap (λ (a : Answer). a.verdict) (sym (first_of-none refused_by (granted capacities entries call) (call_cases capacities entries call) none)) ∙ refused)))
-      (λ (other, first). (other, (first, verdict-number other why (ap (λ (a : Answer). a.verdict) (sym (first-answered refused_by (granted capacities entries call) other (call_cases capacities entries call) first)) ∙ refused))))
-      (none-or-first (call_cases capacities entries call))
+  first-of-answer call refused = first-of-err (call_cases capacities entries call) (granted capacities entries call) refl refused
 
   module _ (number : ℕ) (sheet : List ℕ) (why : Refusal) where
     abbrev standing : List Case
@@ -133,28 +110,28 @@ module _ (capacities : List ℕ) (entries : Account) where
   spare-first link why (inl (stands, same)) one = omega (arith, one, ap refusal_number same)
   spare-first link why (inr (_, none)) one = none
 
-  unusable-number : (call : Call) → (account_answer capacities entries call).verdict ≡ Verdict.Refused Unusable → number_wrong call ≡ true
+  unusable-number : (call : Call) → account_answer capacities entries call ≡ Err Unusable → number_wrong call ≡ true
   unfolding number_wrong
-  unusable-number (hold number sheet) refused = let (why, (first, one)) = first-of-answer (hold number sheet) Unusable refused in number-first number sheet why first one
-  unusable-number (confirm number) refused = let (why, (first, one)) = first-of-answer (confirm number) Unusable refused in confirm-first number why first one
-  unusable-number (release number) refused = let (why, (first, one)) = first-of-answer (release number) Unusable refused in release-first number why first one
-  unusable-number (spare link) refused = let (why, (first, one)) = first-of-answer (spare link) Unusable refused in absurd (spare-first link why first one)
+  unusable-number (hold number sheet) refused = number-first number sheet Unusable (first-of-answer (hold number sheet) refused) refl
+  unusable-number (confirm number) refused = confirm-first number Unusable (first-of-answer (confirm number) refused) refl
+  unusable-number (release number) refused = release-first number Unusable (first-of-answer (release number) refused) refl
+  unusable-number (spare link) refused = absurd (spare-first link Unusable (first-of-answer (spare link) refused) refl)
 
-  full-only : (number : ℕ) (sheet : List ℕ) → (account_answer capacities entries (hold number sheet)).verdict ≡ Verdict.Refused LedgerFull → length entries ≡ record_count
-  full-only number sheet refused = let (why, (first, eleven)) = first-of-answer (hold number sheet) LedgerFull refused in full-first number sheet why first eleven
+  full-only : (number : ℕ) (sheet : List ℕ) → account_answer capacities entries (hold number sheet) ≡ Err LedgerFull → length entries ≡ record_count
+  full-only number sheet refused = full-first number sheet LedgerFull (first-of-answer (hold number sheet) refused) refl
 
   -- a release that is taken leaves a record free
-  one_free : SoundAccount capacities entries → (number : ℕ) → (account_answer capacities entries (release number)).verdict ≡ Verdict.Accepted → length (account_after capacities entries (release number)) < record_count
+  one_free : SoundAccount capacities entries → (number : ℕ) {grant : Grant} → account_answer capacities entries (release number) ≡ Ok grant → length (account_after capacities entries (release number)) < record_count
   unfolding account_answer account_after account_next
   one_free sound number accepted =
       let cases = call_cases capacities entries (release number) in
-      let none : NoneStands cases = none-where-result refused_by (granted capacities entries (release number)) (λ (a : Answer). a.verdict ≡ Verdict.Accepted) (λ why. never-accepted why) cases accepted in
+      let (none, _) = none-of-ok cases (granted capacities entries (release number)) refl accepted in
       let after = ap length (first_of-none (λ why. entries) (without number entries) cases none) in
       let fewer = remove-count entries number (not-false (stands_in number entries) none.1.0) in
       let few = sound.few in
       omega arith
 
-pub ledger-kept : (capacities : List ℕ) (lent : List Record) → (opened_of capacities lent).verdict ≡ Verdict.Accepted → (calls : List Call) → Kept capacities lent calls
+pub ledger-kept : (capacities : List ℕ) (lent : List Record) → IsOk (opened_of capacities lent) → (calls : List Call) → Kept capacities lent calls
 ledger-kept capacities lent accepted calls =
     let led = led_on capacities (opened capacities lent) [] calls (led-new capacities lent accepted) in
     let entries = account_all capacities [] calls in
@@ -166,18 +143,18 @@ ledger-kept capacities lent accepted calls =
       totals = λ link less. ap (λ (b : Book). reserved b.records b.ledger.count link) is ∙ reserved-same capacities entries link less;
       within = led.sound.within;
       usable = ap (λ (b : Book). ledger_unusable b.ledger b.records) is ∙ ledger-usable _ _ (usable_same capacities entries led.sound);
-      unusable_only = λ call refused. unusable-number capacities entries call (sym (ap (λ (a : Answer). a.verdict) (answers call)) ∙ refused);
+      unusable_only = λ call refused. unusable-number capacities entries call (sym (answers call) ∙ refused);
       once = subst (λ (b : Book). (i j : ℕ) → i < j → j < b.ledger.count → number_at b.records i ≡ number_at b.records j → ⊥) (sym is) (λ i j. numbers-once entries (record_count - length entries) i j led.sound.sound);
       counted = ap (λ (b : Book). b.ledger.count) is;
       ordered = ap (λ (b : Book). b.records) is;
       marks = λ number standing. ap (λ (b : Book). (record_of_number b.ledger b.records number).mark) is ∙ mark-in entries (record_count - length entries) number standing;
       freed =
-          λ number granted next sheet full.
-          let released : (account_answer capacities entries (release number)).verdict ≡ Verdict.Accepted = sym (ap (λ (a : Answer). a.verdict) (answers (release number))) ∙ granted in
+          λ number grant granted next sheet full.
+          let released : account_answer capacities entries (release number) ≡ Ok grant = sym (answers (release number)) ∙ granted in
           let (left, sound) = called_same capacities entries led.sound (release number) in
           let after = account_after capacities entries (release number) in
           let same : answered (called (called_all (opened capacities lent) calls) (release number)) (hold next sheet) ≡ account_answer capacities after (hold next sheet) = ap (λ (b : Book). answered (called b (release number)) (hold next sheet)) is ∙ ap (λ (b : Book). answered b (hold next sheet)) left ∙ answer-same capacities after sound (hold next sheet) in
-          let filled = full-only capacities after next sheet (sym (ap (λ (a : Answer). a.verdict) same) ∙ full) in
+          let filled = full-only capacities after next sheet (sym same ∙ full) in
           let free = one_free capacities entries led.sound number released in
           omega arith;
     }

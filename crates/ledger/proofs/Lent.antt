@@ -1,197 +1,125 @@
--- The lent calls stand on what is decided: its answer is the call's, and with what it writes the records are the call's.
-use Rattle.std.proofs.Common.{◌≡◌, ℕ, ◌<◌, ◌≤◌, eqb, ltb, List, ◌++◌, length, set, replicate, sym, refl, ap, ◌∙◌, ⊎_elim, arith, drop_of_length-le, ltb-true, lt-ltb, eqb-true}
-use borrow.Author.Tests.{eqb-false, not-false}
-use Rattle.quantity.specs.Refusals.{Case}
+-- The lent calls stand on what is checked, found and decided: with what they write their answers and the records are the calls'.
+use Rattle.std.proofs.Common.{◌≡◌, ℕ, ◌-◌, ◌<◌, not, List, [], ◌∷◌, ◌++◌, length, set, replicate, Option, Some, None, Result, Ok, Err, sym, refl, ap, ◌∙◌, inl, inr, arith, eq-eqb, ne_eqb}
+use borrow.Author.Tests.{eqb-false}
+use Rattle.quantity.specs.Refusals.{Case, ◌⇒◌}
+use Rattle.quantity.specs.declared.Rate.{Rate}
 use Rattle.quantity.specs.declared.refusal.Refusal.{Refusal}
-use Rattle.quantity.proofs.Laws.{pick_true}
-use Rattle.quantity.proofs.Refusals.{NoneStands, FirstIs, first_of-none, none-or-first, none-of-each, first-answered}
+use Rattle.quantity.specs.declared.refusal.Refusal.TheVariants.{Unusable, OutOfRange, ConfirmedAlready}
+use Rattle.quantity.proofs.Laws.{option-told}
+use Rattle.quantity.proofs.Refusals.{NoneStands, FirstIs, none-of-each, first-of-more}
 use Rattle.sheet.specs.Sheets.{sheet_cases, path_in}
-use Rattle.sheet.specs.declared.read.Verdict.{Verdict}
 use Rattle.figures.specs.Answers.{path_cases}
 use Rattle.ledger.specs.declared.Record.{Record}
 use Rattle.ledger.specs.declared.Ledger.{Ledger}
 use Rattle.ledger.specs.declared.holding.Appending.{Appending}
-use Rattle.ledger.specs.declared.release.Releasing.{Releasing}
-use Rattle.ledger.specs.declared.confirming.Marking.{Marking}
-use Rattle.ledger.specs.declared.opening.Clearing.{Clearing}
-use Rattle.ledger.specs.Records.{mark_held, no_record, number_at, place_among, stands}
+use Rattle.ledger.specs.declared.holding.Holding.{Holding}
+use Rattle.ledger.specs.Records.{mark_held, mark_confirmed, no_record, record_at, number_at, place_among}
 use Rattle.ledger.specs.Ledgers.{record_count}
-use Rattle.ledger.specs.Opening.{open_cases, new_ledger, refused_opening, opened_of, records_opened}
-use Rattle.ledger.specs.Holding.{record_of, ledger_full, standing_cases, holding_cases, refused_holding, accepted_holding, holding_of, records_held}
-use Rattle.ledger.specs.Release.{release_cases, closed_up, refused_release, accepted_release, record_of_number, released_of, records_released}
-use Rattle.ledger.specs.Confirming.{confirm_cases, refused_confirming, confirmed_of, confirmed_at, records_confirmed}
-use Rattle.ledger.specs.Steps.{appended, marked, filled, refused_marking, marking_of, refused_clearing, clearing_of, refused_appending, accepted_appending, appending_of, refused_releasing, releasing_of}
-use Rattle.ledger.proofs.Deciding.{stands-below}
+use Rattle.ledger.specs.Opening.{open_cases, new_ledger, opened_of, records_opened}
+use Rattle.ledger.specs.Holding.{record_of, ledger_full, standing_cases, holding_cases, accepted_holding, holding_of, records_held}
+use Rattle.ledger.specs.Release.{release_cases, closed_up, accepted_release, record_of_number, released_of, records_released}
+use Rattle.ledger.specs.Confirming.{confirmed_already, confirm_cases, confirmed_of, confirmed_record, confirmed_at, records_confirmed}
+use Rattle.ledger.specs.Steps.{checked_of, discharged, accepted_appending, appending_of}
+use Rattle.ledger.proofs.Answering.{refused-first, taken-none, first-of-err, none-of-ok}
+use Rattle.ledger.proofs.Deciding.{standing-sized, standing-inside}
+use Rattle.ledger.proofs.MarkingOne.{confirmed-there}
 use Rattle.ledger.proofs.UsableLedger.{usable-ledger}
 
--- at a place the record is set, and 64 is none
-appended-there : (records : List Record) (at : ℕ) (entry : Record) → at < record_count → appended records at entry ≡ set records at entry
-unfolding appended
-appended-there records at entry less = pick_true (ltb at record_count) _ _ (lt-ltb at record_count less)
+-- A new ledger.
 
-appended-nowhere : (records : List Record) (entry : Record) → appended records record_count entry ≡ records
-unfolding appended
-appended-nowhere records entry = refl
+module _ (capacities : List ℕ) (records : List Record) where
+  pub open-unsized : (length records ≡ record_count → ⊥) → (Err Unusable ≡ opened_of capacities records) × (records ≡ records_opened capacities records)
+  unfolding opened_of records_opened
+  open-unsized other = refused-first (open_cases capacities records) (new_ledger capacities) records (replicate record_count no_record) (inl (ap not (ne_eqb (length records) record_count other), refl))
 
-marked-there : (records : List Record) (at : ℕ) → at < record_count → marked records at ≡ confirmed_at records at
-unfolding marked
-marked-there records at less = pick_true (ltb at record_count) _ _ (lt-ltb at record_count less)
+  module _ (sized : length records ≡ record_count) {checked : Option Ledger} (is : checked ≡ checked_of capacities) where
+    pub open-outside : checked ≡ None → (Err (OutOfRange 0) ≡ opened_of capacities records) × (records ≡ records_opened capacities records)
+    unfolding opened_of records_opened checked_of
+    open-outside none =
+        refused-first (open_cases capacities records) (new_ledger capacities) records (replicate record_count no_record)
+        (inr (ap not (eq-eqb (length records) record_count sized), inl (ap not ((option-told is).outside none), refl)))
 
-marked-nowhere : (records : List Record) → marked records record_count ≡ records
-unfolding marked
-marked-nowhere records = refl
+    pub open-fit : {ledger : Ledger} → checked ≡ Some ledger → (Ok ledger ≡ opened_of capacities records) × (replicate record_count no_record ≡ records_opened capacities records)
+    unfolding opened_of records_opened checked_of
+    open-fit some =
+        let (fits, same) = (option-told is).within some in
+        let (answer, cleared) = taken-none (open_cases capacities records) (new_ledger capacities) records (replicate record_count no_record) (ap not (eq-eqb (length records) record_count sized), (ap not fits, tt)) in
+        (ap {B = Result Ledger Refusal} (λ (ledger : Ledger). Ok ledger) same ∙ answer, cleared)
 
-closed-nowhere : (records : List Record) (last : Record) → closed_up records record_count last ≡ records
-unfolding closed_up
-closed-nowhere records last = refl
+-- A holding.
 
-module _ (ledger : Ledger) (records : List Record) (number : ℕ) (sheet : List ℕ) where
-  -- what the holding decides: its answer, a place only where 64 records are lent, and with what is appended there the records of the call
-  abbrev pub Appends : Appending → Type 0
-  Appends a = (a.holding ≡ holding_of ledger records number sheet) × ((a.at < record_count → length records ≡ record_count) × (appended records a.at a.entry ≡ records_held ledger records number sheet))
+module _ (ledger : Ledger) (records : List Record) (number : ℕ) (sheet : List ℕ) {decided : Result Appending Refusal} (is : decided ≡ appending_of ledger records number sheet) where
+  abbrev cases : List Case
+  cases = holding_cases ledger records number sheet
 
-  pub holds : (a : Appending) → a ≡ appending_of ledger records number sheet → Appends a
-  unfolding appending_of holding_of records_held refused_appending accepted_appending ledger_full
-  holds a e = ⊎_elim taken left (none-or-first cases)
-    where
-      cases : List Case
-      cases = holding_cases ledger records number sheet
+  abbrev appending : Appending
+  appending = accepted_appending ledger number (path_in sheet)
 
-      taken : NoneStands cases → Appends a
-      taken none =
-          let is : a ≡ accepted_appending ledger number (path_in sheet) = e ∙ first_of-none (refused_appending ledger) (accepted_appending ledger number (path_in sheet)) cases none in
-          let sound = usable-ledger ledger records none.1.0 in
-          let not_full = (none-of-each (sheet_cases sheet ++ path_cases (path_in sheet)) (standing_cases ledger records number (path_in sheet)) none.1.1).1.1.0 in
-          let room : ledger.count < record_count = let other = eqb-false ledger.count record_count not_full in let few = sound.few in omega arith in (
-            ap (λ x. x.holding) is ∙ sym (first_of-none (refused_holding ledger) (accepted_holding ledger (path_in sheet)) cases none),
-            (
-              (λ less. sound.sized),
-              ap (λ x. appended records x.at x.entry) is ∙ appended-there records ledger.count (record_of number (path_in sheet) mark_held) room
-                  ∙ sym (first_of-none (λ why. records) (set records ledger.count (record_of number (path_in sheet) mark_held)) cases none),
-            ),
-          )
+  abbrev appended : List Record
+  appended = set records ledger.count (record_of number (path_in sheet) mark_held)
 
-      left : ((why : Refusal) × FirstIs cases why) → Appends a
-      left (why, first) =
-          let is : a ≡ refused_appending ledger why = e ∙ first-answered (refused_appending ledger) (accepted_appending ledger number (path_in sheet)) why cases first in (
-            ap (λ x. x.holding) is ∙ sym (first-answered (refused_holding ledger) (accepted_holding ledger (path_in sheet)) why cases first),
-            (
-              (λ less. absurd (let at = ap (λ (x : Appending). x.at) is in omega (arith, at, less))),
-              ap (λ x. appended records x.at x.entry) is ∙ appended-nowhere records no_record
-                  ∙ sym (first-answered (λ why. records) (set records ledger.count (record_of number (path_in sheet) mark_held)) why cases first),
-            ),
-          )
+  pub hold-refused : {why : Refusal} → decided ≡ Err why → (Err why ≡ holding_of ledger records number sheet) × (records ≡ records_held ledger records number sheet)
+  unfolding holding_of records_held appending_of
+  hold-refused e = refused-first cases (accepted_holding ledger (path_in sheet)) records appended (first-of-err cases appending is e)
+
+  module _ {made : Appending} (e : decided ≡ Ok made) where
+    -- the record's place is one of those lent
+    pub hold-inside : (length records ≡ record_count) × (ledger.count < record_count)
+    unfolding appending_of ledger_full
+    hold-inside =
+        let (none, _) = none-of-ok cases appending is e in
+        let sound = usable-ledger ledger records none.1.0 in
+        let not_full = (none-of-each (sheet_cases sheet ++ path_cases (path_in sheet)) (standing_cases ledger records number (path_in sheet)) none.1.1).1.1.0 in
+        let other = eqb-false ledger.count record_count not_full in
+        let few = sound.few in
+        (sound.sized, omega arith)
+
+    pub hold-accepted : (Ok made.holding ≡ holding_of ledger records number sheet) × (set records ledger.count made.entry ≡ records_held ledger records number sheet)
+    unfolding holding_of records_held appending_of accepted_appending
+    hold-accepted =
+        let (none, same) = none-of-ok cases appending is e in
+        let (answer, held) = taken-none cases (accepted_holding ledger (path_in sheet)) records appended none in
+        (ap {B = Result Holding Refusal} (λ (a : Appending). Ok a.holding) same ∙ answer, ap (λ (a : Appending). set records ledger.count a.entry) same ∙ held)
+
+-- A release, and a confirming.
 
 module _ (ledger : Ledger) (records : List Record) (number : ℕ) where
   abbrev place : ℕ
   place = place_among (number_at records) ledger.count number
 
-  abbrev accepted_releasing : Releasing
-  accepted_releasing = record { released = accepted_release ledger (record_of_number ledger records number); at = place; last = no_record }
+  abbrev marked : List Record
+  marked = confirmed_at records place
 
-  -- and what a release decides
-  abbrev pub Releases : Releasing → Type 0
-  Releases a = (a.released ≡ released_of ledger records number) × ((a.at < record_count → length records ≡ record_count) × (closed_up records a.at a.last ≡ records_released ledger records number))
+  abbrev closed : List Record
+  closed = closed_up records place no_record
 
-  pub released : (a : Releasing) → a ≡ releasing_of ledger records number → Releases a
-  unfolding releasing_of released_of records_released refused_releasing
-  released a e = ⊎_elim taken left (none-or-first cases)
-    where
-      cases : List Case
-      cases = release_cases ledger records number
+  pub release-refused : {why : Refusal} → FirstIs (release_cases ledger records number) why → (Err why ≡ released_of ledger records number) × (records ≡ records_released ledger records number)
+  unfolding released_of records_released
+  release-refused first = refused-first (release_cases ledger records number) (accepted_release ledger (record_of_number ledger records number)) records closed first
 
-      taken : NoneStands cases → Releases a
-      taken none =
-          let is : a ≡ accepted_releasing = e ∙ first_of-none (refused_releasing ledger) accepted_releasing cases none in (
-            ap (λ x. x.released) is ∙ sym (first_of-none (refused_release ledger) (accepted_release ledger (record_of_number ledger records number)) cases none),
-            (
-              (λ less. (usable-ledger ledger records none.1.0).sized),
-              ap (λ x. closed_up records x.at x.last) is ∙ sym (first_of-none (λ why. records) (closed_up records place no_record) cases none),
-            ),
-          )
+  pub confirm-refused : {why : Refusal} → FirstIs (release_cases ledger records number) why → (Err why ≡ confirmed_of ledger records number) × (records ≡ records_confirmed ledger records number)
+  unfolding confirmed_of records_confirmed
+  confirm-refused {why} first =
+      refused-first (confirm_cases ledger records number) tt records marked (first-of-more why (release_cases ledger records number) ((confirmed_already ledger records number ⇒ ConfirmedAlready) ∷ []) first)
 
-      left : ((why : Refusal) × FirstIs cases why) → Releases a
-      left (why, first) =
-          let is : a ≡ refused_releasing ledger why = e ∙ first-answered (refused_releasing ledger) accepted_releasing why cases first in (
-            ap (λ x. x.released) is ∙ sym (first-answered (refused_release ledger) (accepted_release ledger (record_of_number ledger records number)) why cases first),
-            (
-              (λ less. absurd (let at = ap (λ (x : Releasing). x.at) is in omega (arith, at, less))),
-              ap (λ x. closed_up records x.at x.last) is ∙ closed-nowhere records no_record ∙ sym (first-answered (λ why. records) (closed_up records place no_record) why cases first),
-            ),
-          )
+  module _ (none : NoneStands (release_cases ledger records number)) where
+    pub release-stands : {at : ℕ} → at ≡ place → {gone : Record} → gone ≡ record_at records place → {left : List Rate} → left ≡ discharged ledger.totals gone
+        → (Ok (record { capacities = ledger.capacities; totals = left; count = ledger.count - 1 }) ≡ released_of ledger records number) × (closed_up records at no_record ≡ records_released ledger records number)
+    unfolding released_of records_released accepted_release discharged
+    release-stands placed read less =
+        let (answer, left) = taken-none (release_cases ledger records number) (accepted_release ledger (record_of_number ledger records number)) records closed none in (
+          ap {B = Result Ledger Refusal} (λ (left : List Rate). Ok (record { capacities = ledger.capacities; totals = left; count = ledger.count - 1 })) less
+              ∙ ap {B = Result Ledger Refusal} (λ (gone : Record). Ok (accepted_release ledger gone)) read ∙ answer,
+          ap (λ (at : ℕ). closed_up records at no_record) placed ∙ left,
+        )
 
-module _ (ledger : Ledger) (records : List Record) (number : ℕ) where
-  abbrev accepted_marking : List Record → Marking
-  accepted_marking rs = record { confirmed = record { verdict = Verdict.Accepted }; at = place_among (number_at rs) ledger.count number }
+    pub confirm-already : (record_at records place).mark ≡ mark_confirmed → (Err ConfirmedAlready ≡ confirmed_of ledger records number) × (records ≡ records_confirmed ledger records number)
+    unfolding confirmed_of records_confirmed confirmed_already
+    confirm-already one = refused-first (confirm_cases ledger records number) tt records marked (inr (none.0, inr (none.1.0, inr (none.1.1.0, inl (eq-eqb _ mark_confirmed one, refl)))))
 
-  -- and what confirming decides
-  abbrev pub Confirms : Marking → Type 0
-  Confirms a = (a.confirmed ≡ confirmed_of ledger records number) × ((a.at < record_count → length records ≡ record_count) × (marked records a.at ≡ records_confirmed ledger records number))
-
-  pub confirms : (a : Marking) → a ≡ marking_of ledger records number → Confirms a
-  unfolding marking_of confirmed_of records_confirmed refused_marking
-  confirms a e = ⊎_elim taken left (none-or-first cases)
-    where
-      cases : List Case
-      cases = confirm_cases ledger records number
-
-      taken : NoneStands cases → Confirms a
-      taken none =
-          let is : a ≡ accepted_marking records = e ∙ first_of-none refused_marking (accepted_marking records) cases none in
-          let sound = usable-ledger ledger records none.1.0 in
-          let below : place ledger records number < record_count =
-          let few = sound.few in let less = ltb-true (place ledger records number) ledger.count (stands-below records ledger.count number refl ∙ not-false (stands records ledger.count number) none.1.1.0) in omega arith in (
-            ap (λ x. x.confirmed) is ∙ sym (first_of-none refused_confirming (record { verdict = Verdict.Accepted }) cases none),
-            (
-              (λ less. sound.sized),
-              ap (λ x. marked records x.at) is ∙ marked-there records (place ledger records number) below
-                  ∙ sym (first_of-none (λ why. records) (confirmed_at records (place ledger records number)) cases none),
-            ),
-          )
-
-      left : ((why : Refusal) × FirstIs cases why) → Confirms a
-      left (why, first) =
-          let is : a ≡ refused_marking why = e ∙ first-answered refused_marking (accepted_marking records) why cases first in (
-            ap (λ x. x.confirmed) is ∙ sym (first-answered refused_confirming (record { verdict = Verdict.Accepted }) why cases first),
-            (
-              (λ less. absurd (let at = ap (λ (x : Marking). x.at) is in omega (arith, at, less))),
-              ap (λ x. marked records x.at) is ∙ marked-nowhere records ∙ sym (first-answered (λ why. records) (confirmed_at records (place ledger records number)) why cases first),
-            ),
-          )
-
--- what a new ledger decides: its answer, no more records to clear than are lent, and with these cleared the records of the call
-module _ (capacities : List ℕ) (records : List Record) where
-  abbrev pub Opens : Clearing → Type 0
-  Opens a = (a.opened ≡ opened_of capacities records) × ((a.count ≤ length records) × (filled records a.count a.none ≡ records_opened capacities records))
-
-  pub opened : (a : Clearing) → a ≡ clearing_of capacities records → Opens a
-  unfolding clearing_of opened_of records_opened refused_clearing refused_opening filled
-  opened a e = ⊎_elim taken left (none-or-first cases)
-    where
-      cases : List Case
-      cases = open_cases capacities records
-
-      accepted : Clearing
-      accepted = record { opened = record { verdict = Verdict.Accepted; ledger = new_ledger capacities }; count = record_count; none = no_record }
-
-      taken : NoneStands cases → Opens a
-      taken none =
-          let is : a ≡ accepted = e ∙ first_of-none refused_clearing accepted cases none in
-          let sized = eqb-true (length records) record_count (not-false (eqb (length records) record_count) none.0) in (
-            ap (λ x. x.opened) is ∙ sym (first_of-none refused_opening accepted.opened cases none),
-            (
-              omega (arith, sized, ap (λ (x : Clearing). x.count) is),
-              ap (λ x. filled records x.count x.none) is ∙ ap (λ rest. replicate record_count no_record ++ rest) (drop_of_length-le records {i = record_count} (omega (arith, sized)))
-                  ∙ sym (first_of-none (λ why. records) (replicate record_count no_record) cases none),
-            ),
-          )
-
-      left : ((why : Refusal) × FirstIs cases why) → Opens a
-      left (why, first) =
-          let is : a ≡ refused_clearing why = e ∙ first-answered refused_clearing accepted why cases first in (
-            ap (λ x. x.opened) is ∙ sym (first-answered refused_opening accepted.opened why cases first),
-            (
-              omega (arith, ap (λ (x : Clearing). x.count) is),
-              ap (λ x. filled records x.count x.none) is ∙ sym (first-answered (λ why. records) (replicate record_count no_record) why cases first),
-            ),
-          )
+    pub confirm-held : ((record_at records place).mark ≡ mark_confirmed → ⊥)
+        → (Ok tt ≡ confirmed_of ledger records number) × (set records place (confirmed_record (record_at records place)) ≡ records_confirmed ledger records number)
+    unfolding confirmed_of records_confirmed confirmed_already
+    confirm-held held =
+        let (answer, left) = taken-none (confirm_cases ledger records number) tt records marked (none.0, (none.1.0, (none.1.1.0, (ne_eqb _ mark_confirmed held, tt)))) in
+        (answer, sym (confirmed-there records place (standing-sized ledger records number none) (standing-inside ledger records number none)) ∙ left)

@@ -1,5 +1,4 @@
-pub mod Rows
-pub mod Filling
+pub mod Answering
 pub mod ClosingUp
 pub mod MarkingOne
 pub mod Numbers
@@ -11,7 +10,6 @@ pub mod Testing
 pub mod Reading
 pub mod Naming
 pub mod Deciding
-pub mod DecidingConfirm
 pub mod Sparing
 pub mod DecidingHold
 pub mod Lent

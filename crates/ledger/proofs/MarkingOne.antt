@@ -1,14 +1,12 @@
 -- Confirming the record at a place sets that one record: the definition, which gives each of the 64, by its elements.
-use Rattle.std.proofs.Common.{◌≡◌, ℕ, ◌<◌, ◌≤◌, Bool, true, false, eqb, ltb, List, length, set, sym, refl, ◌∙◌, arith, length-set, get_or-set_other, get_or-set_same, le-ltb, lt-ltb, eqb-true}
+use Rattle.std.proofs.Common.{◌≡◌, ℕ, ◌<◌, Bool, true, false, eqb, List, length, set, sym, refl, ◌∙◌, arith, length-set, get_or-set_other, get_or-set_same, eqb-true}
 use borrow.Author.Tests.{eqb-false}
 use Rattle.quantity.specs.Choice.{pick}
-use Rattle.quantity.proofs.Laws.{pick_true, pick-false}
 use Rattle.quantity.proofs.Sums.{list_of-ext}
 use Rattle.ledger.specs.declared.Record.{Record}
 use Rattle.ledger.specs.Records.{no_record, record_at}
 use Rattle.ledger.specs.Ledgers.{record_count}
 use Rattle.ledger.specs.Confirming.{confirmed_record, confirmed_at}
-use Rattle.ledger.specs.Steps.{marked}
 
 module _ (records : List Record) (at : ℕ) where
   pub confirmed-there : length records ≡ record_count → at < record_count → confirmed_at records at ≡ set records at (confirmed_record (record_at records at))
@@ -19,12 +17,3 @@ module _ (records : List Record) (at : ℕ) where
       by-test : (j : ℕ) (t : Bool) → eqb j at ≡ t → record_at (set records at (confirmed_record (record_at records at))) j ≡ pick t (confirmed_record (record_at records j)) (record_at records j)
       by-test j true e = rw (eqb-true j at e) (get_or-set_same records at (confirmed_record (record_at records at)) no_record (omega (arith, sized, below)))
       by-test j false e = get_or-set_other records at j (confirmed_record (record_at records at)) no_record (eqb-false j at e)
-
-  -- so the writer of one mark, at a place and where there is none
-  pub marked-within : length records ≡ record_count → at < record_count → set records at (confirmed_record (record_at records at)) ≡ marked records at
-  unfolding marked
-  marked-within sized below = sym (pick_true (ltb at record_count) _ _ (lt-ltb at record_count below) ∙ confirmed-there sized below)
-
-  pub marked-beyond : record_count ≤ at → records ≡ marked records at
-  unfolding marked
-  marked-beyond beyond = sym (pick-false (ltb at record_count) (confirmed_at records at) records (le-ltb at record_count beyond))

@@ -1,5 +1,5 @@
 -- The links that a path names: as sixteen bits, joined as its places are passed, and short of capacity where one is.
-use Rattle.std.proofs.Common.{◌≡◌, ℕ, zero, suc, ◌+◌, ◌*◌, ◌^◌, ◌<◌, ◌≤◌, Bool, true, false, not, eqb, ltb, List, length, get_or, take, sym, refl, ap, ◌∙◌, ap₂, ⊎_elim, le_of_suc-le-suc, not-suc-le-zero, eq-or-lt_of_le, pow-suc, arith, length-take-le, get_or-take, eq-eqb, ne_eqb}
+use Rattle.std.proofs.Common.{◌≡◌, ℕ, zero, suc, ◌+◌, ◌*◌, ◌^◌, ◌<◌, ◌≤◌, Bool, true, false, not, ◌&&◌, ◌||◌, eqb, ltb, List, length, get_or, take, sym, refl, ap, ◌∙◌, ap₂, ⊎_elim, le_of_suc-le-suc, not-suc-le-zero, eq-or-lt_of_le, pow-suc, arith, length-take-le, get_or-take, eq-eqb, ne_eqb}
 use native.Mathlib.Nat.{pow-zero}
 use lib.Bits.{bit_or, or_self, or_zero_l, or_zero_r, or_block}
 use lib.Pow.{pow-lt}
@@ -17,6 +17,7 @@ use Rattle.sheet.specs.declared.PathValue.{PathValue}
 use Rattle.ledger.specs.Ledgers.{link_count}
 use Rattle.ledger.specs.Holding.{names_link, bits_of, links_of}
 use Rattle.ledger.specs.Steps.{rate_at, short_of}
+use Rattle.ledger.proofs.Numbers.{and-both, or-either, not-both}
 
 -- The bits of the links below one, which are below its own bit.
 
@@ -96,11 +97,6 @@ module _ (operators : List LinkedOperator) where
 
   one_more : (k link : ℕ) → named_before operators (k + 1) link ≡ either (named_before operators k link) (eqb (get_or operators k no_linked_operator).link.0 link)
   one_more k link = ap not (every-next _ k) ∙ not-both (every (λ j. not (eqb (get_or operators j no_linked_operator).link.0 link)) k) (eqb (get_or operators k no_linked_operator).link.0 link)
-    where
-      not-both : (a b : Bool) → not (both a (not b)) ≡ either (not a) b
-      not-both true true = refl
-      not-both true false = refl
-      not-both false b = refl
 
   pub named-next : (k : ℕ) → (get_or operators k no_linked_operator).link.0 < link_count → bit_or (bits_before operators k) (2 ^ (get_or operators k no_linked_operator).link.0) ≡ bits_before operators (k + 1)
   unfolding bits_of
@@ -126,6 +122,16 @@ module _ (capacities : List LinkCapacity) (reserved : List Rate) (named : ℕ �
   -- the link is not named, or its capacity is not below its reserved total with the rate
   abbrev pub room_at : ℕ → Bool
   room_at link = not (both (named link) (ltb (get_or capacities link (record { 0 = 0 })).0 (rates_sum (rate_at reserved link) rate).0))
+
+  -- one more link
+  pub short-next : (link : ℕ) {short here : Bool} {with : Rate} → short ≡ not (every room_at link) → here ≡ named link → with ≡ rates_sum (rate_at reserved link) rate
+      → (short || (here && ltb (get_or capacities link (record { 0 = 0 })).0 with.0)) ≡ not (every room_at (link + 1))
+  short-next link {with = with} before here sum =
+      let below : Rate → Bool = λ with. ltb (get_or capacities link (record { 0 = 0 })).0 with.0 in
+      ap₂ (λ (short now : Bool). short || now) before (ap₂ (λ (here less : Bool). here && less) here (ap below sum))
+      ∙ or-either (not (every room_at link)) (named link && below (rates_sum (rate_at reserved link) rate))
+      ∙ ap (either (not (every room_at link))) (and-both (named link) (below (rates_sum (rate_at reserved link) rate)))
+      ∙ sym (not-both (every room_at link) (both (named link) (below (rates_sum (rate_at reserved link) rate)))) ∙ ap not (sym (every-next room_at link))
 
   pub room-all : not (every room_at link_count) ≡ short_of capacities reserved named rate
   unfolding short_of

@@ -1,5 +1,5 @@
 -- One call: its answer is the account's, what it leaves is the ledger of the account after it, and the account stays sound.
-use Rattle.std.proofs.Common.{◌≡◌, ℕ, suc, ◌+◌, ◌-◌, ◌<◌, ◌≤◌, Bool, true, false, not, ltb, List, [], ◌∷◌, ◌++◌, length, take, drop, set, sym, refl, ap, ◌∙◌, subst, ap₂, ⊎_elim, add-one, arith, length-append, ltb-false, lt-ltb}
+use Rattle.std.proofs.Common.{◌≡◌, ℕ, suc, ◌+◌, ◌-◌, ◌<◌, ◌≤◌, Bool, true, false, not, ltb, List, [], ◌∷◌, ◌++◌, length, take, drop, set, Result, Ok, Err, sym, refl, ap, ◌∙◌, subst, ap₂, ⊎_elim, add-one, arith, length-append, ltb-false, lt-ltb}
 use borrow.Author.Tests.{eqb-false, not-false, not-true}
 use Rattle.quantity.specs.Choice.{pick, both}
 use Rattle.quantity.specs.Ranges.{in_range, link_range}
@@ -10,25 +10,21 @@ use Rattle.quantity.proofs.Laws.{pick_true, le-largest}
 use Rattle.quantity.proofs.Sums.{every-at}
 use Rattle.quantity.proofs.Refusals.{NoneStands, FirstIs, none-or-first, none-of-each, first_of-none, first_of-map, first-answered}
 use Rattle.quantity.specs.declared.refusal.Refusal.TheVariants.{OutOfRange}
-use Rattle.sheet.specs.declared.read.Verdict.{Verdict}
 use Rattle.sheet.specs.Sheets.{sheet_cases, path_in}
 use Rattle.figures.specs.Answers.{path_cases}
 use Rattle.ledger.specs.declared.Record.{Record}
 use Rattle.ledger.specs.declared.Ledger.{Ledger}
 use Rattle.ledger.specs.declared.holding.Holding.{Holding}
-use Rattle.ledger.specs.declared.release.Released.{Released}
-use Rattle.ledger.specs.declared.confirming.Confirmed.{Confirmed}
-use Rattle.ledger.specs.declared.spare.Spare.{Spare}
 use Rattle.ledger.specs.Records.{mark_held, no_record, record_at, number_at, share, place_among}
 use Rattle.ledger.specs.Ledgers.{record_count, link_count, capacity_of, total_of}
 use Rattle.ledger.specs.Opening.{asked_for}
-use Rattle.ledger.specs.Holding.{rate_of, names_link, rate_on, record_of, refused_holding, accepted_holding, holding_of, records_held}
-use Rattle.ledger.specs.Release.{closed_up, refused_release, accepted_release, record_of_number, released_of, records_released}
-use Rattle.ledger.specs.Confirming.{refused_confirming, confirmed_of, confirmed_at, records_confirmed}
-use Rattle.ledger.specs.Spare.{refused_spare, spare_of}
-use Rattle.ledger.specs.Calls.{Call, hold, confirm, release, spare, Answer, refused_by}
+use Rattle.ledger.specs.Holding.{rate_of, names_link, rate_on, record_of, accepted_holding, holding_of, records_held}
+use Rattle.ledger.specs.Release.{closed_up, accepted_release, record_of_number, released_of, records_released}
+use Rattle.ledger.specs.Confirming.{confirmed_of, confirmed_at, records_confirmed}
+use Rattle.ledger.specs.Spare.{spare_of}
+use Rattle.ledger.specs.Calls.{Call, hold, confirm, release, spare, Grant, Answer, answer_by}
 use Rattle.ledger.specs.Account.{Account, Entry, reserved_on, stands_in, short_in, without, with_confirmed, call_cases, granted, account_answer, account_next, account_after}
-use Rattle.ledger.specs.Lists.{answered, called}
+use Rattle.ledger.specs.Lists.{ledger_by, of_holding, of_nothing, of_rate, answered, called}
 use Rattle.ledger.proofs.Entries.{records_of, length-records, append-record, confirm-record, confirm-count, confirm-reserved, confirm-sound, append-reserved, append-sound, remove-record, remove-count, remove-share, remove-reserved, remove-sound, place-below, stands-none}
 use Rattle.ledger.proofs.MarkingOne.{confirmed-there}
 use Rattle.ledger.proofs.Reserving.{list_of-same}
@@ -49,43 +45,28 @@ module _ (capacities : List ℕ) (entries : Account) (account : SoundAccount cap
   turned_down : {A : Type 0} (refused : Refusal → A) (result : A) (call : Call) (why : Refusal) → FirstIs (call_cases capacities entries call) why → first_of (book_cases capacities entries call) refused result ≡ refused why
   turned_down refused result call why first = cases_same capacities entries account refused result call ∙ first-answered refused result why (call_cases capacities entries call) first
 
-  -- what is answered
-  abbrev of-holding : Holding → Answer
-  of-holding a = record { verdict = a.verdict; rate = a.rate.0; delay = a.delay.0 }
-
-  abbrev of-confirming : Confirmed → Answer
-  of-confirming a = record { verdict = a.verdict; rate = 0; delay = 0 }
-
-  abbrev of-release : Released → Answer
-  of-release a = record { verdict = a.verdict; rate = 0; delay = 0 }
-
-  abbrev of-spare : Spare → Answer
-  of-spare a = record { verdict = a.verdict; rate = a.rate.0; delay = 0 }
+  -- what is answered: what the call returned grants it
+  answered-same : {A : Type 0} (grant : A → Grant) (result : A) (call : Call) → answer_by grant (first_of (book_cases capacities entries call) Err (Ok result)) ≡ first_of (call_cases capacities entries call) Err (Ok (grant result))
+  answered-same {A} grant result call =
+      first_of-map (λ (answer : Result A Refusal). answer_by grant answer) Err (Ok result) (book_cases capacities entries call) ∙ cases_same capacities entries account Err (Ok (grant result)) call
 
   spare-left : (link : ℕ) → in_range link_range link ≡ true → capacity_of ledger link - total_of ledger link ≡ asked_for capacities link - reserved_on link entries
   spare-left link inside = let less : link < link_count = omega (arith, le-largest link_range link inside) in ap₂ ◌-◌ (capacity-of capacities entries link less) (total-of capacities entries link less)
 
   pub answer-same : (call : Call) → answered (book_of capacities entries) call ≡ account_answer capacities entries call
-  unfolding answered account_answer granted holding_of refused_holding accepted_holding confirmed_of refused_confirming released_of refused_release accepted_release spare_of refused_spare
-  answer-same (hold number sheet) =
-      first_of-map of-holding (refused_holding ledger) (accepted_holding ledger (path_in sheet)) (book_cases capacities entries (hold number sheet))
-      ∙ cases_same capacities entries account (λ why. of-holding (refused_holding ledger why)) (of-holding (accepted_holding ledger (path_in sheet))) (hold number sheet)
-  answer-same (confirm number) =
-      first_of-map of-confirming refused_confirming (record { verdict = Verdict.Accepted }) (book_cases capacities entries (confirm number))
-      ∙ cases_same capacities entries account (λ why. of-confirming (refused_confirming why)) (of-confirming (record { verdict = Verdict.Accepted })) (confirm number)
-  answer-same (release number) =
-      first_of-map of-release (refused_release ledger) (accepted_release ledger (record_of_number ledger records number)) (book_cases capacities entries (release number))
-      ∙ cases_same capacities entries account (λ why. of-release (refused_release ledger why)) (of-release (accepted_release ledger (record_of_number ledger records number))) (release number)
+  unfolding answered account_answer granted holding_of accepted_holding confirmed_of released_of spare_of
+  answer-same (hold number sheet) = answered-same of_holding (accepted_holding ledger (path_in sheet)) (hold number sheet)
+  answer-same (confirm number) = answered-same of_nothing tt (confirm number)
+  answer-same (release number) = answered-same of_nothing (accepted_release ledger (record_of_number ledger records number)) (release number)
   answer-same (spare link) =
-      first_of-map of-spare refused_spare (record { verdict = Verdict.Accepted; rate = record { 0 = capacity_of ledger link - total_of ledger link } }) (book_cases capacities entries (spare link))
-      ∙ cases_same capacities entries account (λ why. of-spare (refused_spare why)) (left (capacity_of ledger link - total_of ledger link)) (spare link)
+      answered-same of_rate (record { 0 = capacity_of ledger link - total_of ledger link }) (spare link)
       ∙ by-range (in_range link_range link) (spare-left link)
     where
       left : ℕ → Answer
-      left rate = record { verdict = Verdict.Accepted; rate = rate; delay = 0 }
+      left rate = Ok (record { rate = rate; delay = 0 })
 
       by-range : (t : Bool) → (t ≡ true → capacity_of ledger link - total_of ledger link ≡ asked_for capacities link - reserved_on link entries)
-          → pick (not t) (refused_by (OutOfRange 0)) (left (capacity_of ledger link - total_of ledger link)) ≡ pick (not t) (refused_by (OutOfRange 0)) (left (asked_for capacities link - reserved_on link entries))
+          → pick (not t) (Err (OutOfRange 0)) (left (capacity_of ledger link - total_of ledger link)) ≡ pick (not t) (Err (OutOfRange 0)) (left (asked_for capacities link - reserved_on link entries))
       by-range true same = ap left (same refl)
       by-range false same = refl
 
@@ -105,10 +86,10 @@ module _ (capacities : List ℕ) (entries : Account) (account : SoundAccount cap
     abbrev next : Account
     next = entries ++ (held-entry number sheet ∷ [])
 
-    hold-ledger : (holding_of ledger records number sheet).ledger ≡ ledger_of capacities next
+    hold-ledger : ledger_by (λ (a : Holding). a.ledger) ledger (holding_of ledger records number sheet) ≡ ledger_of capacities next
     unfolding holding_of accepted_holding
     hold-ledger =
-        ap (λ (a : Holding). a.ledger) (taken (refused_holding ledger) (accepted_holding ledger (path_in sheet)) (hold number sheet) none)
+        ap (λ (answer : Result Holding Refusal). ledger_by (λ (a : Holding). a.ledger) ledger answer) (taken Err (Ok (accepted_holding ledger (path_in sheet))) (hold number sheet) none)
         ∙ ap₂ (λ (totals : List Rate) (n : ℕ). record { capacities = ledger.capacities; totals = totals; count = n }) (list_of-same _ _ link_count (λ link less. ap (λ (n : ℕ). record { 0 = n }) (more-reserved link less))) (sym one_more)
       where
         more-reserved : (link : ℕ) → link < link_count → total_of ledger link + rate_on link (path_in sheet) ≡ reserved_on link next
@@ -189,10 +170,10 @@ module _ (capacities : List ℕ) (entries : Account) (account : SoundAccount cap
     one_fewer : length entries - 1 ≡ length rest
     one_fewer = let one_less = remove-count entries number standing in omega arith
 
-    release-ledger : (released_of ledger records number).ledger ≡ ledger_of capacities rest
+    release-ledger : ledger_by (λ (l : Ledger). l) ledger (released_of ledger records number) ≡ ledger_of capacities rest
     unfolding released_of accepted_release
     release-ledger =
-        ap (λ (a : Released). a.ledger) (taken (refused_release ledger) (accepted_release ledger (record_of_number ledger records number)) (release number) none)
+        ap (λ (answer : Result Ledger Refusal). ledger_by (λ (l : Ledger). l) ledger answer) (taken Err (Ok (accepted_release ledger (record_of_number ledger records number))) (release number) none)
         ∙ ap₂ (λ (totals : List Rate) (n : ℕ). record { capacities = ledger.capacities; totals = totals; count = n }) (list_of-same _ _ link_count (λ link less. ap (λ (n : ℕ). record { 0 = n }) (less-reserved link less))) one_fewer
       where
         less-reserved : (link : ℕ) → link < link_count → total_of ledger link - share (record_at records place) link ≡ reserved_on link rest
@@ -236,17 +217,17 @@ module _ (capacities : List ℕ) (entries : Account) (account : SoundAccount cap
 
   -- and where it is refused
   refused-same : (call : Call) (why : Refusal) → FirstIs (call_cases capacities entries call) why → called (book_of capacities entries) call ≡ book_of capacities entries
-  unfolding called holding_of refused_holding records_held records_confirmed released_of refused_release records_released
+  unfolding called holding_of records_held records_confirmed released_of records_released
   refused-same (hold number sheet) why first =
       ap₂ (λ (l : Ledger) (r : List Record). record { ledger = l; records = r })
-      (ap (λ (a : Holding). a.ledger) (turned_down (refused_holding ledger) (accepted_holding ledger (path_in sheet)) (hold number sheet) why first))
+      (ap (λ (answer : Result Holding Refusal). ledger_by (λ (a : Holding). a.ledger) ledger answer) (turned_down Err (Ok (accepted_holding ledger (path_in sheet))) (hold number sheet) why first))
       (turned_down (λ why. records) (set records (length entries) (record_of number (path_in sheet) mark_held)) (hold number sheet) why first)
   refused-same (confirm number) why first =
       ap (λ (r : List Record). record { ledger = ledger; records = r })
       (turned_down (λ why. records) (confirmed_at records (place_among (number_at records) (length entries) number)) (confirm number) why first)
   refused-same (release number) why first =
       ap₂ (λ (l : Ledger) (r : List Record). record { ledger = l; records = r })
-      (ap (λ (a : Released). a.ledger) (turned_down (refused_release ledger) (accepted_release ledger (record_of_number ledger records number)) (release number) why first))
+      (ap (λ (answer : Result Ledger Refusal). ledger_by (λ (l : Ledger). l) ledger answer) (turned_down Err (Ok (accepted_release ledger (record_of_number ledger records number))) (release number) why first))
       (turned_down (λ why. records) (closed_up records (place_among (number_at records) (length entries) number) no_record) (release number) why first)
   refused-same (spare link) why first = refl
 

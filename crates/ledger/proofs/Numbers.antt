@@ -1,7 +1,6 @@
 -- Tests and lists that a loop goes through one by one; and a number among the first n with its first place there: below the place it is not met,
 -- and at a place below n it is. Functions that agree below n answer alike.
-use Rattle.std.proofs.Common.{◌≡◌, ℕ, zero, suc, ◌+◌, ◌-◌, ◌<◌, ◌≤◌, Bool, true, false, not, eqb, ltb, List, length, get_or, take, set, sym, refl, ap, ◌∙◌, not-suc-le-zero, le_antisymm, lt_of_not-le, add-one, arith, length-set, length-take-le, get_or-set_other, get_or-take, get_or-set_same, below_none, below_more, ltb-false, ltb-true, le-ltb, lt-ltb, eq-eqb, ne_eqb, eqb-true}
-use native.Mathlib.Nat.{sub-zero}
+use Rattle.std.proofs.Common.{◌≡◌, ℕ, zero, suc, ◌+◌, ◌<◌, ◌≤◌, Bool, true, false, not, ◌&&◌, ◌||◌, eqb, ltb, List, length, get_or, take, set, sym, refl, ap, ◌∙◌, not-suc-le-zero, le_antisymm, lt_of_not-le, add-one, arith, length-set, length-take-le, get_or-set_other, get_or-take, get_or-set_same, below_none, below_more, ltb-false, ltb-true, le-ltb, lt-ltb, eq-eqb, ne_eqb, eqb-true}
 use native.Mathlib.Decide.{dec_le, dec_lt}
 use borrow.Author.Tests.{eqb-false}
 use Rattle.quantity.specs.Choice.{pick, both, either}
@@ -43,12 +42,6 @@ module _ (numbers : ℕ → ℕ) (number : ℕ) where
       ≡ pick (ltb (place_among numbers n number) n) (place_among numbers n number) (pick (eqb (numbers n) number) n (suc n))
   unfolding place_among
   place-among-suc n = refl
-
-  -- the same at the code's n + 1
-  pub place-among-next : (n : ℕ) →
-      place_among numbers (n + 1) number
-      ≡ pick (ltb (place_among numbers n number) n) (place_among numbers n number) (pick (eqb (numbers n) number) n (n + 1))
-  place-among-next n = rw add-one (place-among-suc n)
 
   -- what a place below n, or n itself, shows
   pub record LinkedOperator (n at : ℕ) : Type 0 where
@@ -118,6 +111,15 @@ module _ (numbers : ℕ → ℕ) (number : ℕ) where
             le-ltb (place_among numbers n number) n last ∙ sym (not-among n (λ k less. before-place n k (omega arith)))
       ]
 
+-- tests as the code joins them, where both are asked
+pub and-both : (a b : Bool) → (a && b) ≡ both a b
+and-both true b = refl
+and-both false b = refl
+
+pub or-either : (a b : Bool) → (a || b) ≡ either a b
+or-either true b = refl
+or-either false b = refl
+
 pub not-both : (a b : Bool) → not (both a (not b)) ≡ either (not a) b
 not-both true true = refl
 not-both true false = refl
@@ -156,5 +158,5 @@ module _ (xs : List ℕ) (numbers : ℕ → ℕ) (n : ℕ) (fits : n ≤ length 
   front_at : (k : ℕ) → k < n → get_or (take n xs) k 0 ≡ numbers k
   front_at k less = get_or-take n xs k 0 less ∙ each k less
 
-  pub place-in-front : (number : ℕ) → place_among (λ k. get_or (take (n - 0) xs) k 0) (length (take (n - 0) xs)) number ≡ place_among numbers n number
-  place-in-front number = rw (sub-zero, length-take-le n xs fits) (place-among-same (λ k. get_or (take n xs) k 0) numbers n front_at number)
+  pub place-in-front : (number : ℕ) → place_among (λ k. get_or (take n xs) k 0) (length (take n xs)) number ≡ place_among numbers n number
+  place-in-front number = rw (length-take-le n xs fits) (place-among-same (λ k. get_or (take n xs) k 0) numbers n front_at number)

@@ -1,5 +1,5 @@
 -- Ledgers that no list of calls leads to, as one table that is computed from the definitions: which of them refusal 1 lets pass, what a release, a confirming and a spare rate answer then, a new ledger over records that hold something; and a holding with its rate.
-use Rattle.std.proofs.Common.{◌≡◌, ℕ, Bool, true, false, List, [], ◌∷◌, set, replicate, refl}
+use Rattle.std.proofs.Common.{◌≡◌, ℕ, Bool, true, false, List, [], ◌∷◌, set, replicate, Result, Ok, Err, refl}
 use Rattle.quantity.specs.Sums.{total, every, list_of}
 use Rattle.quantity.specs.Rounding.{round_up}
 use Rattle.quantity.specs.Divisors.{euclid, gcd}
@@ -17,17 +17,17 @@ use Rattle.figures.specs.Figures.{part_held, part_delay, held_figure, own_delay,
 use Rattle.figures.specs.Answers.{operator_at, before, paired_at, held_at, delay_at, path_delay, operators_cases}
 use Rattle.quantity.specs.Ranges.{in_range}
 use Rattle.quantity.specs.Refusals.{refusal_number, refusal_place}
-use Rattle.sheet.specs.declared.read.Verdict.{Verdict}
 use Rattle.quantity.specs.declared.Rate.{Rate}
+use Rattle.quantity.specs.declared.refusal.Refusal.{Refusal}
 use Rattle.ledger.specs.declared.Record.{Record}
 use Rattle.ledger.specs.declared.Ledger.{Ledger}
 use Rattle.ledger.specs.Records.{no_record, has_link, share, reserved, among, place_among, all_differ, stands}
 use Rattle.ledger.specs.Ledgers.{capacities_fit, record_in_range, record_clear, record_fits, link_fits, total_kept, ledger_unusable}
-use Rattle.ledger.specs.Opening.{new_ledger, refused_opening, opened_of, records_opened}
-use Rattle.ledger.specs.Holding.{rate_of, names_link, rate_on, bits_of, links_of, record_of, ledger_full, link_short, refused_holding, accepted_holding, holding_of, records_held}
-use Rattle.ledger.specs.Release.{closed_up, refused_release, accepted_release, released_of, records_released}
-use Rattle.ledger.specs.Confirming.{confirmed_already, refused_confirming, confirmed_of, confirmed_record, confirmed_at, records_confirmed}
-use Rattle.ledger.specs.Spare.{total_fits, links_unusable, refused_spare, spare_of}
+use Rattle.ledger.specs.Opening.{new_ledger, opened_of, records_opened}
+use Rattle.ledger.specs.Holding.{rate_of, names_link, rate_on, bits_of, links_of, record_of, ledger_full, link_short, accepted_holding, holding_of, records_held}
+use Rattle.ledger.specs.Release.{closed_up, accepted_release, released_of, records_released}
+use Rattle.ledger.specs.Confirming.{confirmed_already, confirmed_of, confirmed_record, confirmed_at, records_confirmed}
+use Rattle.ledger.specs.Spare.{total_fits, links_unusable, spare_of}
 
 -- a record with its mark, and that of a held path
 abbrev pub marked : ℕ → ℕ → ℕ → ℕ → Record
@@ -101,35 +101,35 @@ unfolding computed expected ledger_unusable capacities_fit record_fits record_in
 reference-ledgers = refl
 
 -- the number and the place of a refusal; 0 where there is none
-abbrev pub refusal : Verdict → List ℕ
-refusal Verdict.Accepted = []
-refusal (Verdict.Refused why) = refusal_number why ∷ refusal_place why ∷ []
+abbrev pub refusal : {A : Type 0} → Result A Refusal → List ℕ
+refusal (Ok result) = []
+refusal (Err why) = refusal_number why ∷ refusal_place why ∷ []
 
 -- what a release answers, of 17, of 18 and of 65,536
 pub released : Ledger → List Record → List (List ℕ)
-released ledger records = refusal (released_of ledger records 17).verdict ∷ refusal (released_of ledger records 18).verdict ∷ refusal (released_of ledger records 65_536).verdict ∷ []
+released ledger records = refusal (released_of ledger records 17) ∷ refusal (released_of ledger records 18) ∷ refusal (released_of ledger records 65_536) ∷ []
 
 -- a sound ledger, and one whose link 0 is filled beyond its capacity
 pub reference-answers : released (links-of 1000 2 kept) two ≡ ([] ∷ (10 ∷ 0 ∷ []) ∷ (1 ∷ 0 ∷ []) ∷ [])
-unfolding released released_of refused_release accepted_release stands ledger_unusable capacities_fit record_fits record_in_range record_clear link_fits total_kept reserved share has_link all_differ among in_range every total
+unfolding released released_of accepted_release stands ledger_unusable capacities_fit record_fits record_in_range record_clear link_fits total_kept reserved share has_link all_differ among in_range every total
 reference-answers = refl
 
 pub reference-damaged : released (links-of 6 2 kept) two ≡ ((1 ∷ 0 ∷ []) ∷ (1 ∷ 0 ∷ []) ∷ (1 ∷ 0 ∷ []) ∷ [])
-unfolding released released_of refused_release accepted_release stands ledger_unusable capacities_fit record_fits record_in_range record_clear link_fits total_kept reserved share has_link all_differ among in_range every total
+unfolding released released_of accepted_release stands ledger_unusable capacities_fit record_fits record_in_range record_clear link_fits total_kept reserved share has_link all_differ among in_range every total
 reference-damaged = refl
 
 -- what confirming answers, of 17, of 20, of 18 and of 65,536
 pub confirmed : Ledger → List Record → List (List ℕ)
 confirmed ledger records =
-    refusal (confirmed_of ledger records 17).verdict ∷ refusal (confirmed_of ledger records 20).verdict ∷ refusal (confirmed_of ledger records 18).verdict ∷ refusal (confirmed_of ledger records 65_536).verdict ∷ []
+    refusal (confirmed_of ledger records 17) ∷ refusal (confirmed_of ledger records 20) ∷ refusal (confirmed_of ledger records 18) ∷ refusal (confirmed_of ledger records 65_536) ∷ []
 
 -- 17 is held and 20 confirmed; and a ledger whose mark of 20 is 2
 pub reference-confirmings : confirmed (links-of 1000 2 kept) (set two 1 (marked 20 4 1 1)) ≡ ([] ∷ (16 ∷ 0 ∷ []) ∷ (10 ∷ 0 ∷ []) ∷ (1 ∷ 0 ∷ []) ∷ [])
-unfolding confirmed confirmed_of refused_confirming confirmed_already place_among stands ledger_unusable capacities_fit record_fits record_in_range record_clear link_fits total_kept reserved share has_link all_differ among in_range every total
+unfolding confirmed confirmed_of confirmed_already place_among stands ledger_unusable capacities_fit record_fits record_in_range record_clear link_fits total_kept reserved share has_link all_differ among in_range every total
 reference-confirmings = refl
 
 pub reference-mark-of-two : confirmed (links-of 1000 2 kept) (set two 1 (marked 20 4 1 2)) ≡ ((1 ∷ 0 ∷ []) ∷ (1 ∷ 0 ∷ []) ∷ (1 ∷ 0 ∷ []) ∷ (1 ∷ 0 ∷ []) ∷ [])
-unfolding confirmed confirmed_of refused_confirming confirmed_already place_among stands ledger_unusable capacities_fit record_fits record_in_range record_clear link_fits total_kept reserved share has_link all_differ among in_range every total
+unfolding confirmed confirmed_of confirmed_already place_among stands ledger_unusable capacities_fit record_fits record_in_range record_clear link_fits total_kept reserved share has_link all_differ among in_range every total
 reference-mark-of-two = refl
 
 -- the confirming of 17 sets its mark, and no other value
@@ -137,9 +137,13 @@ pub reference-confirmed : records_confirmed (links-of 1000 2 kept) two 17 ≡ (m
 unfolding records_confirmed confirmed_at confirmed_record confirmed_already place_among stands ledger_unusable capacities_fit record_fits record_in_range record_clear link_fits total_kept reserved share has_link all_differ among in_range every total list_of
 reference-confirmed = refl
 
--- what asking about a link answers: a rate, and a refusal where there is one
+-- what asking about a link answers: a rate, or a refusal
+abbrev pub rate_or : Result Rate Refusal → List ℕ
+rate_or (Ok rate) = rate.0 ∷ []
+rate_or (Err why) = refusal_number why ∷ refusal_place why ∷ []
+
 abbrev pub asked : Ledger → ℕ → List ℕ
-asked ledger link = (spare_of ledger link).rate.0 ∷ refusal (spare_of ledger link).verdict
+asked ledger link = rate_or (spare_of ledger link)
 
 -- link 3 has another capacity
 abbrev pub third_of : ℕ → Ledger
@@ -163,13 +167,13 @@ askings =
     ∷ asked (links-of 1000 65 kept) 0
     ∷ []
 
-pub reference-askings : askings ≡ ((993 ∷ []) ∷ (0 ∷ 5 ∷ 0 ∷ []) ∷ (993 ∷ []) ∷ (0 ∷ 1 ∷ 0 ∷ []) ∷ (4 ∷ []) ∷ (0 ∷ 1 ∷ 0 ∷ []) ∷ (0 ∷ 1 ∷ 0 ∷ []) ∷ (992 ∷ []) ∷ (993 ∷ []) ∷ [])
-unfolding askings spare_of refused_spare links_unusable total_fits capacities_fit in_range every
+pub reference-askings : askings ≡ ((993 ∷ []) ∷ (5 ∷ 0 ∷ []) ∷ (993 ∷ []) ∷ (1 ∷ 0 ∷ []) ∷ (4 ∷ []) ∷ (1 ∷ 0 ∷ []) ∷ (1 ∷ 0 ∷ []) ∷ (992 ∷ []) ∷ (993 ∷ []) ∷ [])
+unfolding askings spare_of links_unusable total_fits capacities_fit in_range every
 reference-askings = refl
 
 -- the release of 17 closes the gap and clears the last, and takes its 3 off links 0 and 2
-pub reference-released : released_of (links-of 1000 2 kept) two 17 ≡ record { verdict = Verdict.Accepted; ledger = links-of 1000 1 (totals-of 4 0 0) }
-unfolding released_of refused_release accepted_release place_among stands ledger_unusable capacities_fit record_fits record_in_range record_clear link_fits total_kept reserved share has_link all_differ among in_range every total list_of
+pub reference-released : released_of (links-of 1000 2 kept) two 17 ≡ Ok (links-of 1000 1 (totals-of 4 0 0))
+unfolding released_of accepted_release place_among stands ledger_unusable capacities_fit record_fits record_in_range record_clear link_fits total_kept reserved share has_link all_differ among in_range every total list_of
 reference-released = refl
 
 pub reference-release : records_released (links-of 1000 2 kept) two 17 ≡ (entry 20 4 1 ∷ replicate 63 no_record)
@@ -178,11 +182,11 @@ reference-release = refl
 
 -- a new ledger does not test what the records held; of another length they are left, and so they are where a capacity is out of range
 pub opened : List ℕ → List Record → List ℕ
-opened capacities records = refusal (opened_of capacities records).verdict
+opened capacities records = refusal (opened_of capacities records)
 
 pub reference-openings : (opened (replicate 16 1_000_000) (replicate 64 (entry 99_999 0 99_999)) ∷ opened (replicate 16 5) two ∷ opened (replicate 16 5) [] ∷ opened (replicate 16 1_000_001) two ∷ opened (replicate 16 1_000_001) [] ∷ [])
     ≡ ([] ∷ [] ∷ (1 ∷ 0 ∷ []) ∷ (5 ∷ 0 ∷ []) ∷ (1 ∷ 0 ∷ []) ∷ [])
-unfolding opened opened_of refused_opening new_ledger capacities_fit in_range every list_of
+unfolding opened opened_of new_ledger capacities_fit in_range every list_of
 reference-openings = refl
 
 pub reference-cleared : records_opened (replicate 16 5) (replicate 64 (entry 99_999 0 99_999)) ≡ replicate 64 no_record
@@ -194,10 +198,10 @@ abbrev pub sheet : List ℕ
 sheet = 1 ∷ 0 ∷ 7 ∷ 0 ∷ 0 ∷ 10 ∷ 0 ∷ 0 ∷ 0 ∷ 31 ∷ 2 ∷ 0 ∷ 4 ∷ 0 ∷ 0 ∷ 0 ∷ 30 ∷ 3 ∷ 0 ∷ 6 ∷ 1 ∷ 2 ∷ 0 ∷ 0 ∷ 0 ∷ 10 ∷ []
 
 pub reference-holding : holding_of (links-of 1000 0 (totals-of 0 0 0)) (replicate 64 no_record) 17 sheet
-    ≡ record { verdict = Verdict.Accepted; ledger = links-of 1000 1 (totals-of 0 0 4); rate = record { 0 = 4 }; delay = record { 0 = 10 } }
-unfolding round_up euclid gcd total every list_of in_range value_of_bytes part row_count row_at last_row row_in_range declaration_in_range rows_in_order cleared in_rows_form rows_given first_format declared_in declaration_cases wanted_at number_in_range declaration_in declaration_fits wanted_in wanted_fits operator_of operator_in operator_in_range operator_fits body_at field_missing header_cut_off field_unexpected body_cut_off body_out_of_range further_cases in_house_form sheet_cases operators_from fields_path value_in value_of_path stands_for in_full path_in carries burst_at most_delayed blocks_met class_of slower behind progress_at part_held part_delay held_figure own_delay pairs is_framed framed_after_filter changed_quota quota_behind figure_too_large rate_too_low operator_at before paired_at held_at delay_at path_delay operators_cases rate_of names_link rate_on bits_of links_of record_of ledger_full link_short accepted_holding refused_holding holding_of records_held stands ledger_unusable capacities_fit record_fits record_in_range record_clear link_fits total_kept reserved share has_link all_differ among
+    ≡ Ok (record { ledger = links-of 1000 1 (totals-of 0 0 4); rate = record { 0 = 4 }; delay = record { 0 = 10 } })
+unfolding round_up euclid gcd total every list_of in_range value_of_bytes part row_count row_at last_row row_in_range declaration_in_range rows_in_order cleared in_rows_form rows_given first_format declared_in declaration_cases wanted_at number_in_range declaration_in declaration_fits wanted_in wanted_fits operator_of operator_in operator_in_range operator_fits body_at field_missing header_cut_off field_unexpected body_cut_off body_out_of_range further_cases in_house_form sheet_cases operators_from fields_path value_in value_of_path stands_for in_full path_in carries burst_at most_delayed blocks_met class_of slower behind progress_at part_held part_delay held_figure own_delay pairs is_framed framed_after_filter changed_quota quota_behind figure_too_large rate_too_low operator_at before paired_at held_at delay_at path_delay operators_cases rate_of names_link rate_on bits_of links_of record_of ledger_full link_short accepted_holding holding_of records_held stands ledger_unusable capacities_fit record_fits record_in_range record_clear link_fits total_kept reserved share has_link all_differ among
 reference-holding = refl
 
 pub reference-held : records_held (links-of 1000 0 (totals-of 0 0 0)) (replicate 64 no_record) 17 sheet ≡ (entry 17 4 4 ∷ replicate 63 no_record)
-unfolding round_up euclid gcd total every list_of in_range value_of_bytes part row_count row_at last_row row_in_range declaration_in_range rows_in_order cleared in_rows_form rows_given first_format declared_in declaration_cases wanted_at number_in_range declaration_in declaration_fits wanted_in wanted_fits operator_of operator_in operator_in_range operator_fits body_at field_missing header_cut_off field_unexpected body_cut_off body_out_of_range further_cases in_house_form sheet_cases operators_from fields_path value_in value_of_path stands_for in_full path_in carries burst_at most_delayed blocks_met class_of slower behind progress_at part_held part_delay held_figure own_delay pairs is_framed framed_after_filter changed_quota quota_behind figure_too_large rate_too_low operator_at before paired_at held_at delay_at path_delay operators_cases rate_of names_link rate_on bits_of links_of record_of ledger_full link_short accepted_holding refused_holding holding_of records_held stands ledger_unusable capacities_fit record_fits record_in_range record_clear link_fits total_kept reserved share has_link all_differ among
+unfolding round_up euclid gcd total every list_of in_range value_of_bytes part row_count row_at last_row row_in_range declaration_in_range rows_in_order cleared in_rows_form rows_given first_format declared_in declaration_cases wanted_at number_in_range declaration_in declaration_fits wanted_in wanted_fits operator_of operator_in operator_in_range operator_fits body_at field_missing header_cut_off field_unexpected body_cut_off body_out_of_range further_cases in_house_form sheet_cases operators_from fields_path value_in value_of_path stands_for in_full path_in carries burst_at most_delayed blocks_met class_of slower behind progress_at part_held part_delay held_figure own_delay pairs is_framed framed_after_filter changed_quota quota_behind figure_too_large rate_too_low operator_at before paired_at held_at delay_at path_delay operators_cases rate_of names_link rate_on bits_of links_of record_of ledger_full link_short accepted_holding holding_of records_held stands ledger_unusable capacities_fit record_fits record_in_range record_clear link_fits total_kept reserved share has_link all_differ among
 reference-held = refl

@@ -1,16 +1,16 @@
 -- A record's share charged or discharged link by link, and the sums of shares: 64 rates of 65,535 stay far below where a sum of 32 bits wraps.
-use Rattle.std.proofs.Common.{◌≡◌, ℕ, zero, suc, ◌+◌, ◌*◌, ◌<◌, ◌≤◌, Bool, true, false, eqb, ltb, List, [], ◌∷◌, ◌++◌, length, set, refl, ◌∙◌, ap₂, mul-suc, arith, get_or-set_other, eqb-true}
+use Rattle.std.proofs.Common.{◌≡◌, ℕ, zero, suc, ◌*◌, ◌<◌, ◌≤◌, Bool, true, false, eqb, ltb, List, [], ◌∷◌, ◌++◌, refl, ap₂, mul-suc, arith, eqb-true}
 use Rattle.quantity.specs.Choice.{pick}
 use Rattle.quantity.specs.Sums.{total, every, list_of}
 use Rattle.quantity.specs.Ranges.{in_range, rate_range, path_number_range}
 use Rattle.quantity.specs.declared.Rate.{Rate}
 use Rattle.quantity.proofs.Laws.{le-largest}
-use Rattle.quantity.proofs.Sums.{total-zero, total-suc, total-next, both_true, every-at}
+use Rattle.quantity.proofs.Sums.{total-zero, total-suc, both_true, every-at}
 use Rattle.ledger.specs.declared.Record.{Record}
 use Rattle.ledger.specs.Records.{record_at, has_link, share, reserved}
 use Rattle.ledger.specs.Ledgers.{record_count, link_count, record_in_range, record_clear, record_fits}
 use Rattle.ledger.specs.Steps.{rate_at}
-use Rattle.ledger.proofs.Numbers.{Written, written-first, written_next, written_all}
+use Rattle.ledger.proofs.Numbers.{Written, written_all}
 
 abbrev none : Rate
 none = record { 0 = 0 }
@@ -28,19 +28,8 @@ module _ (change : Rate → Rate → Rate) (rates : List Rate) (r : Record) wher
     pub written : Written none changed_at link_count sums link
     pub given : (k : ℕ) → link ≤ k → rate_at sums k ≡ rate_at rates k
 
-  pub charging-first : length rates ≡ link_count → Charging rates 0
-  charging-first sized = record { written = written-first _ changed_at link_count sized; given = λ k from. refl }
-
-  module _ {sums : List Rate} {link : ℕ} (charging : Charging sums link) where
-    pub charging-next : link < link_count → {sum more : Rate} → sum ≡ change (rate_at sums link) more → more ≡ share_rate r link → Charging (set sums link sum) (link + 1)
-    charging-next less {sum} {more} added shared =
-        record {
-          written = written_next _ changed_at link_count charging.written less (added ∙ ap₂ change (charging.given link (omega arith)) shared);
-          given = λ k from. get_or-set_other sums link k sum none (λ same. omega arith) ∙ charging.given k (omega arith);
-        }
-
-    pub charging-all : link_count ≤ link → sums ≡ list_of changed_at link_count
-    charging-all all = written_all _ changed_at link_count charging.written all
+  pub charging-all : {sums : List Rate} {link : ℕ} → Charging sums link → link_count ≤ link → sums ≡ list_of changed_at link_count
+  charging-all charging all = written_all _ changed_at link_count charging.written all
 
 pub share-at-most : (r : Record) (link : ℕ) → share r link ≤ r.rate.0
 unfolding share
@@ -63,14 +52,6 @@ fit-rate-at-most r false fits =
 pub rate-at-most : (count : ℕ) (records : List Record) (j : ℕ) → record_fits count records j ≡ true → (record_at records j).rate.0 ≤ 65535
 unfolding record_fits
 rate-at-most count records j fits = fit-rate-at-most (record_at records j) (ltb j count) fits
-
-pub reserved-none : (records : List Record) (link : ℕ) → reserved records 0 link ≡ 0
-unfolding reserved
-reserved-none records link = total-zero (λ j. share (record_at records j) link)
-
-pub reserved-next : (records : List Record) (n link : ℕ) → reserved records (n + 1) link ≡ reserved records n link + share (record_at records n) link
-unfolding reserved
-reserved-next records n link = total-next (λ j. share (record_at records j) link) n
 
 -- a sum of n that are each at most m
 pub total_at_most : (f : ℕ → ℕ) (m n : ℕ) → ((k : ℕ) → k < n → f k ≤ m) → total f n ≤ m * n

@@ -1,20 +1,18 @@
 -- What each link leaves, and when the links can be used; and what a spare rate answers of that.
-use Rattle.std.proofs.Common.{◌≡◌, ℕ, ◌+◌, ◌-◌, ◌%◌, ◌^◌, ◌<◌, ◌≤◌, Bool, true, false, not, leb, List, set, replicate, sym, refl, ap, ◌∙◌, ap₂, zero-le, arith, le-leb, leb-false, leb-true}
+use Rattle.std.proofs.Common.{◌≡◌, ℕ, ◌+◌, ◌-◌, ◌%◌, ◌^◌, ◌<◌, ◌≤◌, Bool, true, false, not, leb, List, set, replicate, Option, Some, None, Result, Ok, Err, sym, refl, ap, ◌∙◌, ap₂, zero-le, arith, le-leb, leb-false, leb-true}
 use lib.ListN.{length-replicate}
-use borrow.Author.Tests.{lt-leb, not-false}
-use Rattle.quantity.specs.Choice.{both, either}
+use borrow.Author.Tests.{lt-leb, not-false, not-true}
+use Rattle.quantity.specs.Choice.{pick, both, either}
 use Rattle.quantity.specs.Ranges.{in_range, link_range, link_capacity_range}
-use Rattle.quantity.specs.Sums.{every}
+use Rattle.quantity.specs.Sums.{every, list_of}
 use Rattle.quantity.specs.declared.Rate.{Rate}
+use Rattle.quantity.specs.declared.refusal.Refusal.{Refusal}
 use Rattle.quantity.specs.declared.refusal.Refusal.TheVariants.{Unusable, OutOfRange}
-use Rattle.quantity.proofs.Laws.{pick_true, pick-false, le-largest, either-false}
+use Rattle.quantity.proofs.Laws.{pick_true, pick-false, option-told, le-largest, either-false}
 use Rattle.quantity.proofs.Sums.{every-next, every-at, get_d-list_of}
-use Rattle.sheet.specs.declared.read.Verdict.{Verdict}
 use Rattle.ledger.specs.declared.Ledger.{Ledger}
-use Rattle.ledger.specs.declared.spare.Spare.{Spare}
-use Rattle.ledger.specs.declared.spare.Spares.{Spares}
 use Rattle.ledger.specs.Ledgers.{link_count, capacity_of, total_of, capacities_fit}
-use Rattle.ledger.specs.Spare.{total_fits, links_unusable, refused_spare, spare_of}
+use Rattle.ledger.specs.Spare.{total_fits, links_unusable, spare_of}
 use Rattle.ledger.specs.Steps.{rate_at, left_of, spares_of}
 use Rattle.ledger.proofs.Numbers.{Written, written-first, written_next, written_all}
 
@@ -31,9 +29,9 @@ both-not-either true false = refl
 both-not-either false true = refl
 both-not-either false false = refl
 
-not-not : (a : Bool) → not (not a) ≡ a
-not-not true = refl
-not-not false = refl
+pick-not : {A : Type 0} (t : Bool) (a b : A) → pick (not t) a b ≡ pick t b a
+pick-not true a b = refl
+pick-not false a b = refl
 
 capacity-range : (value : ℕ) → in_range link_capacity_range value ≡ leb value 1_000_000
 unfolding in_range
@@ -64,10 +62,10 @@ module _ (capacity total : ℕ) where
   left-above above = pick-false _ _ _ (lt-leb total capacity above)
 
   -- the difference that wraps
-  pub left-wraps : {rate : ℕ} → rate < 2 ^ 32 → total < 2 ^ 32 → (rate + total) % 2 ^ 32 ≡ capacity → rate ≡ left_of capacity total
-  left-wraps {rate} rate-fits total-fits sum = by-test (leb total capacity) refl
+  pub left-wraps : capacity < 2 ^ 32 → total < 2 ^ 32 → (capacity + (2 ^ 32 - total)) % 2 ^ 32 ≡ left_of capacity total
+  left-wraps capacity-fits total-fits = by-test (leb total capacity) refl
     where
-      by-test : (t : Bool) → leb total capacity ≡ t → rate ≡ left_of capacity total
+      by-test : (t : Bool) → leb total capacity ≡ t → (capacity + (2 ^ 32 - total)) % 2 ^ 32 ≡ left_of capacity total
       by-test true e = omega (arith, left_below (leb-true total capacity e), leb-true total capacity e)
       by-test false e = omega (arith, left-above (leb-false total capacity e), leb-false total capacity e)
 
@@ -110,29 +108,37 @@ module _ (ledger : Ledger) where
         written = written_next (record { 0 = 0 }) left_at link_count spared.written less is-left;
       }
 
-  pub spared-all : {fit : Bool} {rates : List Rate} {link : ℕ} → Spared fit rates link → link_count ≤ link → record { fit = fit; rates = rates } ≡ spares_of ledger
+  pub spared-all : {fit : Bool} {rates : List Rate} {link : ℕ} → Spared fit rates link → link_count ≤ link → pick fit (Some rates) None ≡ spares_of ledger
   unfolding spares_of links_unusable capacities_fit
-  spared-all {link = link} spared all =
+  spared-all {fit} {rates} {link} spared all =
       let last : link ≡ link_count = omega (arith, spared.written.few) in
       let found = rw last at spared.tested in
       let fit_is = found ∙ both-not-either (every capacity_fits link_count) (every (total_fits ledger) link_count) in
-      let rates-are = written_all (record { 0 = 0 }) left_at link_count spared.written all in
-      λ i. record { fit = fit_is i; rates = rates-are i }
+      ap₂ (λ (fit : Bool) (rates : List Rate). pick fit (Some rates) None) fit_is (written_all (record { 0 = 0 }) left_at link_count spared.written all)
+      ∙ pick-not (either (not (every capacity_fits link_count)) (not (every (total_fits ledger) link_count))) (Some (list_of left_at link_count)) None
 
 -- What asking answers.
 
 module _ (ledger : Ledger) where
-  pub spares-refuse : {spares : Spares} → spares ≡ spares_of ledger → not spares.fit ≡ links_unusable ledger
-  unfolding spares_of
-  spares-refuse found = ap (λ (s : Spares). not s.fit) found ∙ not-not (links_unusable ledger)
+  -- what each link leaves, told where the links can be used
+  module _ {answer : Option (List Rate)} (is : answer ≡ spares_of ledger) where
+    pub spares-none : answer ≡ None → links_unusable ledger ≡ true
+    unfolding spares_of
+    spares-none none = not-false _ ((option-told (is ∙ sym (pick-not (links_unusable ledger) (Some (list_of (left_at ledger) link_count)) None))).outside none)
+
+    pub spares-some : {rates : List Rate} → answer ≡ Some rates → (links_unusable ledger ≡ false) × (rates ≡ list_of (left_at ledger) link_count)
+    unfolding spares_of
+    spares-some some =
+        let (usable, same) = (option-told (is ∙ sym (pick-not (links_unusable ledger) (Some (list_of (left_at ledger) link_count)) None))).within some in
+        (not-true _ usable, same)
 
   module _ (link : ℕ) where
-    pub spare-unusable : links_unusable ledger ≡ true → refused_spare Unusable ≡ spare_of ledger link
+    pub spare-unusable : links_unusable ledger ≡ true → Err Unusable ≡ spare_of ledger link
     unfolding spare_of
     spare-unusable unusable = sym (pick_true _ _ _ unusable)
 
     module _ (usable : links_unusable ledger ≡ false) where
-      pub spare-outside : in_range link_range link ≡ false → refused_spare (OutOfRange 0) ≡ spare_of ledger link
+      pub spare-outside : in_range link_range link ≡ false → Err (OutOfRange 0) ≡ spare_of ledger link
       unfolding spare_of
       spare-outside outside = sym (pick-false _ _ _ usable ∙ pick_true _ _ _ (ap not outside))
 
@@ -142,11 +148,10 @@ module _ (ledger : Ledger) where
           let (_, within) = either-false (not (capacities_fit (capacity_of ledger))) (not (every (total_fits ledger) link_count)) usable in
           leb-true (total_of ledger link) (capacity_of ledger link) (every-at (total_fits ledger) link_count (not-false _ within) link less)
 
-      pub spare-found : in_range link_range link ≡ true → {spares : Spares} → spares ≡ spares_of ledger
-          → record { verdict = Verdict.Accepted; rate = rate_at spares.rates link } ≡ spare_of ledger link
-      unfolding spare_of spares_of
+      pub spare-found : in_range link_range link ≡ true → {rates : List Rate} → rates ≡ list_of (left_at ledger) link_count → Ok (rate_at rates link) ≡ spare_of ledger link
+      unfolding spare_of
       spare-found inside found =
           let less : link < link_count = omega (arith, le-largest link_range link inside) in
           let left_is = left_below (capacity_of ledger link) (total_of ledger link) (total-below less) in
-          let rate-is = ap (λ (s : Spares). rate_at s.rates link) found ∙ get_d-list_of (record { 0 = 0 }) (left_at ledger) link_count link less ∙ ap {B = Rate} (λ (n : ℕ). record { 0 = n }) left_is in
-          ap {B = Spare} (λ (rate : Rate). record { verdict = Verdict.Accepted; rate = rate }) rate-is ∙ sym (pick-false _ _ _ usable ∙ pick-false _ _ _ (ap not inside))
+          let rate-is = ap (λ (rates : List Rate). rate_at rates link) found ∙ get_d-list_of (record { 0 = 0 }) (left_at ledger) link_count link less ∙ ap {B = Rate} (λ (n : ℕ). record { 0 = n }) left_is in
+          ap {B = Result Rate Refusal} (λ (rate : Rate). Ok rate) rate-is ∙ sym (pick-false _ _ _ usable ∙ pick-false _ _ _ (ap not inside))

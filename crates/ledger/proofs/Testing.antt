@@ -1,60 +1,80 @@
 -- What the test of a ledger shows: the records lent, the count, the capacities, each record, the numbers, each link and its total; and that a ledger of which these hold passes it.
-use Rattle.std.proofs.Common.{◌≡◌, ℕ, ◌+◌, ◌-◌, ◌%◌, ◌^◌, ◌<◌, ◌≤◌, Bool, true, false, eqb, ltb, leb, List, length, get_or, sym, ap, ◌∙◌, ap₂, mod-eq_of_lt, arith, le-ltb, lt-ltb, eqb-true}
+use Rattle.std.proofs.Common.{◌≡◌, ℕ, ◌+◌, ◌-◌, ◌%◌, ◌^◌, ◌<◌, ◌≤◌, Bool, true, false, eqb, ltb, leb, List, length, get_or, is_some, Option, Some, None, Result, Ok, Err, sym, refl, ap, ◌∙◌, ap₂, mod-eq_of_lt, arith, le-ltb, eqb-true}
 use native.Mathlib.Decide.{dec_lt}
 use lib.ListN.{get_or-eq_default}
 use Rattle.quantity.specs.Choice.{pick, both}
 use Rattle.quantity.specs.Sums.{total, every}
 use Rattle.quantity.specs.Ranges.{in_range, path_number_range, link_capacity_range}
+use Rattle.quantity.specs.declared.refusal.Refusal.{Refusal}
+use Rattle.quantity.specs.declared.refusal.Refusal.TheVariants.{Unusable}
 use Rattle.quantity.proofs.Laws.{pick_true, pick-false, le-largest}
 use Rattle.quantity.proofs.Sums.{total-same, total-rest, both_true, get_d-list_of, every-at, every_holds}
 use Rattle.ledger.specs.declared.Record.{Record}
 use Rattle.ledger.specs.declared.Ledger.{Ledger}
-use Rattle.ledger.specs.declared.test.Tested.{Tested}
-use Rattle.ledger.specs.Records.{no_record, record_at, number_at, mark_at, has_link, share, reserved, place_among, all_differ}
-use Rattle.ledger.specs.Ledgers.{record_count, link_count, capacity_of, total_of, capacities_fit, record_in_range, record_clear, record_fits, link_fits, total_kept}
-use Rattle.ledger.specs.Steps.{numbers_of, rates_of, link_bits_of, marks_of, Narrow, sum_on, link_holds, not_tested, found_at, tested_of}
-use Rattle.ledger.proofs.Numbers.{all-differ-same}
+use Rattle.ledger.specs.declared.test.Standing.{Standing}
+use Rattle.ledger.specs.Records.{no_record, record_at, number_at, mark_at, has_link, share, reserved, place_among, all_differ, stands}
+use Rattle.ledger.specs.Ledgers.{record_count, link_count, capacity_of, total_of, capacities_fit, record_in_range, record_clear, record_fits, link_fits, total_kept, ledger_unusable}
+use Rattle.ledger.specs.Steps.{numbers_of, rates_of, link_bits_of, marks_of, Narrow, sum_on, link_holds, found_at, tested_of}
+use Rattle.ledger.proofs.Numbers.{place-among, all-differ-same}
 use Rattle.ledger.proofs.Reserving.{share-at-most, reserved-at-most}
 use Rattle.ledger.proofs.UsableLedger.{UsableLedger, ledger-usable, ledger-unusable}
 
--- what `a && b` answers, where b is asked only if a holds
-module _ {answer : Bool} (a b : Bool) where
-  pub both-taken : a ≡ true → answer ≡ b → answer ≡ both a b
-  both-taken taken second = second ∙ sym (ap (λ (t : Bool). both t b) taken)
-
-  pub both_left : a ≡ false → answer ≡ false → answer ≡ both a b
-  both_left left first = first ∙ sym (ap (λ (t : Bool). both t b) left)
-
 module _ (ledger : Ledger) (records : List Record) (number : ℕ) where
   -- what the test answers
-  pub tested-not : (UsableLedger ledger records → ⊥) → not_tested ≡ tested_of ledger records number
+  pub tested-not : (UsableLedger ledger records → ⊥) → Err Unusable ≡ tested_of ledger records number
   unfolding tested_of
-  tested-not fails = sym (pick_true _ not_tested _ (ledger-unusable ledger records fails))
+  tested-not fails = sym (pick_true _ (Err Unusable) _ (ledger-unusable ledger records fails))
 
   -- there are not 64
-  pub tested-unsized : (length records ≡ record_count → ⊥) → not_tested ≡ tested_of ledger records number
+  pub tested-unsized : (length records ≡ record_count → ⊥) → Err Unusable ≡ tested_of ledger records number
   tested-unsized other = tested-not (λ usable. other usable.sized)
 
-  abbrev pub tested : Tested
-  tested = found_at records ledger.count (place_among (number_at records) ledger.count number)
+  abbrev place : ℕ
+  place = place_among (number_at records) ledger.count number
 
-  pub tested-usable : UsableLedger ledger records → tested ≡ tested_of ledger records number
+  abbrev pub tested : Option Standing
+  tested = found_at records ledger.count place
+
+  pub tested-usable : UsableLedger ledger records → Ok tested ≡ tested_of ledger records number
   unfolding tested_of
-  tested-usable passed = sym (pick-false _ not_tested tested (ledger-usable ledger records passed))
+  tested-usable passed = sym (pick-false _ (Err Unusable) (Ok tested) (ledger-usable ledger records passed))
 
-  -- the place that was found, with the clear record at the count and that of the place before it
-  module _ (passed : UsableLedger ledger records) {at : ℕ} (placed : at ≡ place_among (number_at records) ledger.count number) where
-    pub found_none : at ≡ ledger.count → {found : Record} → found ≡ no_record → record { usable = true; at = at; found = found } ≡ tested_of ledger records number
-    found_none last clear =
-        ap₂ {C = Tested} (λ (k : ℕ) (r : Record). record { usable = true; at = k; found = r }) placed
-        (clear ∙ sym (pick-false _ _ no_record (le-ltb _ ledger.count (omega (arith, placed, last)))))
-        ∙ tested-usable passed
+  -- the number does not stand, or it was found at a place with the record there
+  pub found_none : UsableLedger ledger records → ltb place ledger.count ≡ false → Ok None ≡ tested_of ledger records number
+  found_none passed past = ap {B = Result (Option Standing) Refusal} (λ (found : Option Standing). Ok found) (sym (pick-false _ (Some (record { at = place; found = record_at records place })) None past)) ∙ tested-usable passed
 
-    pub found-stands : at < ledger.count → {found : Record} → found ≡ record_at records at → record { usable = true; at = at; found = found } ≡ tested_of ledger records number
-    found-stands below is =
-        ap₂ {C = Tested} (λ (k : ℕ) (r : Record). record { usable = true; at = k; found = r }) placed
-        (is ∙ ap (record_at records) placed ∙ sym (pick_true _ _ no_record (lt-ltb _ ledger.count (omega (arith, placed, below)))))
-        ∙ tested-usable passed
+  pub found-stands : UsableLedger ledger records → ltb place ledger.count ≡ true → {at : ℕ} → at ≡ place → {found : Record} → found ≡ record_at records at
+      → Ok (Some (record { at = at; found = found })) ≡ tested_of ledger records number
+  found-stands passed below placed is =
+      ap₂ {C = Result (Option Standing) Refusal} (λ (k : ℕ) (r : Record). Ok (Some (record { at = k; found = r }))) placed (is ∙ ap (record_at records) placed)
+      ∙ ap {B = Result (Option Standing) Refusal} (λ (found : Option Standing). Ok found) (sym (pick_true _ (Some (record { at = place; found = record_at records place })) None below)) ∙ tested-usable passed
+
+  -- and what was answered tells
+  module _ {answer : Result (Option Standing) Refusal} (answered : answer ≡ tested_of ledger records number) where
+    pub tested-err : {why : Refusal} → answer ≡ Err why → (ledger_unusable ledger records ≡ true) × (why ≡ Unusable)
+    unfolding tested_of
+    tested-err {why} e = by-test (ledger_unusable ledger records) (sym e ∙ answered)
+      where
+        by-test : (t : Bool) → Err why ≡ pick t (Err Unusable) (Ok tested) → (t ≡ true) × (why ≡ Unusable)
+        by-test true e = (refl, (cc))
+        by-test false e = absurd (cc)
+
+    pub tested-ok : {found : Option Standing} → answer ≡ Ok found → (ledger_unusable ledger records ≡ false) × (found ≡ tested)
+    unfolding tested_of
+    tested-ok {found} e = by-test (ledger_unusable ledger records) (sym e ∙ answered)
+      where
+        by-test : (t : Bool) → Ok found ≡ pick t (Err Unusable) (Ok tested) → (t ≡ false) × (found ≡ tested)
+        by-test true e = absurd (cc)
+        by-test false e = (refl, (cc))
+
+  -- where it was found, it stands
+  pub found-some : is_some tested ≡ stands records ledger.count number
+  unfolding stands
+  found-some = some_if (ltb place ledger.count) ∙ place-among (number_at records) number ledger.count
+    where
+      some_if : (t : Bool) → is_some (pick {A = Option Standing} t (Some (record { at = place; found = record_at records place })) None) ≡ t
+      some_if true = refl
+      some_if false = refl
 
 -- the fields at a place are the record's
 pub fields_at : (records : List Record) (at : ℕ) → at < record_count

@@ -1,5 +1,5 @@
 -- The account of a ledger: kept from the capacities asked for and the arguments of the calls alone, without ledger or records.
-use Rattle.std.specs.Prelude.{ℕ, ◌+◌, ◌-◌, Bool, true, false, not, List, [], ◌∷◌, ◌++◌, length, ◌==◌, nat_eq, nat_lt}
+use Rattle.std.specs.Prelude.{ℕ, ◌+◌, ◌-◌, Bool, true, false, not, List, [], ◌∷◌, ◌++◌, length, ◌==◌, nat_eq, nat_lt, Ok, Err}
 use Rattle.quantity.specs.Choice.{pick, both, either}
 use Rattle.quantity.specs.Sums.{every}
 use Rattle.quantity.specs.Ranges.{in_range, link_range, path_number_range}
@@ -7,12 +7,11 @@ use Rattle.quantity.specs.Refusals.{Case, ◌⇒◌, first_of}
 use Rattle.quantity.specs.declared.refusal.Refusal.TheVariants.{Unusable, OutOfRange, PathNumberWrong, LedgerFull, LinkShort, ConfirmedAlready}
 use Rattle.sheet.specs.Paths.{Path}
 use Rattle.sheet.specs.Sheets.{path_in}
-use Rattle.sheet.specs.declared.read.Verdict.{Verdict}
 use Rattle.figures.specs.Answers.{figures_cases, path_delay}
 use Rattle.ledger.specs.Ledgers.{record_count, link_count}
 use Rattle.ledger.specs.Opening.{asked_for}
 use Rattle.ledger.specs.Holding.{rate_of, names_link, rate_on}
-use Rattle.ledger.specs.Calls.{Call, hold, confirm, release, spare, Answer, refused_by}
+use Rattle.ledger.specs.Calls.{Call, hold, confirm, release, spare, Grant, Answer}
 
 -- a path that was held, and whether it was confirmed since
 pub record Entry : Type 0 where
@@ -73,14 +72,14 @@ call_cases capacities entries (release number) = (not (in_range path_number_rang
 call_cases capacities entries (spare link) = (not (in_range link_range link) ⇒ OutOfRange 0) ∷ []
 
 -- what is answered where none of these stands
-unfoldable pub granted : List ℕ → Account → Call → Answer
-granted capacities entries (hold number sheet) = record { verdict = Verdict.Accepted; rate = rate_of (path_in sheet); delay = path_delay (path_in sheet) }
-granted capacities entries (confirm number) = record { verdict = Verdict.Accepted; rate = 0; delay = 0 }
-granted capacities entries (release number) = record { verdict = Verdict.Accepted; rate = 0; delay = 0 }
-granted capacities entries (spare link) = record { verdict = Verdict.Accepted; rate = asked_for capacities link - reserved_on link entries; delay = 0 }
+unfoldable pub granted : List ℕ → Account → Call → Grant
+granted capacities entries (hold number sheet) = record { rate = rate_of (path_in sheet); delay = path_delay (path_in sheet) }
+granted capacities entries (confirm number) = record { rate = 0; delay = 0 }
+granted capacities entries (release number) = record { rate = 0; delay = 0 }
+granted capacities entries (spare link) = record { rate = asked_for capacities link - reserved_on link entries; delay = 0 }
 
 unfoldable pub account_answer : List ℕ → Account → Call → Answer
-account_answer capacities entries call = first_of (call_cases capacities entries call) refused_by (granted capacities entries call)
+account_answer capacities entries call = first_of (call_cases capacities entries call) Err (Ok (granted capacities entries call))
 
 -- and which paths stand then
 unfoldable pub account_next : Account → Call → Account

@@ -1,8 +1,7 @@
 -- Demand 2: when a path is held, in any ledger and records.
-use Rattle.std.specs.Prelude.{◌≡◌, ℕ, ◌+◌, ◌<◌, ◌≤◌, false, List, length, ◌≢◌}
+use Rattle.std.specs.Prelude.{◌≡◌, ℕ, ◌+◌, ◌<◌, ◌≤◌, false, List, length, ◌≢◌, IsOk}
 use Rattle.sheet.specs.Paths.{Path, link_at}
 use Rattle.sheet.specs.Sheets.{path_in}
-use Rattle.sheet.specs.declared.read.Verdict.{Verdict}
 use Rattle.figures.specs.Answers.{figures_of}
 use Rattle.ledger.specs.declared.Record.{Record}
 use Rattle.ledger.specs.declared.Ledger.{Ledger}
@@ -22,7 +21,7 @@ module _ (ledger : Ledger) (records : List Record) (number : ℕ) (sheet : List 
     -- among which is that each link's stored total is the sum over the records that stand
     pub summed : (link : ℕ) → link < link_count → total_of ledger link ≡ reserved records ledger.count link
     -- 2 to 9: the sheet has figures
-    pub planned : (figures_of sheet).verdict ≡ Verdict.Accepted
+    pub planned : IsOk (figures_of sheet)
     -- 10: no path of this number stands
     pub new : (j : ℕ) → j < ledger.count → number_at records j ≢ number
     -- 11: fewer than sixty-four paths stand

@@ -1,8 +1,7 @@
 -- A call of a ledger, of any numbers and any sheet, and its answer.
-use Rattle.std.specs.Prelude.{ℕ, Bool, false, not, List}
+use Rattle.std.specs.Prelude.{ℕ, Bool, false, not, List, Result, Ok, Err}
 use Rattle.quantity.specs.Ranges.{in_range, path_number_range}
 use Rattle.quantity.specs.declared.refusal.Refusal.{Refusal}
-use Rattle.sheet.specs.declared.read.Verdict.{Verdict}
 
 pub data Call : Type 0 where
   -- hold a sheet's path under a number
@@ -22,10 +21,14 @@ number_wrong (release number) = not (in_range path_number_range number)
 number_wrong (spare link) = false
 
 -- the rate that a held path reserves or that a link has to spare, and a held path's delay; else 0
-pub record Answer : Type 0 where
-  pub verdict : Verdict
+pub record Grant : Type 0 where
   pub rate : ℕ
   pub delay : ℕ
 
-abbrev pub refused_by : Refusal → Answer
-refused_by why = record { verdict = Verdict.Refused why; rate = 0; delay = 0 }
+abbrev pub Answer : Type 0
+Answer = Result Grant Refusal
+
+-- the answer of a call that returned this
+abbrev pub answer_by : {A : Type 0} → (A → Grant) → Result A Refusal → Answer
+answer_by grant (Ok result) = Ok (grant result)
+answer_by grant (Err why) = Err why

@@ -1,15 +1,13 @@
 -- Confirming (document 02, item 8): 1 as at a release, 10 and 16; the path's mark becomes 1, and nothing else changes.
-use Rattle.std.specs.Prelude.{ℕ, Bool, not, List, [], ◌∷◌, ◌==◌}
+use Rattle.std.specs.Prelude.{ℕ, Bool, not, List, [], ◌∷◌, ◌==◌, Result, Ok, Err}
 use Rattle.quantity.specs.Choice.{pick}
 use Rattle.quantity.specs.Sums.{list_of}
 use Rattle.quantity.specs.Ranges.{in_range, path_number_range}
 use Rattle.quantity.specs.Refusals.{Case, ◌⇒◌, first_of}
 use Rattle.quantity.specs.declared.refusal.Refusal.{Refusal}
 use Rattle.quantity.specs.declared.refusal.Refusal.TheVariants.{Unusable, PathNumberWrong, ConfirmedAlready}
-use Rattle.sheet.specs.declared.read.Verdict.{Verdict}
 use Rattle.ledger.specs.declared.Record.{Record}
 use Rattle.ledger.specs.declared.Ledger.{Ledger}
-use Rattle.ledger.specs.declared.confirming.Confirmed.{Confirmed}
 use Rattle.ledger.specs.Records.{mark_confirmed, record_at, number_at, stands, place_among}
 use Rattle.ledger.specs.Ledgers.{record_count, ledger_unusable}
 use Rattle.ledger.specs.Release.{record_of_number}
@@ -26,12 +24,9 @@ confirm_cases ledger records number =
     ∷ (confirmed_already ledger records number ⇒ ConfirmedAlready)
     ∷ []
 
-unfoldable pub refused_confirming : Refusal → Confirmed
-refused_confirming why = record { verdict = Verdict.Refused why }
-
 -- what confirming answers; the ledger is as it was, accepted or not
-unfoldable pub confirmed_of : Ledger → List Record → ℕ → Confirmed
-confirmed_of ledger records number = first_of (confirm_cases ledger records number) refused_confirming (record { verdict = Verdict.Accepted })
+unfoldable pub confirmed_of : Ledger → List Record → ℕ → Result (Unit {0}) Refusal
+confirmed_of ledger records number = first_of (confirm_cases ledger records number) Err (Ok tt)
 
 -- a record once its path is confirmed
 unfoldable pub confirmed_record : Record → Record

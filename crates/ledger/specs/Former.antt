@@ -1,5 +1,5 @@
 -- Serves one theorem, and no promise cites it: the call that holding and confirming stand in for (sections 6 and 7), over records that have a mark.
-use Rattle.std.specs.Prelude.{ℕ, ◌+◌, not, List, [], ◌∷◌, ◌++◌, slice_set}
+use Rattle.std.specs.Prelude.{ℕ, ◌+◌, not, List, [], ◌∷◌, ◌++◌, slice_set, Result, Ok, Err}
 use Rattle.quantity.specs.Sums.{list_of}
 use Rattle.quantity.specs.Ranges.{in_range, path_number_range}
 use Rattle.quantity.specs.Refusals.{Case, ◌⇒◌, first_of}
@@ -7,7 +7,6 @@ use Rattle.quantity.specs.declared.refusal.Refusal.{Refusal}
 use Rattle.quantity.specs.declared.refusal.Refusal.TheVariants.{Unusable, PathNumberWrong, LedgerFull, LinkShort}
 use Rattle.sheet.specs.Paths.{Path}
 use Rattle.sheet.specs.Sheets.{path_in}
-use Rattle.sheet.specs.declared.read.Verdict.{Verdict}
 use Rattle.figures.specs.Answers.{figures_cases, path_delay}
 use Rattle.ledger.specs.declared.Record.{Record}
 use Rattle.ledger.specs.declared.Ledger.{Ledger}
@@ -16,12 +15,12 @@ use Rattle.ledger.specs.Records.{mark_confirmed, stands}
 use Rattle.ledger.specs.Ledgers.{link_count, total_of, ledger_unusable}
 use Rattle.ledger.specs.Holding.{rate_of, rate_on, links_of, ledger_full, link_short, holding_of, records_held}
 use Rattle.ledger.specs.Confirming.{confirmed_of, records_confirmed}
+use Rattle.ledger.specs.Calls.{Answer, answer_by}
+use Rattle.ledger.specs.Lists.{of_holding}
 
 -- what is answered, and what is left
 pub record Outcome : Type 0 where
-  pub verdict : Verdict
-  pub rate : ℕ
-  pub delay : ℕ
+  pub answer : Answer
   pub ledger : Ledger
   pub records : List Record
 
@@ -39,7 +38,7 @@ admission_cases ledger records number sheet =
 
 -- refused, all is as it was
 unfoldable pub refused_admission : Ledger → List Record → Refusal → Outcome
-refused_admission ledger records why = record { verdict = Verdict.Refused why; rate = 0; delay = 0; ledger = ledger; records = records }
+refused_admission ledger records why = record { answer = Err why; ledger = ledger; records = records }
 
 -- the record had no mark: it is that of a path that needs no confirming
 unfoldable pub admitted_record : ℕ → Path → Record
@@ -48,9 +47,7 @@ admitted_record number path = record { number = record { 0 = number }; rate = re
 unfoldable pub accepted_admission : Ledger → List Record → ℕ → Path → Outcome
 accepted_admission ledger records number path =
     record {
-      verdict = Verdict.Accepted;
-      rate = rate_of path;
-      delay = path_delay path;
+      answer = Ok (record { rate = rate_of path; delay = path_delay path });
       ledger = record { capacities = ledger.capacities; totals = list_of (λ link. record { 0 = total_of ledger link + rate_on link path }) link_count; count = ledger.count + 1 };
       records = slice_set records ledger.count (admitted_record number path);
     }
@@ -62,19 +59,14 @@ admission_of ledger records number sheet =
 -- Holding and, if that is accepted, confirming at once.
 
 -- refused, it ends there; accepted, confirming answers and leaves the rest
-unfoldable pub then_confirmed : Holding → List Record → ℕ → Outcome
-then_confirmed holding held number =
-    by_verdict holding.verdict (record {
-      verdict = (confirmed_of holding.ledger held number).verdict;
-      rate = holding.rate.0;
-      delay = holding.delay.0;
+unfoldable pub then_confirmed : Ledger → Result Holding Refusal → List Record → ℕ → Outcome
+then_confirmed ledger (Ok holding) held number =
+    record {
+      answer = answer_by (λ done. of_holding holding) (confirmed_of holding.ledger held number);
       ledger = holding.ledger;
       records = records_confirmed holding.ledger held number;
-    })
-  where
-    by_verdict : Verdict → Outcome → Outcome
-    by_verdict Verdict.Accepted confirmed = confirmed
-    by_verdict (Verdict.Refused why) confirmed = record { verdict = Verdict.Refused why; rate = holding.rate.0; delay = holding.delay.0; ledger = holding.ledger; records = held }
+    }
+then_confirmed ledger (Err why) held number = record { answer = Err why; ledger = ledger; records = held }
 
 unfoldable pub held_and_confirmed : Ledger → List Record → ℕ → List ℕ → Outcome
-held_and_confirmed ledger records number sheet = then_confirmed (holding_of ledger records number sheet) (records_held ledger records number sheet) number
+held_and_confirmed ledger records number sheet = then_confirmed ledger (holding_of ledger records number sheet) (records_held ledger records number sheet) number

@@ -1,5 +1,5 @@
 -- Holding (sections 6 and 7; document 02, item 8): 1, then 2 to 9 of the sheet, then 10, 11 and 12, each by its condition. The path reserves, and its mark is 0.
-use Rattle.std.specs.Prelude.{ℕ, ◌+◌, ◌^◌, Bool, not, List, [], ◌∷◌, ◌++◌, length, ◌==◌, nat_lt, slice_set}
+use Rattle.std.specs.Prelude.{ℕ, ◌+◌, ◌^◌, Bool, not, List, [], ◌∷◌, ◌++◌, length, ◌==◌, nat_lt, slice_set, Result, Ok, Err}
 use Rattle.quantity.specs.Choice.{pick, both}
 use Rattle.quantity.specs.Sums.{total, every, list_of}
 use Rattle.quantity.specs.Rounding.{round_up}
@@ -10,7 +10,6 @@ use Rattle.quantity.specs.declared.refusal.Refusal.TheVariants.{Unusable, PathNu
 use Rattle.sheet.specs.Paths.{Path, link_at}
 use Rattle.flow.specs.Declarations.{last_row}
 use Rattle.sheet.specs.Sheets.{path_in}
-use Rattle.sheet.specs.declared.read.Verdict.{Verdict}
 use Rattle.figures.specs.Answers.{figures_cases, path_delay}
 use Rattle.ledger.specs.declared.Record.{Record}
 use Rattle.ledger.specs.declared.Ledger.{Ledger}
@@ -62,22 +61,18 @@ holding_cases ledger records number sheet =
     ∷ (ledger_unusable ledger records ⇒ Unusable)
     ∷ figures_cases sheet ++ standing_cases ledger records number (path_in sheet)
 
-unfoldable pub refused_holding : Ledger → Refusal → Holding
-refused_holding ledger why = record { verdict = Verdict.Refused why; ledger = ledger; rate = record { 0 = 0 }; delay = record { 0 = 0 } }
-
 -- one more path is there, and its rate is added on each link that it names
 unfoldable pub accepted_holding : Ledger → Path → Holding
 accepted_holding ledger path =
     record {
-      verdict = Verdict.Accepted;
       ledger = record { capacities = ledger.capacities; totals = list_of (λ link. record { 0 = total_of ledger link + rate_on link path }) link_count; count = ledger.count + 1 };
       rate = record { 0 = rate_of path };
       delay = record { 0 = path_delay path };
     }
 
--- what holding answers; refused, the ledger is as it was
-unfoldable pub holding_of : Ledger → List Record → ℕ → List ℕ → Holding
-holding_of ledger records number sheet = first_of (holding_cases ledger records number sheet) (refused_holding ledger) (accepted_holding ledger (path_in sheet))
+-- what holding answers
+unfoldable pub holding_of : Ledger → List Record → ℕ → List ℕ → Result Holding Refusal
+holding_of ledger records number sheet = first_of (holding_cases ledger records number sheet) Err (Ok (accepted_holding ledger (path_in sheet)))
 
 -- and the records then: its own is behind the others; refused, they are as they were
 unfoldable pub records_held : Ledger → List Record → ℕ → List ℕ → List Record

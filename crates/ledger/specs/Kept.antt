@@ -1,15 +1,14 @@
 -- What is promised of a ledger after every list of calls from a new one.
-use Rattle.std.specs.Prelude.{◌≡◌, ℕ, ◌-◌, ◌<◌, ◌≤◌, Bool, true, false, List, [], ◌++◌, map, length, replicate, ◌≢◌}
+use Rattle.std.specs.Prelude.{◌≡◌, ℕ, ◌-◌, ◌<◌, ◌≤◌, Bool, true, false, List, [], ◌++◌, map, length, replicate, ◌≢◌, Ok, Err}
 use Rattle.quantity.specs.Choice.{pick}
 use Rattle.quantity.specs.declared.refusal.Refusal.TheVariants.{Unusable, LedgerFull}
-use Rattle.sheet.specs.declared.read.Verdict.{Verdict}
 use Rattle.ledger.specs.declared.Record.{Record}
 use Rattle.ledger.specs.Records.{mark_held, mark_confirmed, no_record, number_at, reserved}
 use Rattle.ledger.specs.Ledgers.{record_count, link_count, total_of, ledger_unusable}
 use Rattle.ledger.specs.Opening.{asked_for}
 use Rattle.ledger.specs.Holding.{record_of}
 use Rattle.ledger.specs.Release.{record_of_number}
-use Rattle.ledger.specs.Calls.{Call, hold, release, number_wrong}
+use Rattle.ledger.specs.Calls.{Call, hold, release, number_wrong, Grant}
 use Rattle.ledger.specs.Account.{Account, Entry, reserved_on, stands_in, confirmed_in, account_answer}
 use Rattle.ledger.specs.Lists.{Book, opened, answered, called, called_all, account_all}
 
@@ -44,7 +43,7 @@ module _ (capacities : List ℕ) (lent : List Record) (calls : List Call) where
     -- what the calls left is never refused by 1
     pub usable : ledger_unusable book.ledger book.records ≡ false
     -- so that an answer 1 comes from a path number out of its range alone
-    pub unusable_only : (call : Call) → (answered book call).verdict ≡ Verdict.Refused Unusable → number_wrong call ≡ true
+    pub unusable_only : (call : Call) → answered book call ≡ Err Unusable → number_wrong call ≡ true
     -- no number stands twice
     pub once : (i j : ℕ) → i < j → j < standing → number_at book.records i ≢ number_at book.records j
     -- the records are those of the account's paths, in the order in which they were held; all behind them are clear
@@ -53,5 +52,5 @@ module _ (capacities : List ℕ) (lent : List Record) (calls : List Call) where
     -- the mark of each is the account's: 1 if the path is confirmed, 0 while it is held
     pub marks : (number : ℕ) → stands_in number entries ≡ true → (record_of_number book.ledger book.records number).mark ≡ mark_of (confirmed_in number entries)
     -- a freed record serves again: after a release a path is not refused by 11
-    pub freed : (number : ℕ) → (answered book (release number)).verdict ≡ Verdict.Accepted
-        → (next : ℕ) (sheet : List ℕ) → (answered (called book (release number)) (hold next sheet)).verdict ≢ Verdict.Refused LedgerFull
+    pub freed : (number : ℕ) (grant : Grant) → answered book (release number) ≡ Ok grant
+        → (next : ℕ) (sheet : List ℕ) → answered (called book (release number)) (hold next sheet) ≢ Err LedgerFull

@@ -1,13 +1,11 @@
 -- A new ledger (sections 6 and 7): 1 and 5; it clears all 64 records and does not test what they held.
-use Rattle.std.specs.Prelude.{ℕ, not, List, [], ◌∷◌, length, replicate, ◌==◌, slice_index}
+use Rattle.std.specs.Prelude.{ℕ, not, List, [], ◌∷◌, length, replicate, ◌==◌, slice_index, Result, Ok, Err}
 use Rattle.quantity.specs.Sums.{list_of}
 use Rattle.quantity.specs.Refusals.{Case, ◌⇒◌, first_of}
 use Rattle.quantity.specs.declared.refusal.Refusal.{Refusal}
 use Rattle.quantity.specs.declared.refusal.Refusal.TheVariants.{Unusable, OutOfRange}
-use Rattle.sheet.specs.declared.read.Verdict.{Verdict}
 use Rattle.ledger.specs.declared.Record.{Record}
 use Rattle.ledger.specs.declared.Ledger.{Ledger}
-use Rattle.ledger.specs.declared.opening.Opened.{Opened}
 use Rattle.ledger.specs.Records.{no_record}
 use Rattle.ledger.specs.Ledgers.{record_count, link_count, capacities_fit}
 
@@ -25,17 +23,13 @@ open_cases capacities records =
 unfoldable pub new_ledger : List ℕ → Ledger
 new_ledger capacities = record { capacities = list_of (λ link. record { 0 = asked_for capacities link }) link_count; totals = replicate link_count (record { 0 = 0 }); count = 0 }
 
--- the ledger that is handed back beside a refusal
+-- the ledger of links without capacity
 abbrev pub no_ledger : Ledger
 no_ledger = record { capacities = replicate link_count (record { 0 = 0 }); totals = replicate link_count (record { 0 = 0 }); count = 0 }
 
-unfoldable pub refused_opening : Refusal → Opened
-refused_opening why = record { verdict = Verdict.Refused why; ledger = no_ledger }
-
 -- what a new ledger is answered by
-unfoldable pub opened_of : List ℕ → List Record → Opened
-unfolding refused_opening
-opened_of capacities records = first_of (open_cases capacities records) refused_opening (record { verdict = Verdict.Accepted; ledger = new_ledger capacities })
+unfoldable pub opened_of : List ℕ → List Record → Result Ledger Refusal
+opened_of capacities records = first_of (open_cases capacities records) Err (Ok (new_ledger capacities))
 
 -- and the records then; refused, it leaves them
 unfoldable pub records_opened : List ℕ → List Record → List Record

@@ -1,7 +1,8 @@
 -- Section 6, and document 02, item 8: a path's record, and what the records that stand reserve on a link.
 use Rattle.std.specs.Prelude.{ℕ, zero, suc, ◌/◌, ◌%◌, ◌^◌, Bool, not, List, ◌==◌, nat_lt, slice_index_or}
-use Rattle.quantity.specs.Choice.{pick}
+use Rattle.quantity.specs.Choice.{pick, both}
 use Rattle.quantity.specs.Sums.{total, every}
+use Rattle.quantity.specs.Ranges.{in_range, link_range}
 use Rattle.ledger.specs.declared.Record.{Record}
 
 -- a record's last field, its mark: 0 while the path is held, 1 once it is confirmed
@@ -27,6 +28,10 @@ mark_at records j = (record_at records j).mark
 -- bit i stands for link i
 unfoldable pub has_link : ℕ → ℕ → Bool
 has_link links link = links / 2 ^ link % 2 == 1
+
+-- a record's path is on a link: one in its range, whose bit is set
+unfoldable pub is_on : Record → ℕ → Bool
+is_on r link = both (in_range link_range link) (has_link r.links link)
 
 -- what a record reserves on a link
 unfoldable pub share : Record → ℕ → ℕ

@@ -1,15 +1,13 @@
 -- Release (sections 6 and 7): 1 and 10; the gap is closed, the order kept and the last record cleared.
-use Rattle.std.specs.Prelude.{ℕ, ◌+◌, ◌-◌, not, List, [], ◌∷◌, ◌++◌, take, drop, nat_lt}
+use Rattle.std.specs.Prelude.{ℕ, ◌+◌, ◌-◌, not, List, [], ◌∷◌, ◌++◌, take, drop, nat_lt, Result, Ok, Err}
 use Rattle.quantity.specs.Choice.{pick}
 use Rattle.quantity.specs.Sums.{list_of}
 use Rattle.quantity.specs.Ranges.{in_range, path_number_range}
 use Rattle.quantity.specs.Refusals.{Case, ◌⇒◌, first_of}
 use Rattle.quantity.specs.declared.refusal.Refusal.{Refusal}
 use Rattle.quantity.specs.declared.refusal.Refusal.TheVariants.{Unusable, PathNumberWrong}
-use Rattle.sheet.specs.declared.read.Verdict.{Verdict}
 use Rattle.ledger.specs.declared.Record.{Record}
 use Rattle.ledger.specs.declared.Ledger.{Ledger}
-use Rattle.ledger.specs.declared.release.Released.{Released}
 use Rattle.ledger.specs.Records.{no_record, record_at, number_at, share, stands, place_among}
 use Rattle.ledger.specs.Ledgers.{record_count, link_count, total_of, ledger_unusable}
 
@@ -24,25 +22,17 @@ release_cases ledger records number =
 unfoldable pub closed_up : List Record → ℕ → Record → List Record
 closed_up records at last = pick (nat_lt at record_count) (take at records ++ (drop (at + 1) records ++ (last ∷ []))) records
 
--- refused, the ledger is as it was
-unfoldable pub refused_release : Ledger → Refusal → Released
-refused_release ledger why = record { verdict = Verdict.Refused why; ledger = ledger }
-
 -- one path fewer stands, and its record's share is taken off each link
-unfoldable pub accepted_release : Ledger → Record → Released
-accepted_release ledger gone =
-    record {
-      verdict = Verdict.Accepted;
-      ledger = record { capacities = ledger.capacities; totals = list_of (λ link. record { 0 = total_of ledger link - share gone link }) link_count; count = ledger.count - 1 };
-    }
+unfoldable pub accepted_release : Ledger → Record → Ledger
+accepted_release ledger gone = record { capacities = ledger.capacities; totals = list_of (λ link. record { 0 = total_of ledger link - share gone link }) link_count; count = ledger.count - 1 }
 
 -- the record of a number that stands
 abbrev pub record_of_number : Ledger → List Record → ℕ → Record
 record_of_number ledger records number = record_at records (place_among (number_at records) ledger.count number)
 
 -- what a release answers
-unfoldable pub released_of : Ledger → List Record → ℕ → Released
-released_of ledger records number = first_of (release_cases ledger records number) (refused_release ledger) (accepted_release ledger (record_of_number ledger records number))
+unfoldable pub released_of : Ledger → List Record → ℕ → Result Ledger Refusal
+released_of ledger records number = first_of (release_cases ledger records number) Err (Ok (accepted_release ledger (record_of_number ledger records number)))
 
 -- and the records then: all behind the standing ones are clear, so the last that stood is; refused, they are as they were
 unfoldable pub records_released : Ledger → List Record → ℕ → List Record

@@ -1,14 +1,13 @@
 -- A link's spare rate (section 7, and document 02, item 5): 1 and 5. It is asked of the ledger alone; no record is lent.
-use Rattle.std.specs.Prelude.{ℕ, ◌-◌, Bool, not, List, [], ◌∷◌, nat_le}
+use Rattle.std.specs.Prelude.{ℕ, ◌-◌, Bool, not, List, [], ◌∷◌, nat_le, Result, Ok, Err}
 use Rattle.quantity.specs.Choice.{either}
 use Rattle.quantity.specs.Sums.{every}
 use Rattle.quantity.specs.Ranges.{in_range, link_range}
 use Rattle.quantity.specs.Refusals.{Case, ◌⇒◌, first_of}
+use Rattle.quantity.specs.declared.Rate.{Rate}
 use Rattle.quantity.specs.declared.refusal.Refusal.{Refusal}
 use Rattle.quantity.specs.declared.refusal.Refusal.TheVariants.{Unusable, OutOfRange}
-use Rattle.sheet.specs.declared.read.Verdict.{Verdict}
 use Rattle.ledger.specs.declared.Ledger.{Ledger}
-use Rattle.ledger.specs.declared.spare.Spare.{Spare}
 use Rattle.ledger.specs.Ledgers.{link_count, capacity_of, total_of, capacities_fit}
 
 -- a link's stored total is at most its capacity
@@ -25,12 +24,6 @@ spare_cases ledger link =
     ∷ (not (in_range link_range link) ⇒ OutOfRange 0)
     ∷ []
 
-unfoldable pub refused_spare : Refusal → Spare
-refused_spare why = record { verdict = Verdict.Refused why; rate = record { 0 = 0 } }
-
 -- what is asked: the capacity less the stored total
-unfoldable pub spare_of : Ledger → ℕ → Spare
-unfolding refused_spare
-spare_of ledger link =
-    first_of (spare_cases ledger link) refused_spare
-    (record { verdict = Verdict.Accepted; rate = record { 0 = capacity_of ledger link - total_of ledger link } })
+unfoldable pub spare_of : Ledger → ℕ → Result Rate Refusal
+spare_of ledger link = first_of (spare_cases ledger link) Err (Ok (record { 0 = capacity_of ledger link - total_of ledger link }))

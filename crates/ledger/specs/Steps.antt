@@ -1,47 +1,30 @@
 -- Serves the private contracts of the ledger, and need not be believed: no public call cites it.
--- The steps of the calls, as the code takes them: what the test finds, what is decided, what is written, and what asking finds of the links.
-use Rattle.std.specs.Prelude.{◌≡◌, ℕ, ◌+◌, ◌-◌, ◌%◌, ◌^◌, ◌<◌, ◌≤◌, Bool, true, false, not, List, ◌++◌, get_or, drop, replicate, ◌==◌, nat_le, nat_lt, slice_index, slice_index_or, slice_set}
+-- The steps of the calls, as the code takes them: what the test finds, what is decided, and what asking finds of the links.
+use Rattle.std.specs.Prelude.{◌≡◌, ℕ, ◌+◌, ◌-◌, ◌%◌, ◌^◌, ◌<◌, ◌≤◌, Bool, true, not, List, get_or, ◌==◌, nat_le, nat_lt, slice_index, slice_index_or, Option, Some, None, Result, Ok, Err}
 use Rattle.quantity.specs.Choice.{pick, both}
 use Rattle.quantity.specs.Sums.{total, every, list_of}
 use Rattle.quantity.specs.Ranges.{in_range, link_capacity_range}
 use Rattle.quantity.specs.Quantities.{rates_sum}
 use Rattle.quantity.specs.Refusals.{first_of}
 use Rattle.quantity.specs.declared.refusal.Refusal.{Refusal}
+use Rattle.quantity.specs.declared.refusal.Refusal.TheVariants.{Unusable}
 use Rattle.quantity.specs.declared.Rate.{Rate}
 use Rattle.quantity.specs.declared.LinkCapacity.{LinkCapacity}
 use Rattle.flow.specs.Declarations.{declaration_in_range}
 use Rattle.sheet.specs.Paths.{Path, no_linked_operator}
 use Rattle.sheet.specs.Sheets.{path_in}
 use Rattle.sheet.specs.declared.PathValue.{PathValue}
-use Rattle.sheet.specs.declared.read.Verdict.{Verdict}
 use Rattle.ledger.specs.declared.Record.{Record}
 use Rattle.ledger.specs.declared.Ledger.{Ledger}
-use Rattle.ledger.specs.declared.test.Tested.{Tested}
-use Rattle.ledger.specs.declared.opening.Clearing.{Clearing}
-use Rattle.ledger.specs.declared.opening.Checked.{Checked}
+use Rattle.ledger.specs.declared.test.Fields.{Fields}
+use Rattle.ledger.specs.declared.test.Standing.{Standing}
 use Rattle.ledger.specs.declared.holding.Appending.{Appending}
-use Rattle.ledger.specs.declared.release.Releasing.{Releasing}
-use Rattle.ledger.specs.declared.confirming.Marking.{Marking}
-use Rattle.ledger.specs.declared.spare.Spares.{Spares}
-use Rattle.ledger.specs.Records.{mark_held, no_record, record_at, number_at, mark_at, has_link, share, among, place_among}
+use Rattle.ledger.specs.Records.{mark_held, record_at, number_at, mark_at, has_link, share, among, place_among}
 use Rattle.ledger.specs.Ledgers.{record_count, link_count, capacity_of, total_of, capacities_fit, ledger_unusable}
-use Rattle.ledger.specs.Opening.{asked_for, open_cases, new_ledger, no_ledger, refused_opening}
-use Rattle.ledger.specs.Holding.{record_of, holding_cases, refused_holding, accepted_holding}
-use Rattle.ledger.specs.Release.{release_cases, refused_release, accepted_release, record_of_number}
-use Rattle.ledger.specs.Confirming.{confirm_cases, refused_confirming, confirmed_at}
+use Rattle.ledger.specs.Opening.{asked_for, new_ledger}
+use Rattle.ledger.specs.Holding.{record_of, holding_cases, accepted_holding}
+use Rattle.ledger.specs.Release.{release_cases, record_of_number}
 use Rattle.ledger.specs.Spare.{links_unusable}
-
--- The lent records.
-
-unfoldable pub appended : List Record → ℕ → Record → List Record
-appended records at r = pick (nat_lt at record_count) (slice_set records at r) records
-
--- the record at a place confirmed; 64 is no place
-unfoldable pub marked : List Record → ℕ → List Record
-marked records at = pick (nat_lt at record_count) (confirmed_at records at) records
-
-unfoldable pub filled : List Record → ℕ → Record → List Record
-filled records count with = replicate count with ++ drop count records
 
 -- Test.
 
@@ -57,6 +40,9 @@ link_bits_of records = list_of (λ j. (record_at records j).links) record_count
 
 abbrev pub marks_of : List Record → List ℕ
 marks_of records = list_of (mark_at records) record_count
+
+abbrev pub fields_of : List Record → Fields
+fields_of records = record { numbers = numbers_of records; rates = rates_of records; links = link_bits_of records; marks = marks_of records }
 
 -- 16 bits of each number, as a ring of 64 whose first half comes once more
 abbrev pub half : ℕ
@@ -113,36 +99,24 @@ charged rates r = list_of (λ link. wrapped (rate_at rates link) (record { 0 = s
 unfoldable pub discharged : List Rate → Record → List Rate
 discharged rates r = list_of (λ link. record { 0 = (rate_at rates link).0 - share r link }) link_count
 
-abbrev pub not_tested : Tested
-not_tested = record { usable = false; at = 0; found = no_record }
+-- the record at a place of those that stand
+abbrev pub found_at : List Record → ℕ → ℕ → Option Standing
+found_at records count at = pick (nat_lt at count) (Some (record { at = at; found = record_at records at })) None
 
--- a number's place and its record, the clear one where it does not stand
-abbrev pub found_at : List Record → ℕ → ℕ → Tested
-found_at records count at = record { usable = true; at = at; found = pick (nat_lt at count) (record_at records at) no_record }
-
-unfoldable pub tested_of : Ledger → List Record → ℕ → Tested
+unfoldable pub tested_of : Ledger → List Record → ℕ → Result (Option Standing) Refusal
 tested_of ledger records number =
-    pick (ledger_unusable ledger records) not_tested (found_at records ledger.count (place_among (number_at records) ledger.count number))
+    pick (ledger_unusable ledger records) (Err Unusable) (Ok (found_at records ledger.count (place_among (number_at records) ledger.count number)))
 
--- what the test of some records answered
-abbrev pub FromTest : Ledger → ℕ → Tested → Type 0
-FromTest ledger number tested = (records : List Record) × (tested ≡ tested_of ledger records number)
+-- the path of a number that stands, or 1 or 10
+unfoldable pub standing_of : Ledger → List Record → ℕ → Result Standing Refusal
+standing_of ledger records number =
+    first_of (release_cases ledger records number) Err (Ok (record { at = place_among (number_at records) ledger.count number; found = record_of_number ledger records number }))
 
 -- Decide.
 
 -- the ledger of the capacities asked for, if they are in their range
-unfoldable pub checked_of : List ℕ → Checked
-checked_of capacities = pick (capacities_fit (asked_for capacities)) (record { fit = true; ledger = new_ledger capacities }) (record { fit = false; ledger = no_ledger })
-
-unfoldable pub refused_clearing : Refusal → Clearing
-refused_clearing why = record { opened = refused_opening why; count = 0; none = no_record }
-
--- a new ledger, how many records it clears, and the clear record
-unfoldable pub clearing_of : List ℕ → List Record → Clearing
-unfolding refused_clearing
-clearing_of capacities records =
-    first_of (open_cases capacities records) refused_clearing
-    (record { opened = record { verdict = Verdict.Accepted; ledger = new_ledger capacities }; count = record_count; none = no_record })
+unfoldable pub checked_of : List ℕ → Option Ledger
+checked_of capacities = pick (capacities_fit (asked_for capacities)) (Some (new_ledger capacities)) None
 
 -- whether a named link is short
 unfoldable pub short_of : List LinkCapacity → List Rate → (ℕ → Bool) → Rate → Bool
@@ -157,36 +131,12 @@ Decidable ledger value =
     × (value.count ≤ 16)
     × ((k : ℕ) → k < 16 → (get_or value.operators k no_linked_operator).link.0 < link_count)
 
--- a holding, and the record that it appends; 64 is no place
-unfoldable pub refused_appending : Ledger → Refusal → Appending
-refused_appending ledger why = record { holding = refused_holding ledger why; at = record_count; entry = no_record }
-
+-- a holding, and the record that it appends
 unfoldable pub accepted_appending : Ledger → ℕ → Path → Appending
-accepted_appending ledger number path = record { holding = accepted_holding ledger path; at = ledger.count; entry = record_of number path mark_held }
+accepted_appending ledger number path = record { holding = accepted_holding ledger path; entry = record_of number path mark_held }
 
-unfoldable pub appending_of : Ledger → List Record → ℕ → List ℕ → Appending
-unfolding refused_appending accepted_appending
-appending_of ledger records number sheet =
-    first_of (holding_cases ledger records number sheet) (refused_appending ledger) (accepted_appending ledger number (path_in sheet))
-
--- a release, the place that it closes up, and the clear record
-unfoldable pub refused_releasing : Ledger → Refusal → Releasing
-refused_releasing ledger why = record { released = refused_release ledger why; at = record_count; last = no_record }
-
-unfoldable pub releasing_of : Ledger → List Record → ℕ → Releasing
-unfolding refused_releasing
-releasing_of ledger records number =
-    first_of (release_cases ledger records number) (refused_releasing ledger)
-    (record { released = accepted_release ledger (record_of_number ledger records number); at = place_among (number_at records) ledger.count number; last = no_record })
-
--- a confirming, and the place of the record that it marks
-unfoldable pub refused_marking : Refusal → Marking
-refused_marking why = record { confirmed = refused_confirming why; at = record_count }
-
-unfoldable pub marking_of : Ledger → List Record → ℕ → Marking
-unfolding refused_marking
-marking_of ledger records number =
-    first_of (confirm_cases ledger records number) refused_marking (record { confirmed = record { verdict = Verdict.Accepted }; at = place_among (number_at records) ledger.count number })
+unfoldable pub appending_of : Ledger → List Record → ℕ → List ℕ → Result Appending Refusal
+appending_of ledger records number sheet = first_of (holding_cases ledger records number sheet) Err (Ok (accepted_appending ledger number (path_in sheet)))
 
 -- Ask.
 
@@ -194,9 +144,6 @@ marking_of ledger records number =
 unfoldable pub left_of : ℕ → ℕ → ℕ
 left_of capacity total = pick (nat_le total capacity) (capacity - total) (capacity + 4_294_967_296 - total)
 
--- whether the links can be used, and what each leaves
-unfoldable pub spares_of : Ledger → Spares
-spares_of ledger = record {
-  fit = not (links_unusable ledger);
-  rates = list_of (λ link. record { 0 = left_of (capacity_of ledger link) (total_of ledger link) }) link_count;
-}
+-- what each link leaves, if the links can be used
+unfoldable pub spares_of : Ledger → Option (List Rate)
+spares_of ledger = pick (links_unusable ledger) None (Some (list_of (λ link. record { 0 = left_of (capacity_of ledger link) (total_of ledger link) }) link_count))

@@ -1,6 +1,6 @@
 // Holding a path: its reservation is made, and it waits to be confirmed (document 01, sections 6 and 7; document 02, item 8).
 
-ghost use Rattle.std.specs.Prelude.{◌≡◌, ℕ, ◌<◌, ◌≤◌, true, false, List, slice_index_or};
+ghost use Rattle.std.specs.Prelude.{◌≡◌, ℕ, ◌<◌, ◌≤◌, true, false, List, length, slice_set, slice_index_or, Ok, Err};
 ghost use Rattle.quantity.specs.Rounding.{round_up};
 ghost use Rattle.quantity.specs.Refusals.{first_of};
 ghost use Rattle.flow.specs.Declarations.{last_row, declaration_in_range};
@@ -9,99 +9,102 @@ ghost use Rattle.sheet.specs.Forms.{value_of_path, in_full};
 ghost use Rattle.sheet.specs.Sheets.{path_in_range};
 ghost use Rattle.figures.specs.Answers.{path_delay};
 ghost use Rattle.ledger.specs.declared.Record.{Record};
-ghost use Rattle.ledger.specs.Records.{has_link};
-ghost use Rattle.ledger.specs.Ledgers.{link_count, ledger_unusable};
+ghost use Rattle.ledger.specs.Records.{has_link, stands};
+ghost use Rattle.ledger.specs.Ledgers.{link_count, record_count, ledger_unusable};
 ghost use Rattle.ledger.specs.Holding.{links_of, standing_cases, holding_of, records_held};
-ghost use Rattle.ledger.specs.Steps.{tested_of, FromTest, short_of, Decidable, refused_appending, accepted_appending, appending_of};
+ghost use Rattle.ledger.specs.Steps.{short_of, Decidable, accepted_appending, appending_of};
 
-use crate::records::append;
-use crate::test::{Tested, and, charge, test};
-use crate::{Ledger, Record, no_record};
+use crate::test::{charge, has_link, test};
+use crate::{Ledger, Record};
 use figures::figures;
 use flow::Declaration;
 use quantity::refusal::Refusal;
-use quantity::{CheckedPathNumber, LinkCapacity, PathNumber, Rate, Slots};
+use quantity::{LinkCapacity, PathNumber, Quantity, Rate, Slots};
 use sheet::PathValue;
-use sheet::read::Verdict;
 
-// What the path reserves, its delay, and the ledger with it. Beside a refusal they are 0, and the ledger is as it was.
+// The ledger with the path, what it reserves, and its delay.
 #[derive(Clone, Copy)]
 pub struct Holding {
-    pub verdict: Verdict,
     pub ledger: Ledger,
     pub rate: Rate,
     pub delay: Slots,
 }
 
-// What is decided: the answer, and the record to append with its place, 64 where there is none.
+// What is decided: the holding, and the record to append.
 #[derive(Clone, Copy)]
-pub struct Appending {
-    pub holding: Holding,
-    pub at: usize,
-    pub entry: Record,
+struct Appending {
+    holding: Holding,
+    entry: Record,
 }
 
-// Holds a sheet's path under a number, or answers the first refusal of 1 to 12.
-pub fn hold(ledger: Ledger, records: &mut [Record], number: u32, sheet: &[u8]) -> Holding
+// Holds a sheet's path under a number, or answers the first refusal of 1 to 12. Refused, the records are as they were.
+// The ledger goes by value and its records are lent (section 6), so they are two arguments.
+pub fn hold(
+    ledger: Ledger,
+    records: &mut [Record],
+    number: u32,
+    sheet: &[u8],
+) -> Result<Holding, Refusal>
     ensures { (result ≡ holding_of ledger records.old number sheet.now) × (records.new ≡ records_held ledger records.old number sheet.now) }
 {
-    let tested = test(ledger, records, number);
-    let appending = decide(ledger, tested, number, sheet);
-    let at = appending.at;
-    let entry = appending.entry;
-    append(records, at, entry);
-    appending.holding
+    let appending = decide(ledger, records, number, sheet)?;
+    append(records, ledger.count, appending.entry);
+    Ok(appending.holding)
 }
 
-fn decide(ledger: Ledger, tested: Tested, number: u32, sheet: &[u8]) -> Appending
-    requires { FromTest ledger number tested }
-    ensures { (records : List Record) → tested ≡ tested_of ledger records number → result ≡ appending_of ledger records number sheet.now }
+// One more record, behind those that stand.
+fn append(records: &mut [Record], at: usize, entry: Record)
+    requires { (at < length records.old) × (at < record_count) }
+    ensures { records.new ≡ slice_set records.old at entry }
 {
-    match PathNumber::checked(number) {
-        CheckedPathNumber::OutOfRange => refused(ledger, Refusal::Unusable),
-        CheckedPathNumber::InRange(number) => {
-            if !tested.usable {
-                return refused(ledger, Refusal::Unusable);
-            }
-            let answer = figures(sheet);
-            let verdict = answer.verdict;
-            match verdict {
-                Verdict::Refused(why) => refused(ledger, why),
-                Verdict::Accepted => {
-                    let path = answer.path;
-                    let delay = answer.delay;
-                    decide_standing(ledger, tested, number, path, delay)
-                }
-            }
-        }
-    }
+    records[at] = entry;
+}
+
+fn decide(
+    ledger: Ledger,
+    records: &[Record],
+    number: u32,
+    sheet: &[u8],
+) -> Result<Appending, Refusal>
+    ensures { result ≡ appending_of ledger records.now number sheet.now }
+{
+    let Some(number) = PathNumber::checked(number) else {
+        return Err(Refusal::Unusable);
+    };
+    let standing = test(ledger, records, number.0)?;
+    let planned = figures(sheet)?;
+    decide_standing(
+        ledger,
+        standing.is_some(),
+        number,
+        planned.path,
+        planned.delay,
+    )
 }
 
 // 10 to 12, of a path with figures and a ledger that can be used.
 fn decide_standing(
     ledger: Ledger,
-    tested: Tested,
+    known: bool,
     number: PathNumber,
     path: PathValue,
     delay: Slots,
-) -> Appending
+) -> Result<Appending, Refusal>
     requires { Decidable ledger path }
-    ensures { (records : List Record) (given : Path) → ledger_unusable ledger records ≡ false → tested ≡ tested_of ledger records number.0 → path_in_range given ≡ true → path ≡ value_of_path path.form given → delay ≡ record { 0 = path_delay given } → result ≡ first_of (standing_cases ledger records number.0 given) (refused_appending ledger) (accepted_appending ledger number.0 given) }
+    ensures { (records : List Record) (given : Path) → ledger_unusable ledger records ≡ false → known ≡ stands records ledger.count number.0 → path_in_range given ≡ true → path ≡ value_of_path path.form given → delay ≡ record { 0 = path_delay given } → result ≡ first_of (standing_cases ledger records number.0 given) Err (Ok (accepted_appending ledger number.0 given)) }
 {
-    let count = ledger.count;
-    if tested.at < count {
-        return refused(ledger, Refusal::PathNumberWrong);
+    if known {
+        return Err(Refusal::PathNumberWrong);
     }
-    if count == crate::RECORDS {
-        return refused(ledger, Refusal::LedgerFull);
+    if ledger.count == crate::RECORDS {
+        return Err(Refusal::LedgerFull);
     }
-    let declaration = path.declaration;
-    let rate = reserved_by(declaration);
+    let rate = reserved_by(path.declaration);
     let links = links_named(path);
     let capacities = ledger.capacities;
     let totals = ledger.totals;
     if link_short(capacities, totals, links, rate) {
-        return refused(ledger, Refusal::LinkShort);
+        return Err(Refusal::LinkShort);
     }
     let entry = Record {
         number,
@@ -111,20 +114,15 @@ fn decide_standing(
     };
     let charged = charge(totals, entry);
     let holding = Holding {
-        verdict: Verdict::Accepted,
         ledger: Ledger {
             capacities,
             totals: charged,
-            count: count + 1,
+            count: ledger.count + 1,
         },
         rate,
         delay,
     };
-    Appending {
-        holding,
-        at: count,
-        entry,
-    }
+    Ok(Appending { holding, entry })
 }
 
 // What a path reserves: ⌈Q/m⌉ of its declaration's last row.
@@ -133,9 +131,7 @@ fn reserved_by(declaration: Declaration) -> Rate
     ensures { result.0 ≡ round_up (last_row declaration).quota (last_row declaration).interval }
 {
     let row = declaration.last_row();
-    let interval = row.interval;
-    let quota = row.quota;
-    Rate((quota.0 + (interval.0 - 1)) / interval.0)
+    Rate(row.quota.0.div_ceil(row.interval.0))
 }
 
 // The links that a path's operators are on, as 16 bits, bit i for link i.
@@ -145,47 +141,22 @@ fn links_named(path: PathValue) -> u32
 {
     let operators = path.operators;
     let mut links: u32 = 0;
-    let mut k = 0;
-    while k < path.count {
-        let linked = operators[k];
-        let link = linked.link;
-        links = links | (1 << link.0);
-        k += 1;
+    for linked in &operators[..path.count] {
+        links |= 1 << linked.link.0;
     }
     links
 }
 
 // Whether a named link's capacity is below its total with the rate. All links are tested, so that the loop has no branch.
+// By the link's number: its bit, capacity and total are found by it.
 fn link_short(capacities: [LinkCapacity; 16], totals: [Rate; 16], links: u32, rate: Rate) -> bool
     ensures { result ≡ short_of capacities totals (has_link links) rate }
 {
-    let mut room = true;
-    let mut link = 0;
-    while link < crate::LINKS {
+    let mut short = false;
+    for link in 0..crate::LINKS {
         let capacity = capacities[link];
-        let sum = totals[link];
-        let with = sum.plus(rate);
-        let named = (links >> link) % 2 == 1;
-        let short = and(named, capacity.0 < with.0);
-        room = and(room, !short);
-        link += 1;
+        let raised = totals[link].plus(rate);
+        short |= has_link(links, link) & (capacity.0 < raised.0);
     }
-    !room
-}
-
-fn refused(ledger: Ledger, why: Refusal) -> Appending
-    ensures { result ≡ refused_appending ledger why }
-{
-    let holding = Holding {
-        verdict: Verdict::Refused(why),
-        ledger,
-        rate: Rate(0),
-        delay: Slots(0),
-    };
-    let entry = no_record();
-    Appending {
-        holding,
-        at: crate::RECORDS,
-        entry,
-    }
+    short
 }

@@ -2,15 +2,15 @@
 
 #![tactic(auto)]
 
-ghost use Rattle.std.specs.Prelude.{◌≡◌};
-ghost use Rattle.ledger.specs.Records.{no_record};
+ghost use Rattle.std.specs.Prelude.{◌≡◌, ◌==◌};
+ghost use Rattle.ledger.specs.Records.{mark_held, no_record, is_on};
 
-use quantity::{LinkCapacity, PathNumber, Rate};
+use crate::test::has_link;
+use quantity::{Link, LinkCapacity, PathNumber, Quantity, Rate};
 
 pub mod confirming;
 pub mod holding;
 pub mod opening;
-mod records;
 pub mod release;
 pub mod spare;
 mod test;
@@ -23,18 +23,38 @@ const LAST: usize = 63;
 
 const LINKS: usize = 16;
 
+// All links, as bits.
+const ALL_LINKS: u32 = 0xFFFF;
+
 // The mark of a path that is held, and of one that is confirmed.
 const HELD: u32 = 0;
 
 const CONFIRMED: u32 = 1;
 
 // A path that stands: its number, what it reserves on each link that it names, these links as 16 bits, bit i for link i, and its mark, 0 while it is held and 1 once it is confirmed.
+// The links and the mark are numbers: a lent record may hold any, which is tested (refusal 1).
 #[derive(Clone, Copy)]
 pub struct Record {
     pub number: PathNumber,
     pub rate: Rate,
     pub links: u32,
     pub mark: u32,
+}
+
+impl Record {
+    // Whether the path is on a link. None is on a link outside its range.
+    pub fn is_on(self, link: Link) -> bool
+        ensures { result ≡ is_on self link.0 }
+    {
+        link.in_range() && has_link(self.links, link.0 as usize)
+    }
+
+    // Whether the path is held, and not confirmed.
+    pub fn is_held(self) -> bool
+        ensures { result ≡ self.mark == mark_held }
+    {
+        self.mark == HELD
+    }
 }
 
 // The capacities of the sixteen links, what the paths that stand reserve on each, and how many stand. Their records are lent.
@@ -45,7 +65,7 @@ pub struct Ledger {
     pub count: usize,
 }
 
-// The clear record, in which no path stands.
+// The clear record, in which no path stands. A value and no Option: it fills the places behind the last (no heap).
 pub fn no_record() -> Record
     ensures { result ≡ no_record }
 {

@@ -1,11 +1,10 @@
 -- What is gathered of the words by age: one part of the words gathers the ages that lie in it, and so do two; and where the words of all ages are small, every word of the ring is.
 use Rattle.std.proofs.Common.{◌≡◌, ℕ, suc, ◌+◌, ◌-◌, ◌%◌, ◌^◌, ◌<◌, ◌≤◌, List, ap, ◌∙◌, le_trans, arith}
 use native.Mathlib.Decide.{dec_lt}
-use lib.Bits.{bit_or}
 use Rattle.quantity.specs.Sums.{total}
 use Rattle.quantity.proofs.Sums.{total-zero}
 use Rattle.words.specs.Stored.{word_at}
-use Rattle.words.specs.Gathering.{most_exact}
+use Rattle.words.specs.Gathering.{most_exact, gathered_with}
 use Rattle.words.specs.declared.Gathered.{Gathered}
 use Rattle.words.proofs.JoinLaws.{le_or_l, le_or_r}
 use Rattle.words.proofs.PartLaws.{PartGathered}
@@ -42,13 +41,11 @@ module _ (words : List ℕ) (ring at : ℕ) (inside : at < ring) where
     abbrev aged : ℕ
     aged = total (word_before ring at words) from
 
-    pub ages-both : from ≤ at → at ≤ to → {near far : Gathered} → PartGathered words 0 (at - from) near → PartGathered words (at + ring - to) ring far
-        → {low : ℕ} → low ≡ (near.low + far.low) % 2 ^ 32 → AgesGathered words ring at from to (record { join = bit_or near.join far.join; low = low })
-    ages-both young old {near} {far} first rest low =
+    pub ages-both : from ≤ at → at ≤ to → {near far : Gathered} → PartGathered words 0 (at - from) near → PartGathered words (at + ring - to) ring far → AgesGathered words ring at from to (gathered_with near far)
+    ages-both young old {near} {far} first rest =
         record {
           summed =
-              ap (λ (n : ℕ). (aged + n) % 2 ^ 32) low
-              ∙ low-of-both aged near.low far.low
+              low-of-both aged near.low far.low
               ∙ low-of-first aged near.low (total (word_at words) (at - from)) far.low (omega (arith, first.summed, total-zero (word_at words)))
               ∙ low-of-rest (aged + total (word_at words) (at - from)) far.low (total (word_at words) (at + ring - to)) (total (word_at words) ring) _ rest.summed
               (parts-both ring words at inside from to ages few young old);

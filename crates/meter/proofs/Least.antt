@@ -5,11 +5,7 @@ use borrow.Author.Tests.{lt-leb}
 use Rattle.quantity.specs.Choice.{both}
 use Rattle.quantity.specs.Sums.{every}
 use Rattle.meter.specs.Meter.{least_below}
-
--- the least of a first number and of f 0 to f (n − 1)
-unfoldable pub least_from : ℕ → (ℕ → ℕ) → ℕ → ℕ
-least_from first f zero = first
-least_from first f (suc n) = min (least_from first f n) (f n)
+use Rattle.meter.specs.Counting.{least_from}
 
 pub least-from-none : (first : ℕ) (f : ℕ → ℕ) → least_from first f 0 ≡ first
 unfolding least_from

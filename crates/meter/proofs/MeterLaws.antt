@@ -1,5 +1,5 @@
 -- The laws of the meter, as a list.
-use Rattle.std.proofs.Common.{◌≡◌, ℕ, ◌<◌, ◌≤◌, true, false, ◌↔◌, List, [], ◌∷◌, ◌++◌, length}
+use Rattle.std.proofs.Common.{◌≡◌, ℕ, ◌<◌, ◌≤◌, true, false, Ok, Err, ◌↔◌, List, [], ◌∷◌, ◌++◌, length}
 use Rattle.quantity.specs.Choice.{pick}
 use Rattle.quantity.specs.Limits.{largest_amount, last_slot}
 use Rattle.quantity.specs.declared.refusal.Refusal.TheVariants.{InputBreaksDeclaration}
@@ -11,7 +11,6 @@ use Rattle.meter.specs.Metering.{new_meter, offered_all}
 use Rattle.meter.specs.Words.{word_taken}
 use Rattle.words.specs.Stored.{word_at}
 use Rattle.flow.specs.declared.Declaration.{Declaration}
-use Rattle.meter.specs.declared.Intake.{Intake}
 use Rattle.meter.proofs.Metering as Metering
 
 -- The meter: of all lists of inputs offered to a new meter, each input is taken if and only if the inputs taken before it and this one keep the declaration (section 2).
@@ -25,7 +24,7 @@ module _ (declared : Declaration) (clear : unused_clear declared ≡ true) (rang
   -- where the input is within the limit and a slot number is left, a meter from new refuses for the declaration alone
   pub meter-answers : let fed = offered_all (new_meter declared) before in
       meter_of fed.state fed.words input
-      ≡ pick (input_breaks fed.state fed.words input) (record { intake = Intake.Refused InputBreaksDeclaration; state = fed.state }) (record { intake = Intake.Taken; state = meter_next fed.state input })
+      ≡ pick (input_breaks fed.state fed.words input) (Err InputBreaksDeclaration) (Ok (meter_next fed.state input))
   meter-answers = Metering.meter-answers declared clear ranged ordered before input small left
 
   -- and it breaks the declaration just where the inputs taken and this one do not keep it

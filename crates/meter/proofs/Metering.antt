@@ -1,6 +1,6 @@
 -- The meter (section 2; document 02, item 6): what it stores is a function of the inputs it took, so the units that count with an input in a row are those from the
 -- start of the block or window that ends with its slot; and an input keeps the declaration just where that one block or window of each row does.
-use Rattle.std.proofs.Common.{◌≡◌, ℕ, zero, suc, ◌+◌, ◌-◌, ◌*◌, ◌/◌, ◌%◌, ◌<◌, ◌≤◌, Bool, true, false, not, eqb, ltb, leb, ◌↔◌, List, [], ◌∷◌, ◌++◌, length, replicate, sym, refl, ap, ◌∙◌, true≢false, le_refl, add-zero, add-suc, mul-le-mul_right, mod-lt, mod-eq_of_lt, div-lt_iff_lt-mul, add-mul, div-add-mod', div-mul-le_self, add-one, arith, length-append, ltb-false, le-ltb, eq-eqb, ne_eqb, le-leb, leb-true}
+use Rattle.std.proofs.Common.{◌≡◌, ℕ, zero, suc, ◌+◌, ◌-◌, ◌*◌, ◌/◌, ◌%◌, ◌<◌, ◌≤◌, Bool, true, false, Ok, Err, not, eqb, ltb, leb, ◌↔◌, List, [], ◌∷◌, ◌++◌, length, replicate, sym, refl, ap, ◌∙◌, true≢false, le_refl, add-zero, add-suc, mul-le-mul_right, mod-lt, mod-eq_of_lt, div-lt_iff_lt-mul, add-mul, div-add-mod', div-mul-le_self, add-one, arith, length-append, ltb-false, le-ltb, eq-eqb, ne_eqb, le-leb, leb-true}
 use native.Mathlib.Nat.{sub-zero, zero-mod, add-mod_left}
 use native.Mathlib.Decide.{ℕ_discrete, dec_le, dec_lt}
 use lib.ListN.{length-replicate, get_or-replicate, get_or-append, get_or-eq_default}
@@ -23,7 +23,6 @@ use Rattle.words.specs.Stored.{word_at, stored_fits, word_fits}
 use Rattle.flow.specs.declared.Kind.{Kind}
 use Rattle.flow.specs.declared.Declaration.{Declaration}
 use Rattle.meter.specs.declared.SourceMeter.{SourceMeter}
-use Rattle.meter.specs.declared.Intake.{Intake}
 use Rattle.flow.proofs.Blocks.{same_block}
 use Rattle.flow.proofs.Declarations.{one_at}
 use Rattle.flow.proofs.Keeping.{uniform-last}
@@ -505,7 +504,7 @@ module _ (declared : Declaration) (clear : unused_clear declared ≡ true) (rang
   -- where the input is within the limit and a slot number is left, a meter from new refuses for the declaration alone
   pub meter-answers : let fed = offered_all (new_meter declared) before in
       meter_of fed.state fed.words input
-      ≡ pick (input_breaks fed.state fed.words input) (record { intake = Intake.Refused InputBreaksDeclaration; state = fed.state }) (record { intake = Intake.Taken; state = meter_next fed.state input })
+      ≡ pick (input_breaks fed.state fed.words input) (Err InputBreaksDeclaration) (Ok (meter_next fed.state input))
   unfolding meter_of
   meter-answers =
       let sound = fed-sound in

@@ -1,43 +1,43 @@
 -- A meter's input in its parts: what each answers, from its tests in plain facts, and what it answers where the meter can be used.
-use Rattle.std.proofs.Common.{◌≡◌, ℕ, suc, ◌+◌, ◌-◌, ◌%◌, ◌<◌, ◌≤◌, Bool, true, false, not, eqb, ltb, leb, List, length, set, sym, refl, ap, ◌∙◌, mod-lt, arith, length-set, get_or-set_other, get_or-set_same, le-ltb, lt-ltb, eqb-true}
+use Rattle.std.proofs.Common.{◌≡◌, ℕ, suc, ◌+◌, ◌-◌, ◌%◌, ◌<◌, ◌≤◌, Bool, true, false, Some, None, Ok, Err, not, eqb, ltb, leb, List, length, set, sym, refl, ap, ◌∙◌, mod-lt, arith, length-set, get_or-set_other, get_or-set_same, lt-ltb, eqb-true}
 use native.Mathlib.Nat.{le_dest}
 use borrow.Author.Tests.{eqb-false}
 use Rattle.quantity.specs.Choice.{pick}
 use Rattle.quantity.specs.Limits.{largest_amount, largest64}
 use Rattle.quantity.specs.Sums.{every, list_of}
-use Rattle.quantity.proofs.Laws.{pick_true, pick-false}
+use Rattle.quantity.proofs.Laws.{pick_true}
 use Rattle.quantity.proofs.Quantities.{units-sum}
 use Rattle.quantity.proofs.Sums.{every-same, list_of-ext}
 use Rattle.flow.specs.Declarations.{row_count, row_at, declaration_in_range, rows_in_order}
 use Rattle.words.specs.Stored.{word_at, word_noted}
 use Rattle.meter.specs.Meter.{meter_word_count, uses_block, ring_length, meter_unusable, block_before, counted_before, input_breaks, room_in, least_below, block_next, meter_word_next}
-use Rattle.meter.specs.Parts.{inputs_below, input_place, awaited_of, counted_of, block_behind}
+use Rattle.meter.specs.Parts.{inputs_below, input_place, input_noted, awaited_of, counted_of, block_behind}
 use Rattle.meter.specs.declared.SourceMeter.{SourceMeter}
-use Rattle.meter.specs.declared.parts.Counted.{Counted}
-use Rattle.meter.specs.declared.parts.Counted.TheVariants.{Below}
+use Rattle.meter.specs.declared.parts.Uncounted.{Uncounted}
 use Rattle.flow.proofs.Declarations.{one-count, one_at}
 use Rattle.words.proofs.StoredLaws.{stored-le}
-use Rattle.meter.proofs.Least.{least_from, least-from-last, least-less-one, below-least, within-below}
+use Rattle.meter.specs.Counting.{least_from}
+use Rattle.meter.proofs.Least.{least-from-last, least-less-one, below-least, within-below}
 use Rattle.meter.proofs.UsableMeter.{UsableMeter, Ranged, usable-meter, declaration-ranged, smooth-one, counted-block, ring-large, ring-fits, block-before-le}
 
 -- What the count answers.
 
 module _ (x : SourceMeter) (words : List ℕ) where
-  pub counted-unusable : meter_unusable x words ≡ true → Counted.Unusable ≡ counted_of x words
+  pub counted-unusable : meter_unusable x words ≡ true → Err Uncounted.Unusable ≡ counted_of x words
   unfolding counted_of
   counted-unusable unusable = rw unusable
 
   module _ (usable : meter_unusable x words ≡ false) where
-    pub counted-outside : declaration_in_range x.declaration ≡ false → Counted.OutOfRange ≡ counted_of x words
+    pub counted-outside : declaration_in_range x.declaration ≡ false → Err Uncounted.OutOfRange ≡ counted_of x words
     unfolding counted_of
     counted-outside outside = rw (usable, outside)
 
     module _ (ranged : declaration_in_range x.declaration ≡ true) where
-      pub counted-unordered : rows_in_order x.declaration ≡ false → Counted.OutOfOrder ≡ counted_of x words
+      pub counted-unordered : rows_in_order x.declaration ≡ false → Err Uncounted.OutOfOrder ≡ counted_of x words
       unfolding counted_of
       counted-unordered unordered = rw (usable, ranged, unordered)
 
-      pub counted_next : rows_in_order x.declaration ≡ true → counted_of x words ≡ Below (awaited_of x words)
+      pub counted_next : rows_in_order x.declaration ≡ true → counted_of x words ≡ Ok (awaited_of x words)
       unfolding counted_of
       counted_next ordered = rw (usable, ranged, ordered)
 
@@ -87,13 +87,13 @@ module _ (x : SourceMeter) (words : List ℕ) where
 module _ (x : SourceMeter) (words : List ℕ) {below : ℕ} (least : below ≡ inputs_below x words) where
   -- with a block
   pub awaited-block : uses_block x.declaration.kind ≡ true → {block : ℕ} → block ≡ block_before x
-      → record { below = record { 0 = below }; block = record { 0 = block }; at = meter_word_count } ≡ awaited_of x words
+      → record { below = record { 0 = below }; block = record { 0 = block }; at = None } ≡ awaited_of x words
   unfolding awaited_of input_place
   awaited-block smooth so_far = rw (smooth, least, so_far)
 
   -- with a ring
   pub awaited-ring : uses_block x.declaration.kind ≡ false → {at : ℕ} → at ≡ x.slot.0 % ring_length x.declaration
-      → record { below = record { 0 = below }; block = record { 0 = 0 }; at = at } ≡ awaited_of x words
+      → record { below = record { 0 = below }; block = record { 0 = 0 }; at = Some at } ≡ awaited_of x words
   unfolding awaited_of input_place
   awaited-ring ring place = rw (ring, least, place)
 
@@ -117,15 +117,13 @@ module _ (x : SourceMeter) (words : List ℕ) (input : ℕ) (usable : meter_unus
   word_set inside j false e = get_or-set_other words place j input 0 (eqb-false j _ e)
 
   -- with a block the words stay, and with a ring the input replaces the word of its slot
-  pub noted-next : word_noted words (input_place x) input ≡ list_of (meter_word_next x words input) meter_word_count
+  pub noted-next : input_noted (input_place x) words input ≡ list_of (meter_word_next x words input) meter_word_count
   unfolding word_noted input_place meter_word_next
   noted-next = by-kind (uses_block x.declaration.kind) refl
     where
-      by-kind : (smooth : Bool) → uses_block x.declaration.kind ≡ smooth → word_noted words (input_place x) input ≡ list_of (meter_word_next x words input) meter_word_count
+      by-kind : (smooth : Bool) → uses_block x.declaration.kind ≡ smooth → input_noted (input_place x) words input ≡ list_of (meter_word_next x words input) meter_word_count
       by-kind true smooth =
-          rw smooth
-          (pick-false _ _ _ (le-ltb meter_word_count (length words) (omega (arith, stored.sized)))
-          ∙ list_of-ext 0 (meter_word_next x words input) meter_word_count words stored.sized (λ j less. rw smooth))
+          rw smooth (list_of-ext 0 (meter_word_next x words input) meter_word_count words stored.sized (λ j less. rw smooth))
       by-kind false ring =
           let inside : place < length words = omega (arith, place-within ring, stored.sized) in
           rw ring
@@ -141,4 +139,4 @@ module _ (x : SourceMeter) (words : List ℕ) (input : ℕ) (usable : meter_unus
       by-kind true smooth =
           let fits : block_before x + input ≤ largest64 = omega (arith, block-before-le x, stored-le (uses_block x.declaration.kind) x.block.0 stored.block_fits, small) in
           rw smooth (ap (λ (n : ℕ). record { 0 = n }) (units-sum (record { 0 = block_before x }) (record { 0 = input }) fits))
-      by-kind false ring = rw ring (pick_true _ _ _ (lt-ltb place meter_word_count (place-within ring)))
+      by-kind false ring = rw ring

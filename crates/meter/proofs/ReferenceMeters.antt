@@ -1,6 +1,6 @@
 -- Inputs that the programs do not say, as tables that are computed from the definitions: a meter's words of a wrong length; inputs taken and refused at each row of
 -- document 02, item 6; declarations of several rows that are refused; and where an input goes.
-use Rattle.std.proofs.Common.{◌≡◌, ℕ, ◌+◌, ◌<◌, ◌≤◌, Bool, true, false, ltb, List, [], ◌∷◌, ◌++◌, length, replicate, sym, refl, ap, ◌∙◌, arith, length-append, get_or-append-add}
+use Rattle.std.proofs.Common.{◌≡◌, ℕ, ◌+◌, ◌<◌, ◌≤◌, Bool, true, false, Option, Some, None, Result, Ok, Err, ltb, List, [], ◌∷◌, ◌++◌, length, replicate, sym, refl, ap, ◌∙◌, arith, length-append, get_or-append-add}
 use native.Mathlib.Nat.{le_dest}
 use native.Mathlib.Decide.{dec_lt}
 use lib.ListN.{length-replicate, get_or-replicate, get_or-append}
@@ -18,9 +18,8 @@ use Rattle.words.specs.Stored.{word_at, stored_fits, word_fits}
 use Rattle.meter.specs.Meter
 use Rattle.meter.specs.Parts
 use Rattle.meter.specs.declared.SourceMeter.{SourceMeter}
-use Rattle.meter.specs.declared.Intake.{Intake}
-use Rattle.meter.specs.declared.Metered.{Metered}
-use Rattle.meter.specs.declared.Room.{Room}
+use Rattle.quantity.specs.declared.Units.{Units}
+use Rattle.quantity.specs.declared.refusal.Refusal.{Refusal}
 use Rattle.meter.proofs.UsableMeter.{meter-usable, wrong-length, unused-set}
 
 -- a meter at a slot, with nothing in its block
@@ -33,16 +32,13 @@ pub data Outcome : Type 0 where
   taken : ℕ → ℕ → Outcome
   room : ℕ → Outcome
 
-abbrev pub intake_outcome : Intake → SourceMeter → Outcome
-intake_outcome Intake.Taken next = taken next.block.0 next.slot.0
-intake_outcome (Intake.Refused why) next = refused (refusal_number why) (refusal_place why)
+abbrev pub meter_outcome : Result SourceMeter Refusal → Outcome
+meter_outcome (Ok next) = taken next.block.0 next.slot.0
+meter_outcome (Err why) = refused (refusal_number why) (refusal_place why)
 
-abbrev pub meter_outcome : Metered → Outcome
-meter_outcome answer = intake_outcome answer.intake answer.state
-
-abbrev pub room_outcome : Room → Outcome
-room_outcome (Room.AtMost most) = room most.0
-room_outcome (Room.Refused why) = refused (refusal_number why) (refusal_place why)
+abbrev pub room_outcome : Result Units Refusal → Outcome
+room_outcome (Ok most) = room most.0
+room_outcome (Err why) = refused (refusal_number why) (refusal_place why)
 
 -- Words with nothing behind the first ones are tested by these alone.
 none-fits : (used : Bool) → stored_fits used 0 ≡ true
@@ -214,18 +210,15 @@ reference-declared =
 abbrev pub in_block : ℕ → SourceMeter
 in_block t = record { declaration = of_one_row Kind.Smooth 3 5; slot = record { 0 = t }; block = record { 0 = 4 } }
 
-pub places-computed : List ℕ
+pub places-computed : List (Option ℕ × ℕ)
 places-computed =
-    Parts.input_place camera
-    ∷ (Parts.block_behind (Parts.awaited_of camera []) (record { 0 = 5 })).0
-    ∷ Parts.input_place (in_block 4)
-    ∷ (Parts.block_behind (Parts.awaited_of (in_block 4) []) (record { 0 = 1 })).0
-    ∷ Parts.input_place (in_block 6)
-    ∷ (Parts.block_behind (Parts.awaited_of (in_block 6) []) (record { 0 = 1 })).0
+    (Parts.input_place camera, (Parts.block_behind (Parts.awaited_of camera []) (record { 0 = 5 })).0)
+    ∷ (Parts.input_place (in_block 4), (Parts.block_behind (Parts.awaited_of (in_block 4) []) (record { 0 = 1 })).0)
+    ∷ (Parts.input_place (in_block 6), (Parts.block_behind (Parts.awaited_of (in_block 6) []) (record { 0 = 1 })).0)
     ∷ []
 
-pub places-expected : List ℕ
-places-expected = 1 ∷ 0 ∷ 1_024 ∷ 5 ∷ 1_024 ∷ 1 ∷ []
+pub places-expected : List (Option ℕ × ℕ)
+places-expected = (Some 1, 0) ∷ (None, 5) ∷ (None, 1) ∷ []
 
 pub reference-places : places-computed ≡ places-expected
 unfolding places-computed places-expected row_count row_at last_row units_sum Meter.uses_block Meter.ring_length Meter.block_before Parts.input_place Parts.awaited_of Parts.block_behind

@@ -16,7 +16,7 @@ use Rattle.flow.specs.declared.Kind.{Kind}
 use Rattle.flow.specs.declared.Declaration.{Declaration}
 use Rattle.meter.specs.declared.SourceMeter.{SourceMeter}
 use Rattle.flow.proofs.Declarations.{rows-count, rows-range, one-count, one_at, one_last, one-unused}
-use Rattle.words.proofs.StoredLaws.{total-used}
+use Rattle.words.proofs.StoredLaws.{total-used, either-last}
 use Rattle.words.proofs.ScanLaws.{unused-fits}
 use Rattle.meter.proofs.RingLaws.{age-total, ring-last}
 
@@ -220,6 +220,13 @@ module _ (x : SourceMeter) (words : List ℕ) where
       (either-none clear_test _ (ap not usable.clear)
       (either-none block_test _ (ap not usable.block_fits)
       (either-none words_test _ (ap not usable.words_fit) refl))))
+
+  -- where all that is not a word fits, the words decide
+  pub words-decide : length words ≡ meter_word_count → x.slot.0 ≤ last_slot → unused_clear x.declaration ≡ true → stored_fits (uses_block x.declaration.kind) x.block.0 ≡ true
+      → meter_unusable x words ≡ words_test
+  unfolding meter_unusable
+  words-decide sized slot-left clear block-fits =
+      rw (eq-eqb (length words) meter_word_count sized, le-ltb last_slot x.slot.0 slot-left, clear, block-fits) (either-last words_test)
 
   pub wrong-length : (length words ≡ meter_word_count → ⊥) → meter_unusable x words ≡ true
   unfolding meter_unusable

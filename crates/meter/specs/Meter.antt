@@ -1,18 +1,17 @@
 -- Sections 2, 6 and 7, and document 02, item 6: the calls on a meter and its 1,024 words.
-use Rattle.std.specs.Prelude.{ℕ, zero, suc, ◌+◌, ◌-◌, ◌%◌, min, Bool, true, false, not, leb, List, [], ◌∷◌, ◌++◌, length, ◌==◌, nat_le, nat_lt}
+use Rattle.std.specs.Prelude.{ℕ, zero, suc, ◌+◌, ◌-◌, ◌%◌, min, Bool, true, false, Result, Ok, Err, not, leb, List, [], ◌∷◌, ◌++◌, length, ◌==◌, nat_le, nat_lt}
 use Rattle.quantity.specs.Choice.{pick, both, either, any_of}
 use Rattle.quantity.specs.Sums.{total, every, list_of}
 use Rattle.quantity.specs.Limits.{largest_amount, last_slot}
 use Rattle.quantity.specs.Refusals.{Case, ◌⇒◌, first_of}
+use Rattle.quantity.specs.declared.Units.{Units}
+use Rattle.quantity.specs.declared.refusal.Refusal.{Refusal}
 use Rattle.quantity.specs.declared.refusal.Refusal.TheVariants.{Unusable, OutOfRange, InputBreaksDeclaration, RowsOutOfOrder}
 use Rattle.flow.specs.Declarations.{by_kind, most_rows, row_count, row_at, last_row, declaration_in_range, rows_in_order, unused_clear}
 use Rattle.words.specs.Stored.{word_at, stored_fits, word_fits}
 use Rattle.flow.specs.declared.Kind.{Kind}
 use Rattle.flow.specs.declared.Declaration.{Declaration}
 use Rattle.meter.specs.declared.SourceMeter.{SourceMeter}
-use Rattle.meter.specs.declared.Room.{Room}
-use Rattle.meter.specs.declared.Intake.{Intake}
-use Rattle.meter.specs.declared.Metered.{Metered}
 
 -- a meter's words
 abbrev pub meter_word_count : ℕ
@@ -72,12 +71,12 @@ abbrev pub declaration_cases : Declaration → List Case
 declaration_cases declared = (not (declaration_in_range declared) ⇒ OutOfRange 0) ∷ (not (rows_in_order declared) ⇒ RowsOutOfOrder 0) ∷ []
 
 -- the room, or the refusal: 1, 5, 15, and 13 where not even 0 keeps the declaration
-unfoldable pub room_of : SourceMeter → List ℕ → Room
+unfoldable pub room_of : SourceMeter → List ℕ → Result Units Refusal
 room_of x words =
     first_of
     ((meter_unusable x words ⇒ Unusable) ∷ declaration_cases x.declaration ++ ((input_breaks x words 0 ⇒ InputBreaksDeclaration) ∷ []))
-    Room.Refused
-    (Room.AtMost (record { 0 = room_in x words }))
+    Err
+    (Ok (record { 0 = room_in x words }))
 
 -- a meter goes through 1, 5, 15 and 13; what it then stores is at most the quota or the input, so no amount above the limit
 abbrev pub meter_cases : SourceMeter → List ℕ → ℕ → List Case
@@ -97,10 +96,9 @@ meter_word_next x words input j =
     pick (uses_block x.declaration.kind) (word_at words j)
     (pick (j == x.slot.0 % ring_length x.declaration) input (word_at words j))
 
--- what a meter answers; refused, it hands back the state that it was given
-unfoldable pub meter_of : SourceMeter → List ℕ → ℕ → Metered
-meter_of x words input =
-    first_of (meter_cases x words input) (λ why. record { intake = Intake.Refused why; state = x }) (record { intake = Intake.Taken; state = meter_next x input })
+-- what a meter answers: the state once the input is taken, or the refusal
+unfoldable pub meter_of : SourceMeter → List ℕ → ℕ → Result SourceMeter Refusal
+meter_of x words input = first_of (meter_cases x words input) Err (Ok (meter_next x input))
 
 -- what its words hold then; a refused input writes nothing
 unfoldable pub meter_words_after : SourceMeter → List ℕ → ℕ → List ℕ

@@ -250,7 +250,7 @@ past-none d r c zero a above = refl
 past-none d r c (suc n) a above = pick-false _ _ _ (le-ltb a d above)
 
 no-filter : (d : ℕ) (R : Rate) → delayer d ≡ Filter R → ⊥
-no-filter d R e = let never : ◌≡◌ {A = ℕ} 0 1 = cc in omega arith
+no-filter d R e = cc
 
 delay-inside : (d : ℕ) → 1 ≤ d → d ≤ word_count → number_in_range (delayer d) ≡ true
 unfolding number_in_range in_range

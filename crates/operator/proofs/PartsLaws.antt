@@ -1,9 +1,9 @@
 -- A step in its parts: what a decision and the keeping answer, from their tests in plain facts, and what they answer where what is stored can be used.
-use Rattle.std.proofs.Common.{◌≡◌, ℕ, suc, ◌+◌, ◌-◌, ◌<◌, ◌≤◌, min, Bool, true, false, not, ltb, List, [], ◌∷◌, length, sym, refl, ap, ◌∙◌, ap₂, arith, ltb-false, ltb-true, le-ltb, lt-ltb}
+use Rattle.std.proofs.Common.{◌≡◌, ℕ, suc, ◌+◌, ◌-◌, ◌<◌, ◌≤◌, min, Bool, true, false, not, ◌||◌, ltb, List, [], ◌∷◌, length, sym, refl, ap, ◌∙◌, ap₂, arith, ltb-false, ltb-true, le-ltb, lt-ltb, Result, Ok, Err}
 use Rattle.quantity.specs.Choice.{pick, either, any_of}
 use Rattle.quantity.specs.Limits.{largest_amount}
 use Rattle.quantity.specs.Sums.{total, list_of}
-use Rattle.quantity.proofs.Laws.{pick_true, pick-false, either-false, either_first, either_second}
+use Rattle.quantity.proofs.Laws.{pick_true, pick-false, either-false}
 use Rattle.quantity.proofs.Sums.{total-suc, total-le, total_first, length-list_of, get_d-list_of, list_of-ext}
 use Rattle.operator.specs.Held.{Held, keeps}
 use Rattle.operator.specs.Limiter.{limiter_after}
@@ -19,8 +19,7 @@ use Rattle.operator.specs.Parts.{most_on_the_way, holds_with, undecidable, sent_
 use Rattle.operator.specs.declared.Operator.{Operator}
 use Rattle.operator.specs.declared.Operator.TheVariants.{Limiter, Compactor, Expander, Filter, Delayer}
 use Rattle.operator.specs.declared.SingleOperator.{SingleOperator}
-use Rattle.operator.specs.declared.parts.Decided.{Decided}
-use Rattle.operator.specs.declared.parts.Kept.{Kept}
+use Rattle.operator.specs.declared.parts.Unsent.{Unsent}
 use Rattle.operator.proofs.Conservation.{greatest-le-there, least-le-greatest}
 use Rattle.operator.proofs.Steps.{after-b}
 use Rattle.words.proofs.StoredLaws.{Fit, unfit_tests, fit, amounts-tested, none-unfit, any_of-append, either-last}
@@ -34,20 +33,24 @@ pub record Decidable (x : SingleOperator) (words : List ℕ) (b input choice : �
   pub input_le : input ≤ most_on_the_way
   pub choice_le : choice ≤ largest_amount
 
+or-tests : (t u v : Bool) → (t || u || v) ≡ either t (any_of (u ∷ v ∷ []))
+or-tests true u v = refl
+or-tests false true v = refl
+or-tests false false true = refl
+or-tests false false false = refl
+
 module _ (x : SingleOperator) (words : List ℕ) (b input choice : ℕ) where
   undecidable-tests : undecidable x words b input choice
       ≡ either (any_of (unfit_tests (length words) word_count x.slot.0 b x.beside.0)) (any_of (ltb most_on_the_way input ∷ ltb largest_amount choice ∷ []))
   unfolding undecidable
   undecidable-tests = any_of-append (unfit_tests (length words) word_count x.slot.0 b x.beside.0) (ltb most_on_the_way input ∷ ltb largest_amount choice ∷ [])
 
-  pub undecidable-unfit : any_of (unfit_tests (length words) word_count x.slot.0 b x.beside.0) ≡ true → true ≡ undecidable x words b input choice
-  undecidable-unfit test = sym (undecidable-tests ∙ either_first _ _ test)
-
-  pub undecidable-input : most_on_the_way < input → true ≡ undecidable x words b input choice
-  undecidable-input above =
-      sym
-      (undecidable-tests
-      ∙ either_second (any_of (unfit_tests (length words) word_count x.slot.0 b x.beside.0)) _ (either_first _ _ (lt-ltb most_on_the_way input above)))
+  pub undecidable-joined : {unfit : Bool} → unfit ≡ any_of (unfit_tests (length words) word_count x.slot.0 b x.beside.0)
+      → (unfit || ltb most_on_the_way input || ltb largest_amount choice) ≡ undecidable x words b input choice
+  undecidable-joined tested =
+      or-tests _ (ltb most_on_the_way input) (ltb largest_amount choice)
+      ∙ ap (λ (t : Bool). either t (any_of (ltb most_on_the_way input ∷ ltb largest_amount choice ∷ []))) tested
+      ∙ sym undecidable-tests
 
   pub undecidable-choice : any_of (unfit_tests (length words) word_count x.slot.0 b x.beside.0) ≡ false → input ≤ most_on_the_way
       → ltb largest_amount choice ≡ undecidable x words b input choice
@@ -68,12 +71,12 @@ module _ (x : SingleOperator) (words : List ℕ) (b input choice : ℕ) where
         choice_le = ltb-false largest_amount choice choice_test;
       }
 
-  pub decided-undecidable : undecidable x words b input choice ≡ true → Decided.Undecidable ≡ decided_of x words b input choice
+  pub decided-undecidable : undecidable x words b input choice ≡ true → Err Unsent.Undecidable ≡ decided_of x words b input choice
   unfolding decided_of
   decided-undecidable test = rw test
 
   module _ (passed : undecidable x words b input choice ≡ false) where
-    pub decided-outside : number_in_range x.operator ≡ false → Decided.OutOfRange ≡ decided_of x words b input choice
+    pub decided-outside : number_in_range x.operator ≡ false → Err Unsent.OutOfRange ≡ decided_of x words b input choice
     unfolding decided_of
     decided-outside outside = rw (passed, outside)
 
@@ -87,12 +90,12 @@ module _ (x : SingleOperator) (words : List ℕ) (b input choice : ℕ) where
       unfolding sent_with
       sent-same = ap (λ (l : ℕ). l + choice) low_same
 
-      pub decided-above : g - l < choice → Decided.ChoiceAbove ≡ decided_of x words b input choice
+      pub decided-above : g - l < choice → Err Unsent.ChoiceAbove ≡ decided_of x words b input choice
       unfolding decided_of
       decided-above above = rw (passed, inside, choice-tested ∙ lt-ltb (g - l) choice above)
 
       pub decided-sends : choice ≤ g - l → (kept h : ℕ) → kept ≡ b + input - (l + choice) → ((s : ℕ) → h ≡ (held_after x.operator (holds_with x words b) input s).h)
-          → Decided.Sends (record { 0 = l + choice }) (record { 0 = kept }) (record { 0 = h }) ≡ decided_of x words b input choice
+          → Ok (record { output = record { 0 = l + choice }; kept = record { 0 = kept }; beside = record { 0 = h } }) ≡ decided_of x words b input choice
       unfolding decided_of
       decided-sends below kept h Kept-same h-same =
           let s = sent_with x words b input choice in
@@ -103,15 +106,15 @@ module _ (x : SingleOperator) (words : List ℕ) (b input choice : ℕ) where
 
 module _ (x : SingleOperator) (words : List ℕ) (input kept beside : ℕ) where
   -- what keeping answers, and what the words are then
-  abbrev Keeping : Kept → List ℕ → Type 0
+  abbrev pub Keeping : Result SingleOperator Unsent → List ℕ → Type 0
   Keeping answer after = (answer ≡ kept_of x words kept beside) × (after ≡ words_kept x words input kept beside)
 
-  pub kept-unfit : any_of (unfit_tests (length words) word_count x.slot.0 kept beside) ≡ true → Keeping Kept.Unfit words
+  pub kept-unfit : any_of (unfit_tests (length words) word_count x.slot.0 kept beside) ≡ true → Keeping (Err Unsent.Unfit) words
   unfolding kept_of words_kept
   kept-unfit test = (sym (pick_true _ _ _ test), sym (pick_true _ _ _ test))
 
   module _ (passed : any_of (unfit_tests (length words) word_count x.slot.0 kept beside) ≡ false) where
-    pub kept-outside : number_in_range x.operator ≡ false → Keeping Kept.OutOfRange words
+    pub kept-outside : number_in_range x.operator ≡ false → Keeping (Err Unsent.OutOfRange) words
     unfolding kept_of words_kept
     kept-outside outside = (
       sym (pick-false _ _ _ passed ∙ pick_true _ _ _ (ap not outside)),
@@ -119,7 +122,7 @@ module _ (x : SingleOperator) (words : List ℕ) (input kept beside : ℕ) where
     )
 
     module _ (inside : number_in_range x.operator ≡ true) where
-      keeping : Keeping (Kept.Next (state_kept x kept beside)) (list_of (word_kept x words input kept) word_count)
+      keeping : Keeping (Ok (state_kept x kept beside)) (list_of (word_kept x words input kept) word_count)
       unfolding kept_of words_kept
       keeping = (
         sym (pick-false _ _ _ passed ∙ pick-false _ _ _ (ap not inside)),
@@ -135,10 +138,10 @@ module _ (x : SingleOperator) (words : List ℕ) (input kept beside : ℕ) where
         word-kept a false e = unused a (ltb-false a (words_used x.operator) e)
 
         pub kept-newest : (field : ℕ) → field ≡ pick (uses_held x.operator) kept 0
-            → Keeping (Kept.Next (record { operator = x.operator; slot = record { 0 = x.slot.0 + 1 }; held = record { 0 = field }; beside = record { 0 = beside } })) after
+            → Keeping (Ok (record { operator = x.operator; slot = record { 0 = x.slot.0 + 1 }; held = record { 0 = field }; beside = record { 0 = beside } })) after
         unfolding state_kept word_kept
         kept-newest field field-same = (
-          ap (λ (f : ℕ). Kept.Next (record { operator = x.operator; slot = record { 0 = x.slot.0 + 1 }; held = record { 0 = f }; beside = record { 0 = beside } })) field-same ∙ keeping.0,
+          ap (λ (f : ℕ). Ok (record { operator = x.operator; slot = record { 0 = x.slot.0 + 1 }; held = record { 0 = f }; beside = record { 0 = beside } })) field-same ∙ keeping.0,
           list_of-ext 0 _ word_count after size (λ a less. word-kept a (ltb a (words_used x.operator)) refl) ∙ keeping.1,
         )
 
@@ -200,8 +203,8 @@ module _ (x : SingleOperator) (words : List ℕ) (stored : Usable x words) where
   module _ (inside : number_in_range x.operator ≡ true) where
     pub decided-next : (input choice : ℕ) → input ≤ most_on_the_way → choice ≤ largest_amount
         → decided_of x words (holds x words).b input choice
-        ≡ pick (choice_above x words input choice) Decided.ChoiceAbove
-        (Decided.Sends (record { 0 = sent x words input choice }) (record { 0 = (holds_next x words input (sent x words input choice)).b }) (record { 0 = (holds_next x words input (sent x words input choice)).h }))
+        ≡ pick (choice_above x words input choice) (Err Unsent.ChoiceAbove)
+        (Ok (record { output = record { 0 = sent x words input choice }; kept = record { 0 = (holds_next x words input (sent x words input choice)).b }; beside = record { 0 = (holds_next x words input (sent x words input choice)).h } }))
     unfolding decided_of choice_above_with sent_with choice_above sent holds_next holds
     decided-next input choice within fits =
         pick-false _ _ _ (choice-alone input choice within ∙ le-ltb largest_amount choice fits) ∙ pick-false _ _ _ (ap not inside)
@@ -245,16 +248,16 @@ module _ (x : SingleOperator) (words : List ℕ) (stored : Usable x words) where
       left-tested = amounts-tested (length words) word_count x.slot.0 b-next h-next stored.sized stored.slot_left
 
       pub kept_next : (holds_next x words input s).b ≤ largest_amount → (holds_next x words input s).h ≤ largest_amount
-          → (kept_of x words (holds_next x words input s).b (holds_next x words input s).h ≡ Kept.Next (state_next x words input s))
+          → (kept_of x words (holds_next x words input s).b (holds_next x words input s).h ≡ Ok (state_next x words input s))
           × (words_kept x words input (holds_next x words input s).b (holds_next x words input s).h ≡ words_next x words input s)
       kept_next b-fits h_fits =
           let tested = none-unfit (length words) word_count x.slot.0 b-next h-next (record { sized = stored.sized; slot_left = stored.slot_left; first_le = b-fits; second_le = h_fits }) in
           let (answer, after) = keeping x words input b-next h-next tested inside in
-          (sym answer ∙ ap Kept.Next state-next, sym after ∙ words-next)
+          (sym answer ∙ ap Ok state-next, sym after ∙ words-next)
 
       -- 1, tested last, is the test of what is kept
       pub kept-or-unfit : (more : Bool) → leaves_too_much x words input s ≡ more
-          → (kept_of x words (holds_next x words input s).b (holds_next x words input s).h ≡ pick more Kept.Unfit (Kept.Next (state_next x words input s)))
+          → (kept_of x words (holds_next x words input s).b (holds_next x words input s).h ≡ pick more (Err Unsent.Unfit) (Ok (state_next x words input s)))
           × (words_kept x words input (holds_next x words input s).b (holds_next x words input s).h ≡ pick more words (words_next x words input s))
       kept-or-unfit true leaves =
           let (answer, after) = kept-unfit x words input b-next h-next (left-tested ∙ leaves) in

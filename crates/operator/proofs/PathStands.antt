@@ -73,7 +73,7 @@ module _ (x : PathOperator) (words : List ℕ) (apart : uses_held x.operator ≡
       }
     where
       never : uses_held x.operator ≡ false → ⊥
-      never e = let z : ◌≡◌ {A = ℕ} 0 1 = cc in omega arith
+      never e = cc
 
 -- with nothing held in any slot
 pub fields-new : (op : Operator) (slot : Slots) (words : List ℕ) → uses_held op ≡ true → length words ≡ word_count → ((a : ℕ) → word_at words a ≡ 0)
@@ -203,7 +203,7 @@ whole_fields (Limiter R) y apart = tt
 whole_fields (Compactor m) y apart = tt
 whole_fields (Expander m) y apart = tt
 whole_fields (Filter R) y apart = tt
-whole_fields (Delayer d) y apart = let never : ◌≡◌ {A = ℕ} 0 1 = cc in absurd (omega arith)
+whole_fields (Delayer d) y apart = cc
 
 module _ (x : PathOperator) (words : List ℕ) (r d : ℕ) (same : x.operator ≡ delayer d) where
   least-held : path_least x words r ≤ (path_holds x words).b

@@ -1,5 +1,5 @@
 -- What the programs do not say of a delayer's ring, as tables that are computed from the definitions: totals just before and after they wrap, worked out by hand, and words that no slot wrote.
-use Rattle.std.proofs.Common.{◌≡◌, ℕ, Bool, true, false, List, [], ◌∷◌, ◌++◌, replicate, refl}
+use Rattle.std.proofs.Common.{◌≡◌, ℕ, Bool, true, false, List, [], ◌∷◌, ◌++◌, replicate, refl, Result, Ok, Err}
 use Rattle.quantity.specs.Ranges.{in_range}
 use Rattle.quantity.specs.Sums.{every, list_of}
 use Rattle.words.specs.Stored.{stored_fits, word_noted}
@@ -9,6 +9,7 @@ use Rattle.operator.specs.Single.{uses_held, uses_beside, words_used}
 use Rattle.operator.specs.Ring
 use Rattle.operator.specs.declared.Operator.{Operator}
 use Rattle.operator.specs.declared.ring.Advanced.{Advanced}
+use Rattle.operator.specs.declared.ring.Halted.{Halted}
 use Rattle.operator.specs.declared.ring.PathOperator.{PathOperator}
 
 -- an operator with its next slot and its totals
@@ -75,7 +76,7 @@ unfolding before before_words every stored_fits uses_held uses_beside words_used
 reference-usable = refl
 
 -- choices from 3 to the greatest, 40 less 5, and one above; an input that leaves more than may be stored, and one that is more than can be on the way; a delayer 65
-pub advances : List Advanced
+pub advances : List (Result Advanced Halted)
 advances =
     Ring.advanced_of before before_words 10 3
     ∷ Ring.advanced_of before before_words 10 35
@@ -85,14 +86,14 @@ advances =
     ∷ Ring.advanced_of (counting (delayer 65) 7 30 0) (clear_behind [] 64) 10 3
     ∷ []
 
-pub expected_advances : List Advanced
+pub expected_advances : List (Result Advanced Halted)
 expected_advances =
-    Advanced.Sends (record { 0 = 8 }) true (counting (delayer 3) 7 4 4_294_967_268) 1
-    ∷ Advanced.Sends (record { 0 = 40 }) true (counting (delayer 3) 7 4 4) 1
-    ∷ Advanced.ChoiceAbove
-    ∷ Advanced.Sends (record { 0 = 5 }) false (counting (delayer 3) 7 1_073_741_817 4_294_967_265) 1
-    ∷ Advanced.Unusable
-    ∷ Advanced.Unusable
+    Ok (record { output = record { 0 = 8 }; fits = true; next = counting (delayer 3) 7 4 4_294_967_268; at = 1 })
+    ∷ Ok (record { output = record { 0 = 40 }; fits = true; next = counting (delayer 3) 7 4 4; at = 1 })
+    ∷ Err Halted.ChoiceAbove
+    ∷ Ok (record { output = record { 0 = 5 }; fits = false; next = counting (delayer 3) 7 1_073_741_817 4_294_967_265; at = 1 })
+    ∷ Err Halted.Unusable
+    ∷ Err Halted.Unusable
     ∷ []
 
 pub reference-advances : advances ≡ expected_advances

@@ -1,5 +1,5 @@
 -- What the programs do not say, as tables that are computed from the definitions: a decision at the most that can be on the way within a path, and steps with words of a wrong length.
-use Rattle.std.proofs.Common.{◌≡◌, ℕ, List, [], ◌∷◌, replicate, refl}
+use Rattle.std.proofs.Common.{◌≡◌, ℕ, List, [], ◌∷◌, replicate, refl, Result, Ok, Err}
 use Rattle.quantity.specs.Limits.{largest_amount}
 use Rattle.quantity.specs.Ranges.{in_range}
 use Rattle.quantity.specs.Sums.{total, every}
@@ -13,8 +13,10 @@ use Rattle.operator.specs.Single
 use Rattle.operator.specs.Parts
 use Rattle.operator.specs.declared.Operator.{Operator}
 use Rattle.operator.specs.declared.SingleOperator.{SingleOperator}
-use Rattle.operator.specs.declared.parts.Decided.{Decided}
-use Rattle.operator.specs.declared.single.Stepped.{Stepped}
+use Rattle.quantity.specs.declared.refusal.Refusal.{Refusal}
+use Rattle.operator.specs.declared.parts.Sending.{Sending}
+use Rattle.operator.specs.declared.parts.Unsent.{Unsent}
+use Rattle.operator.specs.declared.single.Sent.{Sent}
 
 -- a new operator that holds so much
 abbrev pub holding : Operator → ℕ → SingleOperator
@@ -25,19 +27,19 @@ pub data Outcome : Type 0 where
   refused : ℕ → ℕ → Outcome
   sent : ℕ → ℕ → ℕ → ℕ → Outcome
 
-abbrev pub step_outcome : Stepped → Outcome
-step_outcome (Stepped.Sent s next) = sent s.0 next.held.0 next.beside.0 next.slot.0
-step_outcome (Stepped.Refused why) = refused (refusal_number why) (refusal_place why)
+abbrev pub step_outcome : Result Sent Refusal → Outcome
+step_outcome (Ok step) = sent step.output.0 step.next.held.0 step.next.beside.0 step.next.slot.0
+step_outcome (Err why) = refused (refusal_number why) (refusal_place why)
 
 -- an expander 1 at the limit, at the most on the way, and at one more
-pub decisions : List Decided
+pub decisions : List (Result Sending Unsent)
 decisions =
     Parts.decided_of (holding (expander 1) largest_amount) (replicate 64 0) largest_amount 18_253_610_991 0
     ∷ Parts.decided_of (holding (expander 1) largest_amount) (replicate 64 0) largest_amount 18_253_610_992 0
     ∷ []
 
-pub expected_decisions : List Decided
-expected_decisions = Decided.Sends (record { 0 = 19_327_352_814 }) (record { 0 = 0 }) (record { 0 = 0 }) ∷ Decided.Undecidable ∷ []
+pub expected_decisions : List (Result Sending Unsent)
+expected_decisions = Ok (record { output = record { 0 = 19_327_352_814 }; kept = record { 0 = 0 }; beside = record { 0 = 0 } }) ∷ Err Unsent.Undecidable ∷ []
 
 pub reference-decisions : decisions ≡ expected_decisions
 unfolding decisions expected_decisions in_range keeps expander_least expander_greatest expander_after least_output greatest_output held_after number_in_range Parts.undecidable Parts.sent_with Parts.choice_above_with Parts.decided_of

@@ -1,9 +1,9 @@
 -- What the parts of an operator within a path rest on: wrapping sums and differences, what the tests show of the state and the words, and what the parts answer then.
-use Rattle.std.proofs.Common.{◌≡◌, ℕ, zero, suc, ◌+◌, ◌-◌, ◌*◌, ◌/◌, ◌%◌, ◌<◌, ◌≤◌, Bool, true, false, not, eqb, ltb, leb, List, length, take, drop, set, sym, refl, ap, ◌∙◌, ap₂, add-zero, add-suc, mod-lt, div-lt_iff_lt-mul, arith, length-drop, length-take-le, get_or-drop, get_or-set_other, get_or-take, get_or-set_same, ltb-false, le-ltb, lt-ltb, eq-eqb, ne_eqb, eqb-true, le-leb, leb-true}
+use Rattle.std.proofs.Common.{◌≡◌, ℕ, zero, suc, ◌+◌, ◌-◌, ◌*◌, ◌/◌, ◌%◌, ◌<◌, ◌≤◌, Bool, true, false, not, eqb, ltb, leb, List, length, take, drop, set, sym, refl, ap, ◌∙◌, ap₂, add-zero, add-suc, mod-lt, div-lt_iff_lt-mul, arith, length-drop, length-take-le, get_or-drop, get_or-set_other, get_or-take, get_or-set_same, ltb-false, le-ltb, lt-ltb, eq-eqb, ne_eqb, eqb-true, le-leb, leb-true, Ok, Err}
 use native.Mathlib.Nat.{add-mod-mod, div-eq_of_lt}
 use native.Mathlib.Decide.{dec_lt, ℕ_discrete}
 use lib.Bits.{bit_or}
-use borrow.Author.Tests.{lt-leb, not-false}
+use borrow.Author.Tests.{not-false}
 use Rattle.quantity.specs.Choice.{pick, both, either}
 use Rattle.quantity.specs.Limits.{largest_amount, last_slot}
 use Rattle.quantity.specs.Ranges.{delay_range}
@@ -18,14 +18,14 @@ use Rattle.operator.specs.Held.{Held}
 use Rattle.operator.specs.Operators.{least_output, greatest_output, held_after, number_in_range}
 use Rattle.operator.specs.Single.{word_count, words_used, uses_held, uses_beside}
 use Rattle.operator.specs.Parts.{most_on_the_way}
-use Rattle.operator.specs.Ring.{wrap, total_more, total_less, ring_held, ring_recent, ring_past, path_holds, path_least, path_greatest, word_unused, totals_fit, path_unusable, path_sent, path_choice_above, path_holds_next, total_next, path_state_kept, ring_word_next, path_advanced, storable, path_unready, path_holds_sent, ring_place, advanced_of, ring_noted}
+use Rattle.operator.specs.Ring.{wrap, total_more, ring_held, ring_recent, ring_past, path_holds, path_least, path_greatest, word_unused, totals_fit, path_unusable, path_sent, path_choice_above, path_holds_next, total_next, path_state_kept, ring_word_next, path_advanced, storable, path_unready, path_holds_sent, ring_place, advanced_of, ring_noted}
 use Rattle.operator.specs.Steps.{SendsWithin}
 use Rattle.operator.specs.declared.Operator.{Operator}
 use Rattle.operator.specs.declared.Operator.TheVariants.{Limiter, Compactor, Expander, Filter, Delayer}
 use Rattle.operator.specs.declared.ring.PathOperator.{PathOperator}
-use Rattle.operator.specs.declared.ring.Advanced.{Advanced}
+use Rattle.operator.specs.declared.ring.Halted.{Halted}
 use Rattle.operator.proofs.Steps.{after-b}
-use Rattle.operator.proofs.SingleLaws.{used-within}
+use Rattle.operator.proofs.SingleLaws.{contradiction, used-within}
 use Rattle.operator.proofs.DelayerRing.{RingStands}
 
 -- Wrapping.
@@ -35,19 +35,14 @@ pub more-wrapped : (total units : ℕ) → (total + units % wrap) % wrap ≡ tot
 unfolding total_more
 more-wrapped total units = add-mod-mod total units wrap
 
--- the number that the earlier total is added to, to wrap to the total
-pub less-wrapped : (total earlier r : ℕ) → earlier < wrap → r < wrap → (r + earlier) % wrap ≡ total → r ≡ total_less total earlier
-unfolding total_less
-less-wrapped total earlier r earlier-small small back = omega arith
-
 -- An operator that does not use its field is a delayer.
 
 pub delayer-used : (op : Operator) → number_in_range op ≡ true → uses_held op ≡ false → 1 ≤ words_used op
 unfolding number_in_range uses_held words_used
-delayer-used (Limiter R) inside apart = let never : ◌≡◌ {A = ℕ} 0 1 = cc in omega arith
-delayer-used (Compactor m) inside apart = let never : ◌≡◌ {A = ℕ} 0 1 = cc in omega arith
-delayer-used (Expander m) inside apart = let never : ◌≡◌ {A = ℕ} 0 1 = cc in omega arith
-delayer-used (Filter R) inside apart = let never : ◌≡◌ {A = ℕ} 0 1 = cc in omega arith
+delayer-used (Limiter R) inside apart = cc
+delayer-used (Compactor m) inside apart = cc
+delayer-used (Expander m) inside apart = cc
+delayer-used (Filter R) inside apart = cc
 delayer-used (Delayer d) inside apart = least-le delay_range d.0 inside
 
 -- and one that does uses no word
@@ -57,7 +52,7 @@ none-used (Limiter R) apart = refl
 none-used (Compactor m) apart = refl
 none-used (Expander m) apart = refl
 none-used (Filter R) apart = refl
-none-used (Delayer d) apart = let never : ◌≡◌ {A = ℕ} 0 1 = cc in absurd (omega arith)
+none-used (Delayer d) apart = cc
 
 -- What is lent and stored.
 
@@ -181,16 +176,6 @@ module _ (x : PathOperator) (words : List ℕ) where
   unfolding totals_fit
   ring-held-le ring passed = leb-true (ring_held x) largest_amount (sym (pick-false _ _ _ ring) ∙ (path-usable x words passed).totals_fit)
 
--- The test of what is stored.
-
-pub storable-first : (b h : ℕ) → b ≤ largest_amount → leb h largest_amount ≡ storable b h
-unfolding storable
-storable-first b h fits = rw (le-leb b largest_amount fits)
-
-pub storable-not : (b h : ℕ) → largest_amount < b → false ≡ storable b h
-unfolding storable
-storable-not b h above = rw (lt-leb b largest_amount above)
-
 -- The tests, by the kind.
 
 -- a stored amount fits just where it is at most so much
@@ -203,9 +188,6 @@ most-fits : (used : Bool) (amount : ℕ) → stored_fits used amount ≡ true �
 unfolding stored_fits
 most-fits true amount fits = leb-true amount largest_amount fits
 most-fits false amount fits = let none = eqb-true amount 0 fits in omega arith
-
-contradiction : {t : Bool} → t ≡ true → t ≡ false → ⊥
-contradiction e f = let z : ◌≡◌ {A = ℕ} 0 1 = cc in omega arith
 
 module _ (x : PathOperator) (words : List ℕ) (sized : length words ≡ word_count) (left : x.slot.0 ≤ last_slot) where
   module _ (apart : uses_held x.operator ≡ true) where
@@ -391,13 +373,22 @@ module _ (x : PathOperator) (words : List ℕ) (input : ℕ) where
   is-ready usable inside within =
       either-none (path_unusable x words) _ usable (either-none (not (number_in_range x.operator)) _ (ap not inside) (either-none (ltb most_on_the_way input) _ (le-ltb most_on_the_way input within) refl))
 
+  pub ready-usable : path_unready x words input ≡ false → path_unusable x words ≡ false
+  unfolding path_unready
+  ready-usable ready = (either-false (path_unusable x words) _ ready).0
+
+  pub ready-inside : path_unready x words input ≡ false → number_in_range x.operator ≡ true
+  unfolding path_unready
+  ready-inside ready = not-false _ (either-false (not (number_in_range x.operator)) _ (either-false (path_unusable x words) _ ready).1).0
+
   -- by section 3, with the operator named
-  pub sends-within : (op : Operator) → x.operator ≡ op → uses_held op ≡ true → path_unready x words input ≡ false → {low high beside : ℕ}
+  pub sends-within : (op : Operator) → x.operator ≡ op → uses_held op ≡ true → path_unready x words input ≡ false → {low high there beside : ℕ}
       → low ≡ least_output op x.slot.0 (record { b = x.held.0; h = x.beside.0; past = word_at words }) input
       → high ≡ greatest_output op x.slot.0 (record { b = x.held.0; h = x.beside.0; past = word_at words }) input
+      → there ≡ x.held.0 + input
       → ((s : ℕ) → beside ≡ (held_after op (record { b = x.held.0; h = x.beside.0; past = word_at words }) input s).h)
-      → SendsWithin x words input low high (x.held.0 + input) beside
-  sends-within op named apart ready low_same high_same beside_same =
+      → SendsWithin x words input low high there beside
+  sends-within op named apart ready low_same high_same all beside_same =
       let y : Held = record { b = x.held.0; h = x.beside.0; past = word_at words } in
       let uses : uses_held x.operator ≡ true = ap uses_held named ∙ apart in
       record {
@@ -405,12 +396,12 @@ module _ (x : PathOperator) (words : List ℕ) (input : ℕ) where
         ready = ready;
         least = low_same ∙ ap (λ (o : Operator). least_output o x.slot.0 y input) (sym named) ∙ least-apart uses;
         greatest = high_same ∙ ap (λ (o : Operator). greatest_output o x.slot.0 y input) (sym named) ∙ greatest-apart uses;
-        all = there-apart uses;
+        all = all ∙ there-apart uses;
         holds = λ s. beside_same s ∙ ap (λ (o : Operator). (held_after o y input s).h) (sym named) ∙ beside-apart uses s;
       }
 
 module _ (x : PathOperator) (words : List ℕ) (input choice : ℕ) where
-  pub advanced-unready : path_unready x words input ≡ true → Advanced.Unusable ≡ advanced_of x words input choice
+  pub advanced-unready : path_unready x words input ≡ true → Err Halted.Unusable ≡ advanced_of x words input choice
   unfolding advanced_of
   advanced-unready test = sym (pick_true _ _ _ test)
 
@@ -419,12 +410,12 @@ module _ (x : PathOperator) (words : List ℕ) (input choice : ℕ) where
     unfolding path_choice_above
     choice-tested = ap₂ (λ (l g : ℕ). ltb (g - l) choice) (sym low_same) (sym high_same)
 
-    pub advanced-above : g - l < choice → Advanced.ChoiceAbove ≡ advanced_of x words input choice
+    pub advanced-above : g - l < choice → Err Halted.ChoiceAbove ≡ advanced_of x words input choice
     unfolding advanced_of
     advanced-above above = sym (pick-false _ _ _ ready ∙ pick_true _ _ _ (choice-tested ∙ lt-ltb (g - l) choice above))
 
     pub advanced-sends : choice ≤ g - l → (kept h : ℕ) → kept ≡ (path_holds x words).b + input - (l + choice) → ((s : ℕ) → h ≡ (held_after x.operator (path_holds x words) input s).h)
-        → Advanced.Sends (record { 0 = l + choice }) (storable kept h) (path_advanced x input (l + choice) kept h) (ring_place x) ≡ advanced_of x words input choice
+        → Ok (record { output = record { 0 = l + choice }; fits = storable kept h; next = path_advanced x input (l + choice) kept h; at = ring_place x }) ≡ advanced_of x words input choice
     unfolding advanced_of path_sent path_holds_sent path_holds_next
     advanced-sends below kept h Kept-same h-same =
         let s = path_sent x words input choice in

@@ -1,5 +1,5 @@
 -- What the calls on a single operator rest on: what their tests show of the state and the words, and what the bounds answer then.
-use Rattle.std.proofs.Common.{◌≡◌, ℕ, zero, suc, ◌+◌, ◌-◌, ◌<◌, ◌≤◌, Bool, true, false, not, eqb, ltb, List, length, sym, refl, ap, ◌∙◌, not-suc-le-zero, arith, ltb-false, le-ltb, lt-ltb, eq-eqb, eqb-true}
+use Rattle.std.proofs.Common.{◌≡◌, ℕ, zero, suc, ◌+◌, ◌-◌, ◌<◌, ◌≤◌, Bool, true, false, not, eqb, ltb, List, length, sym, refl, ap, ◌∙◌, not-suc-le-zero, arith, ltb-false, le-ltb, lt-ltb, eq-eqb, eqb-true, Option, Some, None, Result, Ok, Err}
 use borrow.Author.Tests.{not-false}
 use Rattle.quantity.specs.Choice.{pick}
 use Rattle.quantity.specs.Sums.{total, every}
@@ -7,7 +7,8 @@ use Rattle.quantity.specs.Limits.{largest_amount, last_slot}
 use Rattle.quantity.specs.Ranges.{delay_range}
 use Rattle.quantity.specs.declared.Units.{Units}
 use Rattle.quantity.specs.declared.refusal.Refusal.TheVariants.{Unusable, OutOfRange}
-use Rattle.quantity.proofs.Laws.{either-false, either_first, either_second, either-none, le-largest}
+use Rattle.quantity.specs.declared.refusal.Refusal.{Refusal}
+use Rattle.quantity.proofs.Laws.{Told, option-told, pick-false, either-false, either_first, either_second, either-none, le-largest}
 use Rattle.quantity.proofs.Sums.{total-zero}
 use Rattle.operator.specs.Held.{Held}
 use Rattle.operator.specs.Delayer.{of_age}
@@ -18,11 +19,16 @@ use Rattle.operator.specs.Single.{word_count, words_used, uses_held, uses_beside
 use Rattle.operator.specs.Parts.{stored_of, holds_with}
 use Rattle.words.proofs.StoredLaws
 use Rattle.words.proofs.StoredLaws.{stored-le}
+use Rattle.words.proofs.ScanLaws.{scan_few}
+use Rattle.words.specs.Scanning.{scanned_of}
 use Rattle.operator.specs.declared.Operator.{Operator}
 use Rattle.operator.specs.declared.Operator.TheVariants.{Limiter, Compactor, Expander, Filter, Delayer}
 use Rattle.operator.specs.declared.SingleOperator.{SingleOperator}
-use Rattle.operator.specs.declared.single.Bounds.{Bounds}
-use Rattle.operator.specs.declared.parts.Stored.{Stored}
+use Rattle.operator.specs.declared.single.Outputs.{Outputs}
+
+-- a test that holds does not fail
+pub contradiction : {t : Bool} → t ≡ true → t ≡ false → ⊥
+contradiction e f = cc
 
 -- what is lent and stored can be used
 pub record Usable (x : SingleOperator) (words : List ℕ) : Type 0 where
@@ -153,49 +159,60 @@ unfolding of_age
 of-age-same x y r zero e = refl
 of-age-same x y r (suc a) e = rw e
 
+-- what the scan of an operator's words tells of them
+pub scanned-told : (op : Operator) (words : List ℕ) → length words ≡ word_count → {used : ℕ} → used ≡ words_used op → {answer : Option ℕ} → answer ≡ scanned_of used words
+    → Told (every (word_fits (words_used op) words) word_count) (total (word_at words) word_count) Some None answer
+scanned-told op words sized same answered =
+    option-told
+    (answered
+    ∙ ap (λ (used : ℕ). scanned_of used words) same
+    ∙ scan_few (words_used op) words (omega arith)
+    ∙ ap (λ (n : ℕ). pick (every (word_fits (words_used op) words) n) (Some (total (word_at words) n)) None) sized)
+
 -- what the test of what is stored answers
 module _ (x : SingleOperator) (words : List ℕ) where
-  pub stored_refused : (Usable x words → ⊥) → Stored.Unusable ≡ stored_of x words
+  pub stored_refused : (Usable x words → ⊥) → None ≡ stored_of x words
   unfolding stored_of
   stored_refused not-usable = rw (stored-unusable x words not-usable)
 
-  pub stored-found : Usable x words → (held : ℕ) → held ≡ (holds x words).b → Stored.Holds (record { 0 = held }) ≡ stored_of x words
+  pub stored-found : Usable x words → (held : ℕ) → held ≡ (holds x words).b → Some (record { 0 = held }) ≡ stored_of x words
   unfolding stored_of
   stored-found stored held same = rw (stored-usable x words stored, same)
 
-  holds_picked : (t : Bool) (b : ℕ) (held : Units) → Stored.Holds held ≡ pick t Stored.Unusable (Stored.Holds (record { 0 = b })) → (t ≡ false) × (held.0 ≡ b)
+  holds_picked : (t : Bool) (b : ℕ) (held : Units) → Some held ≡ pick t None (Some (record { 0 = b })) → (t ≡ false) × (held.0 ≡ b)
   holds_picked true b held e = let z : ◌≡◌ {A = Bool} true false = cc in (z, (cc))
   holds_picked false b held e = let same : held ≡ record { 0 = b } = cc in (refl, ap (λ (u : Units). u.0) same)
 
-  pub stored-holds : {held : Units} → Stored.Holds held ≡ stored_of x words → Usable x words × (held.0 ≡ (holds x words).b)
+  pub stored-holds : {held : Units} → Some held ≡ stored_of x words → Usable x words × (held.0 ≡ (holds x words).b)
   unfolding stored_of
   stored-holds {held} answered =
       let (tested, same) = holds_picked (stored_unusable x words) (holds x words).b held answered in
       (usable x words tested, same)
 
-  unusable-picked : (t : Bool) (held : Units) → Stored.Unusable ≡ pick t Stored.Unusable (Stored.Holds held) → t ≡ true
-  unusable-picked true held e = refl
-  unusable-picked false held e = cc
-
-  pub stored-is-unusable : Stored.Unusable ≡ stored_of x words → stored_unusable x words ≡ true
+  -- it answers something, or what is stored is unusable
+  pub stored-none : {answer : Option Units} → answer ≡ stored_of x words → ((held : Units) → answer ≡ Some held → ⊥) → stored_unusable x words ≡ true
   unfolding stored_of
-  stored-is-unusable answered = unusable-picked (stored_unusable x words) _ answered
+  stored-none answered none = by-test (stored_unusable x words) refl
+    where
+      by-test : (t : Bool) → stored_unusable x words ≡ t → t ≡ true
+      by-test true e = refl
+      by-test false e = absurd (none (record { 0 = (holds x words).b }) (answered ∙ pick-false _ _ _ e))
 
 -- what the bounds answer
 module _ (x : SingleOperator) (words : List ℕ) (input : ℕ) where
-  pub bounds-unusable : unusable x words input ≡ true → Bounds.Refused Unusable ≡ bounds_of x words input
+  pub bounds-unusable : unusable x words input ≡ true → ◌≡◌ {A = Result Outputs Refusal} (Err Unusable) (bounds_of x words input)
   unfolding bounds_of
   bounds-unusable test = rw test
 
   module _ (passed : unusable x words input ≡ false) where
-    pub bounds-outside : number_in_range x.operator ≡ false → Bounds.Refused (OutOfRange 0) ≡ bounds_of x words input
+    pub bounds-outside : number_in_range x.operator ≡ false → ◌≡◌ {A = Result Outputs Refusal} (Err (OutOfRange 0)) (bounds_of x words input)
     unfolding bounds_of
     bounds-outside outside = rw (passed, outside)
 
     pub bounds-outputs : number_in_range x.operator ≡ true → (l g : ℕ)
         → l ≡ least_output x.operator x.slot.0 (holds x words) input
         → g ≡ greatest_output x.operator x.slot.0 (holds x words) input
-        → Bounds.Outputs (record { 0 = l }) (record { 0 = g }) ≡ bounds_of x words input
+        → Ok (record { least = record { 0 = l }; greatest = record { 0 = g } }) ≡ bounds_of x words input
     unfolding bounds_of
     bounds-outputs inside l g low_same high_same = rw (passed, inside, low_same, high_same)
 

@@ -1,5 +1,5 @@
 -- The five operators behind one name each for the least output, the greatest, and what is held after (section 3).
-use Rattle.std.specs.Prelude.{ℕ, Bool}
+use Rattle.std.specs.Prelude.{ℕ, Bool, List, [], ◌∷◌}
 use Rattle.quantity.specs.Ranges.{in_range, interval_range, rate_range, delay_range}
 use Rattle.operator.specs.Held.{Held}
 use Rattle.operator.specs.Limiter.{limiter_least, limiter_greatest, limiter_after}
@@ -41,6 +41,14 @@ number_in_range (Compactor m) = in_range interval_range m.0
 number_in_range (Expander m) = in_range interval_range m.0
 number_in_range (Filter R) = in_range rate_range R.0
 number_in_range (Delayer d) = in_range delay_range d.0
+
+-- the names of the kinds, in letters' numbers: limiter, compactor, expander, filter, delayer
+unfoldable pub name_of : Operator → List ℕ
+name_of (Limiter R) = 108 ∷ 105 ∷ 109 ∷ 105 ∷ 116 ∷ 101 ∷ 114 ∷ []
+name_of (Compactor m) = 99 ∷ 111 ∷ 109 ∷ 112 ∷ 97 ∷ 99 ∷ 116 ∷ 111 ∷ 114 ∷ []
+name_of (Expander m) = 101 ∷ 120 ∷ 112 ∷ 97 ∷ 110 ∷ 100 ∷ 101 ∷ 114 ∷ []
+name_of (Filter R) = 102 ∷ 105 ∷ 108 ∷ 116 ∷ 101 ∷ 114 ∷ []
+name_of (Delayer d) = 100 ∷ 101 ∷ 108 ∷ 97 ∷ 121 ∷ 101 ∷ 114 ∷ []
 
 -- the operators by their plain numbers
 abbrev pub limiter : ℕ → Operator

@@ -1,5 +1,5 @@
 -- The parts of a slot: test what is lent and stored, decide on numbers, keep what stays. Each is defined on all inputs, and answers the first of its tests that stands.
-use Rattle.std.specs.Prelude.{ℕ, ◌+◌, ◌-◌, ◌*◌, min, Bool, not, List, [], ◌∷◌, length, ◌==◌, nat_lt}
+use Rattle.std.specs.Prelude.{ℕ, ◌+◌, ◌-◌, ◌*◌, min, Bool, not, List, [], ◌∷◌, length, ◌==◌, nat_lt, Option, Some, None, Result, Ok, Err}
 use Rattle.quantity.specs.Choice.{pick, any_of}
 use Rattle.quantity.specs.Sums.{total, list_of}
 use Rattle.quantity.specs.Limits.{largest_amount, last_slot}
@@ -9,17 +9,18 @@ use Rattle.words.specs.Stored.{word_at}
 use Rattle.operator.specs.Operators.{least_output, greatest_output, held_after, number_in_range}
 use Rattle.operator.specs.Single.{word_count, words_used, uses_held, holds, stored_unusable}
 use Rattle.operator.specs.declared.SingleOperator.{SingleOperator}
-use Rattle.operator.specs.declared.parts.Stored.{Stored}
-use Rattle.operator.specs.declared.parts.Decided.{Decided}
-use Rattle.operator.specs.declared.parts.Kept.{Kept}
+use Rattle.quantity.specs.declared.Units.{Units}
+use Rattle.quantity.specs.declared.refusal.Refusal.{Refusal}
+use Rattle.operator.specs.declared.parts.Sending.{Sending}
+use Rattle.operator.specs.declared.parts.Unsent.{Unsent}
 
 -- what an input is at the most within a path: what sixteen operators at the limit and an input can bring
 abbrev pub most_on_the_way : ℕ
 most_on_the_way = 17 * largest_amount
 
 -- Test: section 3's b, unless what is lent and stored cannot be used
-unfoldable pub stored_of : SingleOperator → List ℕ → Stored
-stored_of x words = pick (stored_unusable x words) Stored.Unusable (Stored.Holds (record { 0 = (holds x words).b }))
+unfoldable pub stored_of : SingleOperator → List ℕ → Option Units
+stored_of x words = pick (stored_unusable x words) None (Some (record { 0 = (holds x words).b }))
 
 -- what is held, where b is given beside the words
 abbrev pub holds_with : SingleOperator → List ℕ → ℕ → Held
@@ -51,15 +52,16 @@ abbrev pub holds_once : SingleOperator → List ℕ → ℕ → ℕ → ℕ → 
 holds_once x words b input s = held_after x.operator (holds_with x words b) input s
 
 -- Decide: what is sent, what stays and a filter's h then, whatever they are
-unfoldable pub decided_of : SingleOperator → List ℕ → ℕ → ℕ → ℕ → Decided
+unfoldable pub decided_of : SingleOperator → List ℕ → ℕ → ℕ → ℕ → Result Sending Unsent
 decided_of x words b input choice =
-    pick (undecidable x words b input choice) Decided.Undecidable
-    (pick (not (number_in_range x.operator)) Decided.OutOfRange
-    (pick (choice_above_with x words b input choice) Decided.ChoiceAbove
-    (Decided.Sends
-    (record { 0 = sent_with x words b input choice })
-    (record { 0 = (holds_once x words b input (sent_with x words b input choice)).b })
-    (record { 0 = (holds_once x words b input (sent_with x words b input choice)).h }))))
+    pick (undecidable x words b input choice) (Err Unsent.Undecidable)
+    (pick (not (number_in_range x.operator)) (Err Unsent.OutOfRange)
+    (pick (choice_above_with x words b input choice) (Err Unsent.ChoiceAbove)
+    (Ok (record {
+      output = record { 0 = sent_with x words b input choice };
+      kept = record { 0 = (holds_once x words b input (sent_with x words b input choice)).b };
+      beside = record { 0 = (holds_once x words b input (sent_with x words b input choice)).h };
+    }))))
 
 -- of the units of age a, the input being of age 0, what stays where the newest stay, `kept` of them in all: the younger ones take their room first
 unfoldable pub newest_of : SingleOperator → List ℕ → ℕ → ℕ → ℕ → ℕ
@@ -85,10 +87,17 @@ unfoldable pub word_kept : SingleOperator → List ℕ → ℕ → ℕ → ℕ �
 word_kept x words input kept a = pick (nat_lt a (words_used x.operator)) (newest_of x words input kept a) (word_at words a)
 
 -- Keep: the state of the slot after
-unfoldable pub kept_of : SingleOperator → List ℕ → ℕ → ℕ → Kept
-kept_of x words kept beside = pick (keep_unfit x words kept beside) Kept.Unfit (pick (not (number_in_range x.operator)) Kept.OutOfRange (Kept.Next (state_kept x kept beside)))
+unfoldable pub kept_of : SingleOperator → List ℕ → ℕ → ℕ → Result SingleOperator Unsent
+kept_of x words kept beside = pick (keep_unfit x words kept beside) (Err Unsent.Unfit) (pick (not (number_in_range x.operator)) (Err Unsent.OutOfRange) (Ok (state_kept x kept beside)))
 
 -- and what the words hold then: every unit is a slot older, the input is new; where a test stands, nothing is written
 unfoldable pub words_kept : SingleOperator → List ℕ → ℕ → ℕ → ℕ → List ℕ
 words_kept x words input kept beside =
     pick (keep_unfit x words kept beside) words (pick (not (number_in_range x.operator)) words (list_of (word_kept x words input kept) word_count))
+
+-- the refusal of the call that joins the parts: 1, 5 or 14 at operator 0
+abbrev pub refusal_of : Unsent → Refusal
+refusal_of Unsent.Undecidable = Refusal.Unusable
+refusal_of Unsent.OutOfRange = Refusal.OutOfRange 0
+refusal_of Unsent.ChoiceAbove = Refusal.ChoiceAboveGreatest 0
+refusal_of Unsent.Unfit = Refusal.Unusable

@@ -1,6 +1,6 @@
 -- Document 02, item 10: an operator within a path. A delayer's 64 words are a ring there: word t mod d is the total of units entered after slot t, for the last d slots;
 -- the totals of what entered and of what left stand beside the operator, 32 bits wide and wrapping. Any other operator is as it is alone.
-use Rattle.std.specs.Prelude.{ℕ, zero, suc, ◌+◌, ◌-◌, ◌%◌, min, Bool, not, List, [], ◌∷◌, length, ◌==◌, nat_le, nat_lt}
+use Rattle.std.specs.Prelude.{ℕ, zero, suc, ◌+◌, ◌-◌, ◌%◌, min, Bool, not, List, [], ◌∷◌, length, ◌==◌, nat_le, nat_lt, Result, Ok, Err}
 use Rattle.quantity.specs.Choice.{pick, both, either, any_of}
 use Rattle.quantity.specs.Sums.{every, list_of}
 use Rattle.quantity.specs.Limits.{largest_amount, last_slot}
@@ -13,6 +13,7 @@ use Rattle.operator.specs.Parts.{most_on_the_way}
 use Rattle.operator.specs.declared.Operator.{Operator}
 use Rattle.operator.specs.declared.ring.PathOperator.{PathOperator}
 use Rattle.operator.specs.declared.ring.Advanced.{Advanced}
+use Rattle.operator.specs.declared.ring.Halted.{Halted}
 
 -- 2^32
 abbrev pub wrap : ℕ
@@ -142,15 +143,16 @@ unfoldable pub ring_place : PathOperator → ℕ
 ring_place x = pick (uses_held x.operator) word_count (x.slot.0 % words_used x.operator)
 
 -- Advance: what is sent, whether what stays is within the limit, the state then, and the word that its total is noted in
-unfoldable pub advanced_of : PathOperator → List ℕ → ℕ → ℕ → Advanced
+unfoldable pub advanced_of : PathOperator → List ℕ → ℕ → ℕ → Result Advanced Halted
 advanced_of x words input choice =
-    pick (path_unready x words input) Advanced.Unusable
-    (pick (path_choice_above x words input choice) Advanced.ChoiceAbove
-    (Advanced.Sends
-    (record { 0 = path_sent x words input choice })
-    (storable (path_holds_sent x words input choice).b (path_holds_sent x words input choice).h)
-    (path_advanced x input (path_sent x words input choice) (path_holds_sent x words input choice).b (path_holds_sent x words input choice).h)
-    (ring_place x)))
+    pick (path_unready x words input) (Err Halted.Unusable)
+    (pick (path_choice_above x words input choice) (Err Halted.ChoiceAbove)
+    (Ok (record {
+      output = record { 0 = path_sent x words input choice };
+      fits = storable (path_holds_sent x words input choice).b (path_holds_sent x words input choice).h;
+      next = path_advanced x input (path_sent x words input choice) (path_holds_sent x words input choice).b (path_holds_sent x words input choice).h;
+      at = ring_place x;
+    })))
 
 -- an operator's words with its total noted in its word
 abbrev pub ring_noted : PathOperator → List ℕ → List ℕ

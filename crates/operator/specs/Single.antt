@@ -1,5 +1,5 @@
 -- Sections 3, 6 and 7: the calls on a single operator and its 64 words. What the calls answer is the first refusal of a list that stands, else the result.
-use Rattle.std.specs.Prelude.{ℕ, ◌+◌, ◌-◌, Bool, true, false, not, List, [], ◌∷◌, length, ◌==◌, nat_lt}
+use Rattle.std.specs.Prelude.{ℕ, ◌+◌, ◌-◌, Bool, true, false, not, List, [], ◌∷◌, length, ◌==◌, nat_lt, Result, Ok, Err}
 use Rattle.quantity.specs.Choice.{pick, either, any_of}
 use Rattle.quantity.specs.Sums.{total, every, list_of}
 use Rattle.quantity.specs.Limits.{largest_amount, last_slot}
@@ -10,8 +10,9 @@ use Rattle.words.specs.Stored.{word_at, stored_fits, word_fits}
 use Rattle.operator.specs.Operators.{least_output, greatest_output, held_after, number_in_range}
 use Rattle.operator.specs.declared.Operator.{Operator}
 use Rattle.operator.specs.declared.SingleOperator.{SingleOperator}
-use Rattle.operator.specs.declared.single.Bounds.{Bounds}
-use Rattle.operator.specs.declared.single.Stepped.{Stepped}
+use Rattle.quantity.specs.declared.refusal.Refusal.{Refusal}
+use Rattle.operator.specs.declared.single.Outputs.{Outputs}
+use Rattle.operator.specs.declared.single.Sent.{Sent}
 
 -- an operator's words
 abbrev pub word_count : ℕ
@@ -69,15 +70,15 @@ greatest : SingleOperator → List ℕ → ℕ → ℕ
 greatest x words input = greatest_output x.operator x.slot.0 (holds x words) input
 
 -- the least and greatest output of a step, or the refusal: 1, then 5
-unfoldable pub bounds_of : SingleOperator → List ℕ → ℕ → Bounds
+unfoldable pub bounds_of : SingleOperator → List ℕ → ℕ → Result Outputs Refusal
 unfolding least greatest
 bounds_of x words input =
     first_of
     ((unusable x words input ⇒ Unusable)
     ∷ (not (number_in_range x.operator) ⇒ OutOfRange 0)
     ∷ [])
-    Bounds.Refused
-    (Bounds.Outputs (record { 0 = least x words input }) (record { 0 = greatest x words input }))
+    Err
+    (Ok (record { least = record { 0 = least x words input }; greatest = record { 0 = greatest x words input } }))
 
 -- a step sends its least and the choice
 unfoldable pub sent : SingleOperator → List ℕ → ℕ → ℕ → ℕ
@@ -120,13 +121,13 @@ state_next x words input s =
 unfoldable pub words_next : SingleOperator → List ℕ → ℕ → ℕ → List ℕ
 words_next x words input s = list_of (holds_next x words input s).past word_count
 
-sent_answer : SingleOperator → List ℕ → ℕ → ℕ → Stepped
-sent_answer x words input s = Stepped.Sent (record { 0 = s }) (state_next x words input s)
+sent_answer : SingleOperator → List ℕ → ℕ → ℕ → Sent
+sent_answer x words input s = record { output = record { 0 = s }; next = state_next x words input s }
 
 -- what a step answers
-unfoldable pub step_of : SingleOperator → List ℕ → ℕ → ℕ → Stepped
+unfoldable pub step_of : SingleOperator → List ℕ → ℕ → ℕ → Result Sent Refusal
 unfolding sent_answer
-step_of x words input choice = first_of (step_cases x words input choice) Stepped.Refused (sent_answer x words input (sent x words input choice))
+step_of x words input choice = first_of (step_cases x words input choice) Err (Ok (sent_answer x words input (sent x words input choice)))
 
 -- what the words hold then; a refused step writes nothing
 unfoldable pub words_after : SingleOperator → List ℕ → ℕ → ℕ → List ℕ

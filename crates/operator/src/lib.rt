@@ -3,9 +3,10 @@
 #![tactic(auto)]
 
 ghost use Rattle.std.specs.Prelude.{◌≡◌};
-ghost use Rattle.operator.specs.Operators.{number_in_range};
+ghost use Rattle.operator.specs.Operators.{number_in_range, name_of};
+ghost use Rattle.operator.specs.Single.{words_used, uses_held, uses_beside};
 
-use quantity::{Delay, Interval, Rate, Slots, Units};
+use quantity::{Delay, Interval, Quantity, Rate, Slots, Units};
 
 pub mod parts;
 pub mod ring;
@@ -22,17 +23,57 @@ pub enum Operator {
 }
 
 impl Operator {
+    // The name of its kind.
+    #[tactic(auto, unfolding(crate::specs::Operators::name_of))]
+    pub fn name(self) -> &'static str
+        ensures { result.now ≡ name_of self }
+    {
+        match self {
+            Operator::Limiter(_) => "limiter",
+            Operator::Compactor(_) => "compactor",
+            Operator::Expander(_) => "expander",
+            Operator::Filter(_) => "filter",
+            Operator::Delayer(_) => "delayer",
+        }
+    }
+
     // Whether the operator's number is in its range.
+    #[tactic(auto, unfolding(crate::specs::Operators::number_in_range))]
     pub fn number_in_range(self) -> bool
         ensures { result ≡ number_in_range self }
     {
         match self {
-            Operator::Limiter(rate) => rate.in_range(),
-            Operator::Compactor(interval) => interval.in_range(),
-            Operator::Expander(interval) => interval.in_range(),
-            Operator::Filter(rate) => rate.in_range(),
+            Operator::Limiter(rate) | Operator::Filter(rate) => rate.in_range(),
+            Operator::Compactor(interval) | Operator::Expander(interval) => interval.in_range(),
             Operator::Delayer(delay) => delay.in_range(),
         }
+    }
+
+    // How many of the words the operator uses: a part, for the crate that works out a path's figures.
+    #[tactic(auto, unfolding(crate::specs::Single::words_used))]
+    pub fn words_used(self) -> usize
+        ensures { result ≡ words_used self }
+    {
+        match self {
+            Operator::Delayer(delay) => delay.0 as usize,
+            _ => 0,
+        }
+    }
+
+    // Whether section 3's b is in the state's field: a delayer's is in its words.
+    #[tactic(auto, unfolding(crate::specs::Single::uses_held))]
+    pub(crate) fn uses_held(self) -> bool
+        ensures { result ≡ uses_held self }
+    {
+        !matches!(self, Operator::Delayer(_))
+    }
+
+    // Whether the operator has an h.
+    #[tactic(auto, unfolding(crate::specs::Single::uses_beside))]
+    pub(crate) fn uses_beside(self) -> bool
+        ensures { result ≡ uses_beside self }
+    {
+        matches!(self, Operator::Filter(_))
     }
 }
 

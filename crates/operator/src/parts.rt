@@ -3,116 +3,105 @@
 
 ghost use Rattle.std.specs.Prelude.{◌≡◌, ℕ, ◌+◌, ◌-◌, ◌%◌, ◌<◌, ◌≤◌, min, true, length, ◌==◌};
 ghost use Rattle.quantity.specs.Choice.{pick};
-ghost use Rattle.quantity.specs.Sums.{total, every};
+ghost use Rattle.quantity.specs.Sums.{total};
 ghost use Rattle.quantity.specs.Limits.{largest_amount, last_slot};
 ghost use Rattle.operator.specs.Held.{Held};
 ghost use Rattle.operator.specs.Delayer.{of_age};
 ghost use Rattle.operator.specs.Operators.{least_output, greatest_output, held_after, number_in_range};
-ghost use Rattle.words.specs.Stored.{word_at, word_fits};
-ghost use Rattle.operator.specs.Single.{word_count, words_used, uses_held, uses_beside};
-ghost use Rattle.operator.specs.Parts.{most_on_the_way, stored_of, undecidable, decided_of, kept_of, words_kept};
+ghost use Rattle.words.specs.Stored.{word_at};
+ghost use Rattle.operator.specs.Single.{word_count, words_used};
+ghost use Rattle.operator.specs.Parts.{most_on_the_way, holds_with, stored_of, undecidable, decided_of, kept_of, words_kept, refusal_of};
 
 use crate::{Operator, SingleOperator};
+use quantity::refusal::Refusal;
 use quantity::{Slots, Units};
-use words::Scanned;
 
 // The words of an operator.
-const WORDS: usize = 64;
+pub(crate) const WORDS: usize = 64;
 
 // What sixteen operators at the limit and an input can bring to an operator within a path.
 pub(crate) const ON_THE_WAY: u64 = 18_253_610_991;
 
-// Section 3's b, unless what is lent and stored cannot be used.
-#[derive(Clone, Copy)]
-pub enum Stored {
-    Holds(Units),
-    Unusable,
-}
-
 // What a decision answers: the output, what stays and a filter's h then.
 #[derive(Clone, Copy)]
-pub enum Decided {
-    Sends {
-        output: Units,
-        kept: Units,
-        beside: Units,
-    },
+pub(crate) struct Sending {
+    pub output: Units,
+    pub kept: Units,
+    pub beside: Units,
+}
+
+// Why a step sends nothing: it cannot be decided, the operator's number is out of its range, the choice is above greatest minus least, or what stays cannot be kept.
+#[derive(Clone, Copy)]
+pub(crate) enum Unsent {
     Undecidable,
     OutOfRange,
     ChoiceAbove,
+    Unfit,
 }
 
-// What keeping answers: the next state.
-#[derive(Clone, Copy)]
-pub enum Kept {
-    Next(SingleOperator),
-    Unfit,
-    OutOfRange,
+impl From<Unsent> for Refusal {
+    ghost from_gives = { λ why refusal. refusal ≡ refusal_of why };
+
+    fn from(why: Unsent) -> Refusal {
+        match why {
+            Unsent::Undecidable | Unsent::Unfit => Refusal::Unusable,
+            Unsent::OutOfRange => Refusal::OutOfRange(0),
+            Unsent::ChoiceAbove => Refusal::ChoiceAboveGreatest(0),
+        }
+    }
 }
 
 // Test: section 3's b, unless what is lent and stored cannot be used.
-pub fn stored_in(state: SingleOperator, words: &[u32]) -> Stored
+pub fn stored_in(state: SingleOperator, words: &[u32]) -> Option<Units>
     ensures { result ≡ stored_of state words.now }
 {
-    if words.len() != WORDS {
-        return Stored::Unusable;
-    }
-    if Slots::LAST < state.slot.0 {
-        return Stored::Unusable;
+    if words.len() != WORDS || Slots::LAST < state.slot.0 {
+        return None;
     }
     let operator = state.operator;
-    if !words::stored_fits(uses_held(operator), state.held.0) {
-        return Stored::Unusable;
+    if !words::stored_fits(operator.uses_held(), state.held.0) {
+        return None;
     }
-    if !words::stored_fits(uses_beside(operator), state.beside.0) {
-        return Stored::Unusable;
+    if !words::stored_fits(operator.uses_beside(), state.beside.0) {
+        return None;
     }
-    let scanned = scan(operator, words);
-    if !scanned.fits {
-        return Stored::Unusable;
-    }
-    if Units::LARGEST < scanned.units {
-        return Stored::Unusable;
+    let units = words::scan(words, operator.words_used())?;
+    if Units::LARGEST < units {
+        return None;
     }
     // one of the two is 0
-    Stored::Holds(Units(state.held.0 + scanned.units))
+    Some(Units(state.held.0 + units))
 }
 
 // Decide, on numbers: the output, what stays and a filter's h then, whatever they are. `held` is what stored_in answered; no word is tested.
+// State, words and amounts go one by one: the words are the caller's memory.
 pub(crate) fn decide(
     state: SingleOperator,
     words: &[u32],
     held: Units,
     input: Units,
     choice: Units,
-) -> Decided
+) -> Result<Sending, Unsent>
     ensures { result ≡ decided_of state words.now held.0 input.0 choice.0 }
 {
     if undecidable(state, words, held.0, input.0, choice.0) {
-        return Decided::Undecidable;
+        return Err(Unsent::Undecidable);
     }
     let operator = state.operator;
     if !operator.number_in_range() {
-        return Decided::OutOfRange;
+        return Err(Unsent::OutOfRange);
     }
     let there = held.0 + input.0;
-    let low = least(
-        operator,
-        state.slot.0,
-        held.0,
-        state.beside.0,
-        input.0,
-        words,
-    );
-    if less(greatest(operator, low, there), low) < choice.0 {
-        return Decided::ChoiceAbove;
+    let low = least(state, words, held.0, input.0);
+    if greatest(operator, low, there).saturating_sub(low) < choice.0 {
+        return Err(Unsent::ChoiceAbove);
     }
     let output = low + choice.0;
-    Decided::Sends {
+    Ok(Sending {
         output: Units(output),
-        kept: Units(less(there, output)),
+        kept: Units(there.saturating_sub(output)),
         beside: Units(beside_after(operator, state.beside.0, input.0)),
-    }
+    })
 }
 
 // Keep: the next state; every unit in the words is a slot older, the input is new and the newest stay, `kept` of them in all.
@@ -122,21 +111,21 @@ pub(crate) fn keep(
     input: Units,
     kept: Units,
     beside: Units,
-) -> Kept
+) -> Result<SingleOperator, Unsent>
     ensures { (result ≡ kept_of state words.old kept.0 beside.0) × (words.new ≡ words_kept state words.old input.0 kept.0 beside.0) }
 {
     if words::unfit(words.len(), WORDS, state.slot.0, kept.0, beside.0) {
-        return Kept::Unfit;
+        return Err(Unsent::Unfit);
     }
     let operator = state.operator;
     if !operator.number_in_range() {
-        return Kept::OutOfRange;
+        return Err(Unsent::OutOfRange);
     }
-    keep_newest(words, words_used(operator), input.0, kept.0);
-    Kept::Next(SingleOperator {
+    keep_newest(words, operator.words_used(), input.0, kept.0);
+    Ok(SingleOperator {
         operator,
         slot: Slots(state.slot.0 + 1),
-        held: Units(held_apart(operator, kept.0)),
+        held: if operator.uses_held() { kept } else { Units(0) },
         beside,
     })
 }
@@ -145,21 +134,9 @@ pub(crate) fn keep(
 fn undecidable(state: SingleOperator, words: &[u32], held: u64, input: u64, choice: u64) -> bool
     ensures { result ≡ undecidable state words.now held input choice }
 {
-    if words::unfit(words.len(), WORDS, state.slot.0, held, state.beside.0) {
-        return true;
-    }
-    if ON_THE_WAY < input {
-        return true;
-    }
-    Units::LARGEST < choice
-}
-
-// Whether every word fits, by how many the operator uses, and then the sum of the words.
-fn scan(operator: Operator, words: &[u32]) -> Scanned
-    requires { length words.now ≡ word_count }
-    ensures { (result.fits ≡ every (word_fits (words_used operator) words.now) word_count) × (result.fits ≡ true → result.units ≡ total (word_at words.now) word_count) }
-{
-    words::scan(words, words_used(operator))
+    words::unfit(words.len(), WORDS, state.slot.0, held, state.beside.0)
+        | (ON_THE_WAY < input)
+        | (Units::LARGEST < choice)
 }
 
 // Every unit is a slot older, the input is new, and the newest stay, `kept` of them in all: oldest leave first.
@@ -170,40 +147,31 @@ fn keep_newest(words: &mut [u32], count: usize, input: u64, kept: u64)
 {
     let mut arriving = input;
     let mut room = kept;
-    let mut age = 0;
-    while age < count {
-        let old = words[age] as u64;
-        let stays = smaller(arriving, room);
-        words[age] = stays as u32;
-        room = room - stays;
+    for word in &mut words[..count] {
+        let old = u64::from(*word);
+        let stays = arriving.min(room);
+        *word = stays as u32;
+        room -= stays;
         arriving = old;
-        age = age + 1;
     }
 }
 
 // Section 3's least output; a word by itself, whatever it is, is not more than could be there.
-pub(crate) fn least(
-    operator: Operator,
-    slot: u32,
-    held: u64,
-    beside: u64,
-    input: u64,
-    words: &[u32],
-) -> u64
-    requires operates { (number_in_range operator ≡ true) × (length words.now ≡ word_count) × (slot ≤ last_slot) }
-    requires amounts_within { (held ≤ largest_amount) × (beside ≤ largest_amount) × (input ≤ most_on_the_way) }
-    ensures value { result ≡ least_output operator slot (record { b = held; h = beside; past = word_at words.now }) input }
+pub(crate) fn least(state: SingleOperator, words: &[u32], held: u64, input: u64) -> u64
+    requires operates { (number_in_range state.operator ≡ true) × (length words.now ≡ word_count) × (state.slot.0 ≤ last_slot) }
+    requires amounts_within { (held ≤ largest_amount) × (state.beside.0 ≤ largest_amount) × (input ≤ most_on_the_way) }
+    ensures value { result ≡ least_output state.operator state.slot.0 (holds_with state words.now held) input }
     ensures upper_bound { result ≤ most_on_the_way + largest_amount }
 {
     let there = held + input;
-    match operator {
-        Operator::Limiter(rate) => limiter_sends(there, rate.0),
-        Operator::Compactor(interval) => compactor_sends(slot, interval.0, held),
-        Operator::Expander(interval) => expander_least(slot, interval.0, there),
-        Operator::Filter(rate) => less(there, limited(beside, input, rate.0)),
+    match state.operator {
+        Operator::Limiter(rate) => there.min(u64::from(rate.0)),
+        Operator::Compactor(interval) => compactor_sends(state.slot.0, interval.0, held),
+        Operator::Expander(interval) => expander_least(state.slot.0, interval.0, there),
+        Operator::Filter(rate) => there.saturating_sub(limited(state.beside.0, input, rate.0)),
         Operator::Delayer(delay) => {
             let oldest = delay.0 as usize - 1;
-            words[oldest] as u64
+            u64::from(words[oldest])
         }
     }
 }
@@ -213,15 +181,13 @@ pub(crate) fn greatest(operator: Operator, low: u64, there: u64) -> u64
     ensures { (t : ℕ) (x : Held) (input : ℕ) → low ≡ least_output operator t x input → there ≡ x.b + input → result ≡ greatest_output operator t x input }
 {
     match operator {
-        Operator::Limiter(_) => low,
-        Operator::Compactor(_) => low,
-        Operator::Expander(_) => there,
-        Operator::Filter(_) => there,
-        Operator::Delayer(_) => there,
+        Operator::Limiter(_) | Operator::Compactor(_) => low,
+        Operator::Expander(_) | Operator::Filter(_) | Operator::Delayer(_) => there,
     }
 }
 
 // What a compactor sends: what it held in a slot divisible by its interval, else nothing.
+// Two names for at_multiple, since section 3 has the two in its own words; `0 < interval` is for the remainder, which takes the bare number.
 pub(crate) fn compactor_sends(slot: u32, interval: u32, held: u64) -> u64
     requires { 0 < interval }
     ensures { (result ≡ pick (slot % interval == 0) held 0) × (result ≤ held) }
@@ -252,10 +218,7 @@ fn beside_after(operator: Operator, beside: u64, input: u64) -> u64
 {
     match operator {
         Operator::Filter(rate) => limited(beside, input, rate.0),
-        Operator::Limiter(_) => 0,
-        Operator::Compactor(_) => 0,
-        Operator::Expander(_) => 0,
-        Operator::Delayer(_) => 0,
+        _ => 0,
     }
 }
 
@@ -264,67 +227,5 @@ pub(crate) fn limited(held: u64, input: u64, rate: u32) -> u64
     requires { (held ≤ largest_amount) × (input ≤ most_on_the_way) }
     ensures { result ≡ held + input - min (held + input) rate }
 {
-    held + input - limiter_sends(held + input, rate)
-}
-
-pub(crate) fn limiter_sends(there: u64, rate: u32) -> u64
-    ensures { result ≡ min there rate }
-{
-    smaller(there, rate as u64)
-}
-
-fn smaller(a: u64, b: u64) -> u64
-    ensures { result ≡ min a b }
-{
-    if a < b { a } else { b }
-}
-
-// One number less another, 0 if negative.
-pub(crate) fn less(a: u64, b: u64) -> u64
-    ensures { result ≡ a - b }
-{
-    if a < b { 0 } else { a - b }
-}
-
-// What the state's field has of the units kept.
-fn held_apart(operator: Operator, kept: u64) -> u64
-    ensures { result ≡ pick (uses_held operator) kept 0 }
-{
-    if uses_held(operator) { kept } else { 0 }
-}
-
-pub(crate) fn words_used(operator: Operator) -> usize
-    ensures { result ≡ words_used operator }
-{
-    match operator {
-        Operator::Delayer(delay) => delay.0 as usize,
-        Operator::Limiter(_) => 0,
-        Operator::Compactor(_) => 0,
-        Operator::Expander(_) => 0,
-        Operator::Filter(_) => 0,
-    }
-}
-
-pub(crate) fn uses_held(operator: Operator) -> bool
-    ensures { result ≡ uses_held operator }
-{
-    match operator {
-        Operator::Delayer(_) => false,
-        Operator::Limiter(_) => true,
-        Operator::Compactor(_) => true,
-        Operator::Expander(_) => true,
-        Operator::Filter(_) => true,
-    }
-}
-
-pub(crate) fn uses_beside(operator: Operator) -> bool
-    ensures { result ≡ uses_beside operator }
-{
-    match operator {
-        Operator::Filter(_) => true,
-        Operator::Limiter(_) => false,
-        Operator::Compactor(_) => false,
-        Operator::Expander(_) => false,
-        Operator::Delayer(_) => false,
-    }
+    (held + input).saturating_sub(u64::from(rate))
 }

@@ -1,12 +1,12 @@
 -- What holds of the figures of an accepted sheet: they are those of its path, and every number on its page is small.
-use mathlib.Core.Path.{◌≡◌, sym, ap, ◌∙◌}
+use mathlib.Core.Path.{◌≡◌, ap, ◌∙◌}
 use mathlib.Core.List.{List}
+use Rattle.std.specs.Prelude.{Ok}
 use Prim.Native.Nat.{ℕ, zero, suc, ◌*◌, ◌≤◌, ◌<◌}
 use native.Mathlib.Decide.{dec_lt}
 use native.Mathlib.Nat.{le_trans}
 use native.Mathlib.Omega.{arith}
 use lib.ListN.{length, get_or, take, get_or-eq_default}
-use lib.Seq.{get_or-take}
 use lib.Dec.{ltb}
 use borrow.Author.Tests.{lt-ltb, ltb-false}
 use Rattle.quantity.specs.Limits.{largest_amount}
@@ -16,7 +16,6 @@ use Rattle.quantity.proofs.Sums.{get_d-list_of, total-zero, total-suc, term-le-t
 use Rattle.quantity.proofs.Refusals.{none-of-each}
 use Rattle.sheet.specs.declared.LinkedOperator.{LinkedOperator}
 use Rattle.sheet.specs.declared.PathValue.{PathValue}
-use Rattle.sheet.specs.declared.read.Verdict.{Verdict}
 use Rattle.sheet.specs.Paths.{Path, no_linked_operator, link_at}
 use Rattle.sheet.specs.Forms.{in_full, value_of_path}
 use Rattle.sheet.specs.Sheets.{value_in, path_in}
@@ -24,7 +23,7 @@ use Rattle.sheet.proofs.Accepted.{SheetPath, sheet-path, sheet-full}
 use Rattle.sheet.proofs.InRange.{link-of-path, wanted-of-path}
 use Rattle.figures.specs.declared.Figure.{Figure}
 use Rattle.figures.specs.declared.PathFigures.{PathFigures}
-use Rattle.figures.specs.Answers.{operator_at, capacity_at, delay_at, path_delay, operators_cases, figure_at, no_figure, figure_in, figures_of}
+use Rattle.figures.specs.Answers.{capacity_at, delay_at, path_delay, operators_cases, figure_at, no_figure, figure_in, figures_of}
 use Rattle.figures.proofs.Promise.{accepted-figures, accepted-none, operator-capacity-le}
 
 -- a sum of numbers that are at most b
@@ -32,7 +31,7 @@ total-bound : (f : ℕ → ℕ) (b n : ℕ) → ((k : ℕ) → k < n → f k ≤
 total-bound f b zero small = omega (arith, total-zero f)
 total-bound f b (suc n) small = omega (arith, total-suc f n, total-bound f b n (λ k less. small k (omega arith)), small n (omega arith))
 
-module _ (sheet : List ℕ) (accepted : (figures_of sheet).verdict ≡ Verdict.Accepted) where
+module _ (sheet : List ℕ) {answer : PathFigures} (accepted : figures_of sheet ≡ Ok answer) where
   abbrev path : Path
   path = path_in sheet
 
@@ -46,36 +45,26 @@ module _ (sheet : List ℕ) (accepted : (figures_of sheet).verdict ≡ Verdict.A
   few-operators = in-sheet.few
 
   -- what the figures answered
-  module _ {answer : PathFigures} (answered : answer ≡ figures_of sheet) where
-    path-same : answer.path ≡ value_in sheet
-    path-same = ap (λ (figures : PathFigures). figures.path) answered ∙ (accepted-figures sheet accepted).0
+  path-same : answer.path ≡ value_in sheet
+  path-same = (accepted-figures sheet accepted).0
 
-    pub count_same : answer.path.count ≡ operators
-    unfolding value_of_path
-    count_same = ap (λ (path : PathValue). path.count) (path-same ∙ in-sheet.value)
+  pub count_same : answer.path.count ≡ operators
+  unfolding value_of_path
+  count_same = ap (λ (path : PathValue). path.count) (path-same ∙ in-sheet.value)
 
-    linked-same : (k : ℕ) → k < operators → get_or answer.path.operators k no_linked_operator ≡ get_or path.operators k no_linked_operator
-    unfolding in_full
-    linked-same k less =
-        let full : take answer.path.count answer.path.operators ≡ path.operators = ap (λ (l : Path). l.operators) (ap in_full path-same ∙ sheet-full sheet (accepted-none sheet accepted).0) in
-        sym (get_or-take answer.path.count answer.path.operators k no_linked_operator (rw count_same less)) ∙ ap (λ (operators : List LinkedOperator). get_or operators k no_linked_operator) full
+  pub operators-same : take answer.path.count answer.path.operators ≡ path.operators
+  unfolding in_full
+  operators-same = ap (λ (l : Path). l.operators) (ap in_full path-same ∙ sheet-full sheet (accepted-none sheet accepted).0)
 
-    pub operator-same : (k : ℕ) → k < operators → (get_or answer.path.operators k no_linked_operator).operator ≡ operator_at path k
-    unfolding operator_at
-    operator-same k less = ap (λ (linked : LinkedOperator). linked.operator) (linked-same k less)
+  pub figure-same : (k : ℕ) (d : Figure) → k < operators → get_or answer.figures k d ≡ figure_at path k
+  unfolding figure_in
+  figure-same k d less =
+      ap (λ (figures : List Figure). get_or figures k d) (accepted-figures sheet accepted).2
+      ∙ get_d-list_of d (figure_in path) 16 k (omega (arith, few-operators))
+      ∙ pick_true (ltb k operators) (figure_at path k) no_figure (lt-ltb k operators less)
 
-    pub link-same : (k : ℕ) → k < operators → (get_or answer.path.operators k no_linked_operator).link.0 ≡ link_at path k
-    link-same k less = ap (λ (linked : LinkedOperator). linked.link.0) (linked-same k less)
-
-    pub figure-same : (k : ℕ) (d : Figure) → k < operators → get_or answer.figures k d ≡ figure_at path k
-    unfolding figure_in
-    figure-same k d less =
-        ap (λ (figures : List Figure). get_or figures k d) (ap (λ (figures : PathFigures). figures.figures) answered ∙ (accepted-figures sheet accepted).2)
-        ∙ get_d-list_of d (figure_in path) 16 k (omega (arith, few-operators))
-        ∙ pick_true (ltb k operators) (figure_at path k) no_figure (lt-ltb k operators less)
-
-    pub delay-same : answer.delay.0 ≡ path_delay path
-    delay-same = ap (λ (figures : PathFigures). figures.delay.0) answered ∙ (accepted-figures sheet accepted).1
+  pub delay-same : answer.delay.0 ≡ path_delay path
+  delay-same = (accepted-figures sheet accepted).1
 
   -- section 1: a link is at most 15
   pub link-le : (k : ℕ) → link_at path k ≤ 15

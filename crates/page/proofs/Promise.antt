@@ -1,6 +1,6 @@
 -- The page of every accepted sheet: each figure fits its column, each line has 60 characters and its line feed, and the figures are read off the page again.
 use mathlib.Core.Path.{◌≡◌, refl, sym, ap, ◌∙◌}
-use mathlib.Core.List.{List, [], ◌∷◌, ◌++◌}
+use mathlib.Core.List.{List, [], ◌∷◌}
 use Prim.Native.Nat.{ℕ, ◌+◌, ◌-◌, ◌*◌, ◌/◌, ◌≤◌, ◌<◌}
 use native.Mathlib.Omega.{arith}
 use lib.ListN.{length, get_or, take, length-append, get_or-append}
@@ -10,16 +10,16 @@ use borrow.Author.Tests.{eqb-true, not-false}
 use Rattle.quantity.specs.Lent.{written_over}
 use Rattle.quantity.specs.Sums.{total, list_of}
 use Rattle.quantity.proofs.Sums.{length-list_of, get_d-list_of, list_of-ext}
-use Rattle.quantity.proofs.Refusals.{NoneStands, first_of-none, none-where-result}
+use Rattle.quantity.proofs.Refusals.{NoneStands, first_of-none}
+use Rattle.sheet.proofs.AnswerLaws.{none-of-ok, ok-is}
+use Rattle.std.specs.Prelude.{Ok, Err}
 use Rattle.operator.specs.declared.Operator.{Operator}
-use Rattle.sheet.specs.declared.read.Verdict.{Verdict}
 use Rattle.sheet.specs.Bodies.{operator_byte}
 use Rattle.sheet.specs.Paths.{Path, link_at}
-use Rattle.sheet.specs.Sheets.{sheet_cases, value_in, path_in}
+use Rattle.sheet.specs.Sheets.{value_in, path_in}
 use Rattle.figures.specs.declared.Figure.{Figure}
 use Rattle.figures.specs.declared.PathFigures.{PathFigures}
-use Rattle.figures.specs.Answers.{operator_at, capacity_at, path_delay, path_cases, figure_at, refused_figures, accepted_figures, figures_of}
-use Rattle.page.specs.declared.Paged.{Paged}
+use Rattle.figures.specs.Answers.{operator_at, capacity_at, path_delay, figure_at, figures_cases, accepted_figures, figures_of}
 use Rattle.page.specs.Columns.{Cell, characters_of}
 use Rattle.page.specs.Pages.{widths, line_feed, line_of, path_name, operator_cells, path_cells, cells_at, sum_cells, rows_of, page_of}
 use Rattle.page.specs.Answers.{page_cases, page_answer, bytes_paged}
@@ -73,7 +73,7 @@ module _ (path : Path) where
   unfolding rows_of
   last_row = get_or_at (list_of (cells_at path) (length path.operators)) (sum_cells path) [] [] (length path.operators) (length-list_of (cells_at path) (length path.operators))
 
-module _ (sheet : List ℕ) (accepted : (figures_of sheet).verdict ≡ Verdict.Accepted) where
+module _ (sheet : List ℕ) {answer : PathFigures} (accepted : figures_of sheet ≡ Ok answer) where
   abbrev path : Path
   path = path_in sheet
 
@@ -139,26 +139,22 @@ module _ (sheet : List ℕ) (accepted : (figures_of sheet).verdict ≡ Verdict.A
       rw (lines-counted, last, same, path-read.0, path-read.1)
 
 -- a call that answers a length: it was lent enough, and it left the page, off which the figures are read
-module _ (sheet lent : List ℕ) (n : ℕ) (answered : page_answer sheet lent ≡ Paged.Length n) where
+module _ (sheet lent : List ℕ) (n : ℕ) (answered : page_answer sheet lent ≡ Ok n) where
   none-stands : NoneStands (page_cases sheet lent)
   unfolding page_answer
-  none-stands =
-      none-where-result Paged.Refused (Paged.Length (length (page_of (path_in sheet)))) (λ (answer : Paged). answer ≡ Paged.Length n)
-      (λ why e. let never : ◌≡◌ {A = ℕ} 0 1 = cc in omega arith) (page_cases sheet lent) answered
+  none-stands = none-of-ok (length (page_of (path_in sheet))) (page_cases sheet lent) answered
 
   length-lent : length lent ≡ 1037
   unfolding page_cases
   length-lent = eqb-true (length lent) 1037 (not-false (eqb (length lent) 1037) none-stands.0)
 
-  pub answered-accepted : (figures_of sheet).verdict ≡ Verdict.Accepted
-  unfolding page_cases figures_of accepted_figures
-  answered-accepted = ap (λ (figures : PathFigures). figures.verdict) (first_of-none refused_figures (accepted_figures (value_in sheet) (path_in sheet)) (sheet_cases sheet ++ path_cases (path_in sheet)) none-stands.1)
+  pub answered-accepted : figures_of sheet ≡ Ok (accepted_figures (value_in sheet) (path_in sheet))
+  unfolding page_cases figures_of
+  answered-accepted = first_of-none Err (Ok (accepted_figures (value_in sheet) (path_in sheet))) (figures_cases sheet) none-stands.1
 
   pub length-answered : n ≡ length (page_of (path_in sheet))
   unfolding page_answer
-  length-answered =
-      let made : Paged.Length n ≡ Paged.Length (length (page_of (path_in sheet))) = sym answered ∙ first_of-none Paged.Refused (Paged.Length (length (page_of (path_in sheet)))) (page_cases sheet lent) none-stands in
-      cc
+  length-answered = ok-is (length (page_of (path_in sheet))) (page_cases sheet lent) answered
 
   pub page-room : n ≤ length lent
   page-room = omega (arith, length-answered, length-lent, page-length sheet answered-accepted, few-operators sheet answered-accepted)

@@ -1,29 +1,14 @@
--- What the loops over a column rest on: a character more behind those that are stored, and a digit more before them.
+-- What the loop over a number's digits rests on: a digit more before those that are stored.
 use mathlib.Core.Path.{◌≡◌, refl, sym, ap, ◌∙◌}
 use mathlib.Core.List.{List, [], ◌∷◌, ◌++◌, append-nil, append_assoc}
 use Prim.Native.Nat.{ℕ, suc, ◌+◌, ◌-◌, ◌/◌, ◌%◌, ◌≤◌, ◌<◌}
 use native.Mathlib.Numerals.{add-one}
 use native.Mathlib.Omega.{arith}
-use lib.ListN.{length, get_or, set, take, replicate, length-append, length-replicate, replicate-append-replicate}
-use lib.Seq.{sets, take-suc, length-take-le}
-use Rattle.sheet.proofs.Runs.{set_before, run-behind}
+use lib.ListN.{length, set, length-append}
+use lib.Seq.{sets}
+use Rattle.sheet.proofs.Runs.{set_before}
 use Rattle.page.specs.Columns.{digit, decimal}
 use Rattle.page.proofs.Decimals.{decimal-one, decimal-tenth, decimal-some}
-
--- one more of the same character
-pub repeated-more : (lent₀ lent : List ℕ) (at k character : ℕ) → lent ≡ sets lent₀ at (replicate k character) → set lent (at + k) character ≡ sets lent₀ at (replicate (k + 1) character)
-repeated-more lent₀ lent at k character stored =
-    let size = length-replicate k character in
-    rw (← replicate-append-replicate k 1 character)
-    (run-behind lent₀ at (at + k) (replicate k character) (character ∷ []) stored refl (omega arith))
-
--- one more character of a text
-pub text-more : (lent₀ lent characters : List ℕ) (at k : ℕ) → k < length characters → lent ≡ sets lent₀ at (take k characters)
-    → set lent (at + k) (get_or characters k 0) ≡ sets lent₀ at (take (k + 1) characters)
-text-more lent₀ lent characters at k inside stored =
-    let size = length-take-le k characters (omega arith) in
-    rw (add-one, take-suc characters k 0)
-    (run-behind lent₀ at (at + k) (take k characters) (get_or characters k 0 ∷ []) stored refl (omega arith))
 
 -- the digits behind `at` are stored, and those of `left` are to come before them
 pub record LastDigits (lent₀ : List ℕ) (end value : ℕ) (lent : List ℕ) (left at : ℕ) : Type 0 where

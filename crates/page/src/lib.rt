@@ -9,7 +9,6 @@ use crate::line::{put_operator, put_path};
 use figures::figures;
 use quantity::Units;
 use quantity::refusal::Refusal;
-use sheet::read::Verdict;
 
 mod column;
 mod line;
@@ -17,41 +16,23 @@ mod line;
 // Sixty characters and a line feed.
 const LINE_LENGTH: usize = 61;
 
-// What making a page answers: the page's length.
-#[derive(Clone, Copy)]
-pub enum Paged {
-    Length(usize),
-    Refused(Refusal),
-}
-
-// The page of a sheet's path in the 1,037 bytes that are lent, or the first refusal of 1 to 9.
-pub fn page(sheet: &[u8], lent: &mut [u8]) -> Paged
+// The page of a sheet's path in the 1,037 bytes that are lent, or the first refusal of 1 to 9. It answers the page's length.
+pub fn page(sheet: &[u8], lent: &mut [u8]) -> Result<usize, Refusal>
     ensures { (result ≡ page_answer sheet.now lent.old) × (lent.new ≡ bytes_paged sheet.now lent.old) }
 {
     if lent.len() != 1037 {
-        return Paged::Refused(Refusal::Unusable);
+        return Err(Refusal::Unusable);
     }
-    let answer = figures(sheet);
-    let verdict = answer.verdict;
-    if let Verdict::Refused(why) = verdict {
-        return Paged::Refused(why);
-    }
-    let path = answer.path;
-    let count = path.count;
+    let answer = figures(sheet)?;
+    let count = answer.path.count;
     let mut capacity = Units(0);
-    let mut at = 0;
-    let mut k = 0;
-    while k < count {
-        let linked = path.operators[k];
+    // By its number: behind `zip` the proof has no index of the two (tried).
+    for (k, linked) in answer.path.operators[..count].iter().enumerate() {
         let figure = answer.figures[k];
-        let operator = linked.operator;
-        let link = linked.link;
-        put_operator(lent, at, k, operator, link, figure);
+        put_operator(lent, k * LINE_LENGTH, k, *linked, figure);
         capacity = capacity.plus(figure.capacity);
-        at += LINE_LENGTH;
-        k += 1;
     }
+    let at = count * LINE_LENGTH;
     put_path(lent, at, capacity, answer.delay);
-    let length = at + LINE_LENGTH;
-    Paged::Length(length)
+    Ok(at + LINE_LENGTH)
 }

@@ -8,7 +8,8 @@ ghost use Rattle.page.specs.Pages.{line_of, kind_names, operator_cells, path_cel
 use crate::column::{put_characters, put_digits, put_spaces};
 use figures::Figure;
 use operator::Operator;
-use quantity::{Link, Slots, Units};
+use quantity::{Slots, Units};
+use sheet::LinkedOperator;
 
 // Where the columns of a line begin, for a text, and where they end, for a number.
 const INDEX_END: usize = 4;
@@ -23,19 +24,12 @@ const DELAY_END: usize = 60;
 
 const LINE_FEED_AT: usize = 60;
 
-const LINE_FEED: u8 = 10;
+const LINE_FEED: u8 = b'\n';
 
-fn put_kind(lent: &mut [u8], at: usize, operator: Operator)
-    requires { at + 12 ≤ length lent.old }
-    ensures { lent.new ≡ sets lent.old at (get_or kind_names (operator_byte operator) []) }
+fn kind_name(operator: Operator) -> &'static [u8]
+    ensures { result.now ≡ get_or kind_names (operator_byte operator) [] }
 {
-    match operator {
-        Operator::Limiter(_) => put_characters(lent, at, b"limiter"),
-        Operator::Compactor(_) => put_characters(lent, at, b"compactor"),
-        Operator::Expander(_) => put_characters(lent, at, b"expander"),
-        Operator::Filter(_) => put_characters(lent, at, b"filter"),
-        Operator::Delayer(_) => put_characters(lent, at, b"delayer"),
-    }
+    operator.name().as_bytes()
 }
 
 // Twenty characters hold every number of 64 bits.
@@ -43,19 +37,18 @@ pub(crate) fn put_operator(
     lent: &mut [u8],
     at: usize,
     index: usize,
-    operator: Operator,
-    link: Link,
+    linked: LinkedOperator,
     figure: Figure,
 )
-    requires { (index ≤ 15) × (link.0 ≤ 15) × (at + 61 ≤ length lent.old) }
-    ensures { lent.new ≡ sets lent.old at (line_of (operator_cells index operator link.0 figure)) }
+    requires { (index ≤ 15) × (linked.link.0 ≤ 15) × (at + 61 ≤ length lent.old) }
+    ensures { lent.new ≡ sets lent.old at (line_of (operator_cells index linked.operator linked.link.0 figure)) }
 {
     put_spaces(lent, at);
     put_digits(lent, at + INDEX_END, index as u64);
-    put_kind(lent, at + KIND_AT, operator);
-    put_digits(lent, at + LINK_END, link.0 as u64);
+    put_characters(lent, at + KIND_AT, kind_name(linked.operator));
+    put_digits(lent, at + LINK_END, u64::from(linked.link.0));
     put_digits(lent, at + CAPACITY_END, figure.capacity.0);
-    put_digits(lent, at + DELAY_END, figure.delay.0 as u64);
+    put_digits(lent, at + DELAY_END, u64::from(figure.delay.0));
     lent[at + LINE_FEED_AT] = LINE_FEED;
 }
 
@@ -66,6 +59,6 @@ pub(crate) fn put_path(lent: &mut [u8], at: usize, capacity: Units, delay: Slots
     put_spaces(lent, at);
     put_characters(lent, at + KIND_AT, b"path");
     put_digits(lent, at + CAPACITY_END, capacity.0);
-    put_digits(lent, at + DELAY_END, delay.0 as u64);
+    put_digits(lent, at + DELAY_END, u64::from(delay.0));
     lent[at + LINE_FEED_AT] = LINE_FEED;
 }

@@ -7,6 +7,7 @@ use borrow.Author.Tests.{leb-true, ltb-false, lt-ltb, le-ltb}
 use Rattle.quantity.specs.Limits.{last_slot, no_slot_left}
 use Rattle.quantity.specs.Choice.{pick, either}
 use Rattle.quantity.specs.Ranges.{Range, in_range, checked_in}
+use Rattle.std.specs.Prelude.{Option, Some, None}
 use Rattle.quantity.proofs.Sums.{both_true}
 
 pub pick_true : {A : Type 0} (t : Bool) (a b : A) → t ≡ true → pick t a b ≡ a
@@ -19,16 +20,6 @@ pick-false t a b e = ap (λ (x : Bool). pick x a b) e
 pub pick-map : {A B : Type 0} (f : A → B) (t : Bool) (a b : A) {c : B} → f b ≡ c → f (pick t a b) ≡ pick t (f a) c
 pick-map f true a b rest = refl
 pick-map f false a b rest = rest
-
--- a constructor that found its value in range, or out of it, answers what the definition does: for every kind of number
-module _ {A : Type 0} (range : Range) (within : ℕ → A) (outside : A) (value : ℕ) {t : Bool} (tested : t ≡ in_range range value) where
-  pub checked-within : t ≡ true → within value ≡ checked_in range within outside value
-  unfolding checked_in
-  checked-within taken = sym (pick_true (in_range range value) (within value) outside (sym tested ∙ taken))
-
-  pub checked-outside : t ≡ false → outside ≡ checked_in range within outside value
-  unfolding checked_in
-  checked-outside left = sym (pick-false (in_range range value) (within value) outside (sym tested ∙ left))
 
 -- which way a test went, from what it did not pick
 pub picked-true : {A : Type 0} (t : Bool) (a b : A) {r : A} → r ≡ pick t a b → (r ≡ b → ⊥) → t ≡ true
@@ -49,6 +40,15 @@ pub told : {K A : Type 0} (t : Bool) (value : K) (found : K → A) (none : A) �
     → answer ≡ pick t (found value) none → Told t value found none answer
 told true value found none differ holds picked = record { within = λ e. (refl, holds _ _ (sym e ∙ picked)); outside = λ e. sym (differ _ (sym picked ∙ e)) }
 told false value found none differ holds picked = record { within = λ e. absurd (false≢true (differ _ (sym e ∙ picked))); outside = λ e. refl }
+
+-- an option tells whether its test held
+pub option-told : {K : Type 0} {t : Bool} {value : K} {answer : Option K} → answer ≡ pick t (Some value) None → Told t value Some None answer
+option-told = told _ _ _ _ (λ k e. cc) (λ j k e. cc)
+
+-- what a checking constructor tells of its number, which is n: for every kind of number
+pub checked-told : {A : Type 0} (range : Range) (of : ℕ → A) {number n : ℕ} → number ≡ n → {answer : Option A} → answer ≡ checked_in range of number → Told (in_range range n) (of n) Some None answer
+unfolding checked_in
+checked-told range of same answered = option-told (answered ∙ ap (checked_in range of) same)
 
 -- a value in range lies from the least to the largest
 module _ (range : Range) (value : ℕ) (inside : in_range range value ≡ true) where

@@ -1,5 +1,4 @@
 pub mod Laws
-pub mod Checked
 pub mod Sums
 pub mod Rounding
 pub mod Divisors

@@ -1,5 +1,5 @@
 -- Section 7, and document 02: the paper's number and place of each refusal, and how a call answers the first that stands.
-use Rattle.std.specs.Prelude.{ℕ, Bool, List, [], ◌∷◌}
+use Rattle.std.specs.Prelude.{ℕ, Bool, List, [], ◌∷◌, ◌++◌, codes, decimal}
 use Rattle.quantity.specs.Choice.{pick}
 use Rattle.quantity.specs.declared.refusal.Refusal.{Refusal}
 use Rattle.quantity.specs.declared.refusal.Refusal.TheVariants.{Unusable, HeaderCutOff, FieldUnexpected, BodyCutOff, OutOfRange, FramedAfterFilter, FigureTooLarge, RateTooLow, DelayAboveWanted, PathNumberWrong, LedgerFull, LinkShort, InputBreaksDeclaration, ChoiceAboveGreatest, RowsOutOfOrder, ConfirmedAlready}
@@ -40,6 +40,10 @@ refusal_place InputBreaksDeclaration = 0
 refusal_place (ChoiceAboveGreatest at) = at
 refusal_place (RowsOutOfOrder at) = at
 refusal_place ConfirmedAlready = 0
+
+-- how a refusal is written: `refused`, its number and its place
+abbrev pub refusal_text : Refusal → List ℕ
+refusal_text why = codes "refused " ++ decimal (refusal_number why) ++ codes " " ++ decimal (refusal_place why)
 
 -- a refusal with the condition under which it stands
 pub record Case : Type 0 where

@@ -2,9 +2,9 @@
 
 #![tactic(auto)]
 
-ghost use Rattle.std.specs.Prelude.{◌≡◌};
+ghost use Rattle.std.specs.Prelude.{◌≡◌, ℕ};
 ghost use Rattle.quantity.specs.Quantities.{slots_sum, units_sum, rates_sum, units_over};
-ghost use Rattle.quantity.specs.Ranges.{in_range, checked_interval, checked_quota, checked_rate, checked_delay, checked_wanted_delay, checked_link, checked_path_number, checked_link_capacity, checked_hops, checked_packet, interval_range, quota_range, rate_range, delay_range, wanted_delay_range, link_range, path_number_range, link_capacity_range, hops_range, packet_range};
+ghost use Rattle.quantity.specs.Ranges.{in_range, checked_in, interval_range, quota_range, rate_range, delay_range, wanted_delay_range, link_range, path_number_range, link_capacity_range, hops_range, packet_range};
 
 pub mod divisor;
 pub mod refusal;
@@ -17,15 +17,13 @@ impl Slots {
     // The last slot's number.
     pub const LAST: u32 = 1_073_741_822;
 
+    // Slots, units and rates have a sum each: one call of the library's, which a trait would only make longer.
     // Slots are added to slots alone; the sum stops at the largest number of 32 bits.
+    #[tactic(auto, unfolding(crate::specs::Quantities::slots_sum))]
     pub fn plus(self, other: Slots) -> Slots
         ensures { result ≡ slots_sum self other }
     {
-        if other.0 <= u32::MAX - self.0 {
-            Slots(self.0 + other.0)
-        } else {
-            Slots(u32::MAX)
-        }
+        Slots(self.0.saturating_add(other.0))
     }
 }
 
@@ -38,53 +36,79 @@ impl Units {
     pub const LARGEST: u64 = 1_073_741_823;
 
     // Units are added to units alone; the sum stops at the largest number of 64 bits.
+    #[tactic(auto, unfolding(crate::specs::Quantities::units_sum))]
     pub fn plus(self, other: Units) -> Units
         ensures { result ≡ units_sum self other }
     {
-        if other.0 <= u64::MAX - self.0 {
-            Units(self.0 + other.0)
-        } else {
-            Units(u64::MAX)
-        }
+        Units(self.0.saturating_add(other.0))
     }
 }
 
-// Whether a value lies from the least to the largest of its kind.
-fn within(value: u32, least: u32, largest: u32) -> bool
-    ensures { result ≡ in_range (record { least = least; largest = largest }) value }
-{
-    least <= value && value <= largest
+// Ten types and not one with its range as parameters: quota, rate and packet have the same range and are kinds apart (section 1).
+// A kind of number, with its least and its largest value. What is said of one kind's range is said here of all.
+pub trait Quantity: Copy {
+    const LEAST: u32;
+
+    const LARGEST: u32;
+
+    ghost LEAST: { ℕ };
+
+    ghost LARGEST: { ℕ };
+
+    ghost of: { ℕ → Self };
+
+    ghost number: { Self → ℕ };
+
+    // The number as one of its kind, whatever it is. No From, which would hide that it is not tested.
+    fn new(value: u32) -> Self
+        ensures { result ≡ of value };
+
+    fn value(self) -> u32
+        ensures { result ≡ number self };
+
+    // The number as one of its kind, if it is in the kind's range. Document 01 names a checking constructor; TryFrom's error would say no more than None.
+    #[tactic(auto, unfolding(crate::specs::Ranges::checked_in, crate::specs::Ranges::in_range))]
+    final fn checked(value: u32) -> Option<Self>
+        ensures { result ≡ checked_in (record { least = LEAST; largest = LARGEST }) of value }
+    {
+        if (Self::LEAST..=Self::LARGEST).contains(&value) {
+            Some(Self::new(value))
+        } else {
+            None
+        }
+    }
+
+    #[tactic(auto, unfolding(crate::specs::Ranges::in_range))]
+    final fn in_range(self) -> bool
+        ensures { result ≡ in_range (record { least = LEAST; largest = LARGEST }) (number self) }
+    {
+        (Self::LEAST..=Self::LARGEST).contains(&self.value())
+    }
 }
 
 // An interval m, in slots.
 #[derive(Clone, Copy)]
 pub struct Interval(pub u32);
 
-#[derive(Clone, Copy)]
-pub enum CheckedInterval {
-    InRange(Interval),
-    OutOfRange,
-}
+impl Quantity for Interval {
+    const LEAST: u32 = 1;
 
-impl Interval {
-    pub const LEAST: u32 = 1;
+    const LARGEST: u32 = 1024;
 
-    pub const LARGEST: u32 = 1024;
+    ghost LEAST = { interval_range.least };
 
-    pub fn checked(value: u32) -> CheckedInterval
-        ensures { result ≡ checked_interval value }
-    {
-        if within(value, Interval::LEAST, Interval::LARGEST) {
-            CheckedInterval::InRange(Interval(value))
-        } else {
-            CheckedInterval::OutOfRange
-        }
+    ghost LARGEST = { interval_range.largest };
+
+    ghost of = { λ value. record { 0 = value } };
+
+    ghost number = { λ interval. interval.0 };
+
+    fn new(value: u32) -> Interval {
+        Interval(value)
     }
 
-    pub fn in_range(self) -> bool
-        ensures { result ≡ in_range interval_range self.0 }
-    {
-        within(self.0, Interval::LEAST, Interval::LARGEST)
+    fn value(self) -> u32 {
+        self.0
     }
 }
 
@@ -92,31 +116,25 @@ impl Interval {
 #[derive(Clone, Copy)]
 pub struct Quota(pub u32);
 
-#[derive(Clone, Copy)]
-pub enum CheckedQuota {
-    InRange(Quota),
-    OutOfRange,
-}
+impl Quantity for Quota {
+    const LEAST: u32 = 1;
 
-impl Quota {
-    pub const LEAST: u32 = 1;
+    const LARGEST: u32 = 65535;
 
-    pub const LARGEST: u32 = 65535;
+    ghost LEAST = { quota_range.least };
 
-    pub fn checked(value: u32) -> CheckedQuota
-        ensures { result ≡ checked_quota value }
-    {
-        if within(value, Quota::LEAST, Quota::LARGEST) {
-            CheckedQuota::InRange(Quota(value))
-        } else {
-            CheckedQuota::OutOfRange
-        }
+    ghost LARGEST = { quota_range.largest };
+
+    ghost of = { λ value. record { 0 = value } };
+
+    ghost number = { λ quota. quota.0 };
+
+    fn new(value: u32) -> Quota {
+        Quota(value)
     }
 
-    pub fn in_range(self) -> bool
-        ensures { result ≡ in_range quota_range self.0 }
-    {
-        within(self.0, Quota::LEAST, Quota::LARGEST)
+    fn value(self) -> u32 {
+        self.0
     }
 }
 
@@ -124,49 +142,43 @@ impl Quota {
 #[derive(Clone, Copy)]
 pub struct Rate(pub u32);
 
-#[derive(Clone, Copy)]
-pub enum CheckedRate {
-    InRange(Rate),
-    OutOfRange,
+impl Quantity for Rate {
+    const LEAST: u32 = 1;
+
+    const LARGEST: u32 = 65535;
+
+    ghost LEAST = { rate_range.least };
+
+    ghost LARGEST = { rate_range.largest };
+
+    ghost of = { λ value. record { 0 = value } };
+
+    ghost number = { λ rate. rate.0 };
+
+    fn new(value: u32) -> Rate {
+        Rate(value)
+    }
+
+    fn value(self) -> u32 {
+        self.0
+    }
 }
 
 impl Rate {
-    pub const LEAST: u32 = 1;
-
-    pub const LARGEST: u32 = 65535;
-
-    pub fn checked(value: u32) -> CheckedRate
-        ensures { result ≡ checked_rate value }
-    {
-        if within(value, Rate::LEAST, Rate::LARGEST) {
-            CheckedRate::InRange(Rate(value))
-        } else {
-            CheckedRate::OutOfRange
-        }
-    }
-
-    pub fn in_range(self) -> bool
-        ensures { result ≡ in_range rate_range self.0 }
-    {
-        within(self.0, Rate::LEAST, Rate::LARGEST)
-    }
-
     // Rates are added to rates alone; the sum stops at the largest number of 32 bits.
+    #[tactic(auto, unfolding(crate::specs::Quantities::rates_sum))]
     pub fn plus(self, other: Rate) -> Rate
         ensures { result ≡ rates_sum self other }
     {
-        if other.0 <= u32::MAX - self.0 {
-            Rate(self.0 + other.0)
-        } else {
-            Rate(u32::MAX)
-        }
+        Rate(self.0.saturating_add(other.0))
     }
 
     // The units that the rate makes in so many slots.
+    #[tactic(auto, unfolding(crate::specs::Quantities::units_over))]
     pub fn over(self, slots: Slots) -> Units
         ensures { result ≡ units_over self slots }
     {
-        Units((self.0 as u64) * (slots.0 as u64))
+        Units(u64::from(self.0) * u64::from(slots.0))
     }
 }
 
@@ -174,31 +186,25 @@ impl Rate {
 #[derive(Clone, Copy)]
 pub struct Delay(pub u32);
 
-#[derive(Clone, Copy)]
-pub enum CheckedDelay {
-    InRange(Delay),
-    OutOfRange,
-}
+impl Quantity for Delay {
+    const LEAST: u32 = 1;
 
-impl Delay {
-    pub const LEAST: u32 = 1;
+    const LARGEST: u32 = 64;
 
-    pub const LARGEST: u32 = 64;
+    ghost LEAST = { delay_range.least };
 
-    pub fn checked(value: u32) -> CheckedDelay
-        ensures { result ≡ checked_delay value }
-    {
-        if within(value, Delay::LEAST, Delay::LARGEST) {
-            CheckedDelay::InRange(Delay(value))
-        } else {
-            CheckedDelay::OutOfRange
-        }
+    ghost LARGEST = { delay_range.largest };
+
+    ghost of = { λ value. record { 0 = value } };
+
+    ghost number = { λ delay. delay.0 };
+
+    fn new(value: u32) -> Delay {
+        Delay(value)
     }
 
-    pub fn in_range(self) -> bool
-        ensures { result ≡ in_range delay_range self.0 }
-    {
-        within(self.0, Delay::LEAST, Delay::LARGEST)
+    fn value(self) -> u32 {
+        self.0
     }
 }
 
@@ -206,31 +212,25 @@ impl Delay {
 #[derive(Clone, Copy)]
 pub struct WantedDelay(pub u32);
 
-#[derive(Clone, Copy)]
-pub enum CheckedWantedDelay {
-    InRange(WantedDelay),
-    OutOfRange,
-}
+impl Quantity for WantedDelay {
+    const LEAST: u32 = 0;
 
-impl WantedDelay {
-    pub const LEAST: u32 = 0;
+    const LARGEST: u32 = 65535;
 
-    pub const LARGEST: u32 = 65535;
+    ghost LEAST = { wanted_delay_range.least };
 
-    pub fn checked(value: u32) -> CheckedWantedDelay
-        ensures { result ≡ checked_wanted_delay value }
-    {
-        if within(value, WantedDelay::LEAST, WantedDelay::LARGEST) {
-            CheckedWantedDelay::InRange(WantedDelay(value))
-        } else {
-            CheckedWantedDelay::OutOfRange
-        }
+    ghost LARGEST = { wanted_delay_range.largest };
+
+    ghost of = { λ value. record { 0 = value } };
+
+    ghost number = { λ wanted_delay. wanted_delay.0 };
+
+    fn new(value: u32) -> WantedDelay {
+        WantedDelay(value)
     }
 
-    pub fn in_range(self) -> bool
-        ensures { result ≡ in_range wanted_delay_range self.0 }
-    {
-        within(self.0, WantedDelay::LEAST, WantedDelay::LARGEST)
+    fn value(self) -> u32 {
+        self.0
     }
 }
 
@@ -238,31 +238,25 @@ impl WantedDelay {
 #[derive(Clone, Copy)]
 pub struct Link(pub u32);
 
-#[derive(Clone, Copy)]
-pub enum CheckedLink {
-    InRange(Link),
-    OutOfRange,
-}
+impl Quantity for Link {
+    const LEAST: u32 = 0;
 
-impl Link {
-    pub const LEAST: u32 = 0;
+    const LARGEST: u32 = 15;
 
-    pub const LARGEST: u32 = 15;
+    ghost LEAST = { link_range.least };
 
-    pub fn checked(value: u32) -> CheckedLink
-        ensures { result ≡ checked_link value }
-    {
-        if within(value, Link::LEAST, Link::LARGEST) {
-            CheckedLink::InRange(Link(value))
-        } else {
-            CheckedLink::OutOfRange
-        }
+    ghost LARGEST = { link_range.largest };
+
+    ghost of = { λ value. record { 0 = value } };
+
+    ghost number = { λ link. link.0 };
+
+    fn new(value: u32) -> Link {
+        Link(value)
     }
 
-    pub fn in_range(self) -> bool
-        ensures { result ≡ in_range link_range self.0 }
-    {
-        within(self.0, Link::LEAST, Link::LARGEST)
+    fn value(self) -> u32 {
+        self.0
     }
 }
 
@@ -270,31 +264,25 @@ impl Link {
 #[derive(Clone, Copy)]
 pub struct PathNumber(pub u32);
 
-#[derive(Clone, Copy)]
-pub enum CheckedPathNumber {
-    InRange(PathNumber),
-    OutOfRange,
-}
+impl Quantity for PathNumber {
+    const LEAST: u32 = 0;
 
-impl PathNumber {
-    pub const LEAST: u32 = 0;
+    const LARGEST: u32 = 65535;
 
-    pub const LARGEST: u32 = 65535;
+    ghost LEAST = { path_number_range.least };
 
-    pub fn checked(value: u32) -> CheckedPathNumber
-        ensures { result ≡ checked_path_number value }
-    {
-        if within(value, PathNumber::LEAST, PathNumber::LARGEST) {
-            CheckedPathNumber::InRange(PathNumber(value))
-        } else {
-            CheckedPathNumber::OutOfRange
-        }
+    ghost LARGEST = { path_number_range.largest };
+
+    ghost of = { λ value. record { 0 = value } };
+
+    ghost number = { λ path_number. path_number.0 };
+
+    fn new(value: u32) -> PathNumber {
+        PathNumber(value)
     }
 
-    pub fn in_range(self) -> bool
-        ensures { result ≡ in_range path_number_range self.0 }
-    {
-        within(self.0, PathNumber::LEAST, PathNumber::LARGEST)
+    fn value(self) -> u32 {
+        self.0
     }
 }
 
@@ -302,31 +290,25 @@ impl PathNumber {
 #[derive(Clone, Copy)]
 pub struct LinkCapacity(pub u32);
 
-#[derive(Clone, Copy)]
-pub enum CheckedLinkCapacity {
-    InRange(LinkCapacity),
-    OutOfRange,
-}
+impl Quantity for LinkCapacity {
+    const LEAST: u32 = 0;
 
-impl LinkCapacity {
-    pub const LEAST: u32 = 0;
+    const LARGEST: u32 = 1_000_000;
 
-    pub const LARGEST: u32 = 1_000_000;
+    ghost LEAST = { link_capacity_range.least };
 
-    pub fn checked(value: u32) -> CheckedLinkCapacity
-        ensures { result ≡ checked_link_capacity value }
-    {
-        if within(value, LinkCapacity::LEAST, LinkCapacity::LARGEST) {
-            CheckedLinkCapacity::InRange(LinkCapacity(value))
-        } else {
-            CheckedLinkCapacity::OutOfRange
-        }
+    ghost LARGEST = { link_capacity_range.largest };
+
+    ghost of = { λ value. record { 0 = value } };
+
+    ghost number = { λ link_capacity. link_capacity.0 };
+
+    fn new(value: u32) -> LinkCapacity {
+        LinkCapacity(value)
     }
 
-    pub fn in_range(self) -> bool
-        ensures { result ≡ in_range link_capacity_range self.0 }
-    {
-        within(self.0, LinkCapacity::LEAST, LinkCapacity::LARGEST)
+    fn value(self) -> u32 {
+        self.0
     }
 }
 
@@ -334,31 +316,25 @@ impl LinkCapacity {
 #[derive(Clone, Copy)]
 pub struct Hops(pub u32);
 
-#[derive(Clone, Copy)]
-pub enum CheckedHops {
-    InRange(Hops),
-    OutOfRange,
-}
+impl Quantity for Hops {
+    const LEAST: u32 = 1;
 
-impl Hops {
-    pub const LEAST: u32 = 1;
+    const LARGEST: u32 = 5;
 
-    pub const LARGEST: u32 = 5;
+    ghost LEAST = { hops_range.least };
 
-    pub fn checked(value: u32) -> CheckedHops
-        ensures { result ≡ checked_hops value }
-    {
-        if within(value, Hops::LEAST, Hops::LARGEST) {
-            CheckedHops::InRange(Hops(value))
-        } else {
-            CheckedHops::OutOfRange
-        }
+    ghost LARGEST = { hops_range.largest };
+
+    ghost of = { λ value. record { 0 = value } };
+
+    ghost number = { λ hops. hops.0 };
+
+    fn new(value: u32) -> Hops {
+        Hops(value)
     }
 
-    pub fn in_range(self) -> bool
-        ensures { result ≡ in_range hops_range self.0 }
-    {
-        within(self.0, Hops::LEAST, Hops::LARGEST)
+    fn value(self) -> u32 {
+        self.0
     }
 }
 
@@ -366,30 +342,24 @@ impl Hops {
 #[derive(Clone, Copy)]
 pub struct Packet(pub u32);
 
-#[derive(Clone, Copy)]
-pub enum CheckedPacket {
-    InRange(Packet),
-    OutOfRange,
-}
+impl Quantity for Packet {
+    const LEAST: u32 = 1;
 
-impl Packet {
-    pub const LEAST: u32 = 1;
+    const LARGEST: u32 = 65535;
 
-    pub const LARGEST: u32 = 65535;
+    ghost LEAST = { packet_range.least };
 
-    pub fn checked(value: u32) -> CheckedPacket
-        ensures { result ≡ checked_packet value }
-    {
-        if within(value, Packet::LEAST, Packet::LARGEST) {
-            CheckedPacket::InRange(Packet(value))
-        } else {
-            CheckedPacket::OutOfRange
-        }
+    ghost LARGEST = { packet_range.largest };
+
+    ghost of = { λ value. record { 0 = value } };
+
+    ghost number = { λ packet. packet.0 };
+
+    fn new(value: u32) -> Packet {
+        Packet(value)
     }
 
-    pub fn in_range(self) -> bool
-        ensures { result ≡ in_range packet_range self.0 }
-    {
-        within(self.0, Packet::LEAST, Packet::LARGEST)
+    fn value(self) -> u32 {
+        self.0
     }
 }

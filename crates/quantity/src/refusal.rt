@@ -1,10 +1,13 @@
 // The refusals of document 01, section 7, in checking order, and of document 02, each with its place where it has one.
 
-ghost use Rattle.std.specs.Prelude.{◌≡◌};
-ghost use Rattle.quantity.specs.Refusals.{refusal_number, refusal_place};
+ghost use Rattle.std.specs.Prelude.{◌≡◌, Some};
+ghost use Rattle.quantity.specs.Refusals.{refusal_number, refusal_place, refusal_text};
+
+use std::error::Error;
+use std::fmt;
 
 // The place is the field's first byte, counted from the sheet's start, or the operator's index.
-#[derive(Clone, Copy)]
+#[derive(Clone, Copy, Debug, PartialEq, Eq)]
 pub enum Refusal {
     // 1: lent memory, a value, an amount or a slot number that cannot be used.
     Unusable,
@@ -70,22 +73,35 @@ impl Refusal {
         ensures { result ≡ refusal_place self }
     {
         match self {
-            Refusal::Unusable => 0,
-            Refusal::HeaderCutOff(at) => at,
-            Refusal::FieldUnexpected(at) => at,
-            Refusal::BodyCutOff(at) => at,
-            Refusal::OutOfRange(at) => at,
-            Refusal::FramedAfterFilter(at) => at,
-            Refusal::FigureTooLarge(at) => at,
-            Refusal::RateTooLow(at) => at,
-            Refusal::DelayAboveWanted => 0,
-            Refusal::PathNumberWrong => 0,
-            Refusal::LedgerFull => 0,
-            Refusal::LinkShort => 0,
-            Refusal::InputBreaksDeclaration => 0,
-            Refusal::ChoiceAboveGreatest(at) => at,
-            Refusal::RowsOutOfOrder(at) => at,
-            Refusal::ConfirmedAlready => 0,
+            Refusal::HeaderCutOff(at)
+            | Refusal::FieldUnexpected(at)
+            | Refusal::BodyCutOff(at)
+            | Refusal::OutOfRange(at)
+            | Refusal::FramedAfterFilter(at)
+            | Refusal::FigureTooLarge(at)
+            | Refusal::RateTooLow(at)
+            | Refusal::ChoiceAboveGreatest(at)
+            | Refusal::RowsOutOfOrder(at) => at,
+            Refusal::Unusable
+            | Refusal::DelayAboveWanted
+            | Refusal::PathNumberWrong
+            | Refusal::LedgerFull
+            | Refusal::LinkShort
+            | Refusal::InputBreaksDeclaration
+            | Refusal::ConfirmedAlready => 0,
         }
     }
 }
+
+// `refused`, the number and the place.
+impl fmt::Display for Refusal {
+    ghost output = { λ why. Some (refusal_text why) };
+
+    fn fmt<W: fmt::Write>(&self, f: &mut fmt::Formatter<W>) -> fmt::Result {
+        let number = self.number();
+        let place = self.place();
+        write!(f, "refused {number} {place}")
+    }
+}
+
+impl Error for Refusal {}

@@ -2,6 +2,7 @@
 use mathlib.Core.Path.{◌≡◌, refl, ap, ap₂, sym, subst, ◌∙◌}
 use mathlib.Core.Bool.{Bool, true, false, not}
 use mathlib.Core.List.{List, [], ◌∷◌, ◌++◌}
+use Rattle.std.specs.Prelude.{Ok, Err}
 use mathlib.Core.Logic.{◌↔◌, ⊎_elim}
 use Prim.Native.Nat.{ℕ, zero, suc, ◌-◌, ◌≤◌, ◌<◌}
 use native.Mathlib.Nat.{lt_of_not-le, le_refl}
@@ -33,12 +34,10 @@ use Rattle.operator.proofs.PathStands.{fields-new, fields-usable, path-stands-us
 use Rattle.sheet.specs.Paths.{Path}
 use Rattle.figures.specs.Answers.{operator_at, held_at}
 use Rattle.run.specs.declared.Run.{Run}
-use Rattle.run.specs.declared.slot.Outcome.{Outcome}
-use Rattle.run.specs.declared.slot.Slotted.{Slotted}
 use Rattle.run.specs.Calls.{Call, choice_for, choices_miscounted}
 use Rattle.run.specs.Account.{Account, arriving, slots_used_up, breaks_declaration, choice_too_large, choices_too_large, account_cases, account_answer, account_next, account_after}
 use Rattle.run.specs.Runs.{run_word_count, meter_words, operator_words, no_stage, no_operator, meter_in, operator_of, operator_in, stage_misplaced, stage_unusable, stage_fits, run_unusable}
-use Rattle.run.specs.Slots.{input_into, slot_breaks, choice_above_at, choice_cases, leaves_too_much_at, slot_leaves_too_much, slot_cases, refused_slot, taken_slot, slotted_of, words_slotted}
+use Rattle.run.specs.Slots.{input_into, slot_breaks, choice_above_at, choice_cases, leaves_too_much_at, slot_leaves_too_much, slot_cases, taken_slot, slotted_of, output_of, run_behind, words_slotted}
 use Rattle.run.specs.Lists.{arrived_in}
 use Rattle.run.proofs.UsableRun.{run-usable}
 use Rattle.run.proofs.SlotAnswers.{slot-taken, words-taken, slot-refused, words-refused}
@@ -193,21 +192,21 @@ module _ (path : Path) (passes : Passes path) (run : Run) (words : List ℕ) (ac
       first-stands : (why : Refusal) → FirstIs (account_cases path account call) why → FirstIs (slot_cases run words call) why
       first-stands why first = subst (λ (cs : List Case). FirstIs cs why) (sym cases_same) (first-of-more why (account_cases path account call) _ first)
 
-      pub answer-same : (slotted_of run words call).outcome ≡ account_answer path account call
-      unfolding account_answer taken_slot refused_slot
+      pub answer-same : output_of (slotted_of run words call) ≡ account_answer path account call
+      unfolding account_answer taken_slot
       answer-same =
           ⊎_elim
           (λ taken.
-          ap (λ (slotted : Slotted). slotted.outcome) (slot-taken run words call (none-stands taken))
-          ∙ ap (λ (s : ℕ). Outcome.Sent (record { 0 = s })) (ap (input_into run words call) joined.counted ∙ into-same path run words account arrived joined passes.number call (length path.operators) (le_refl _))
-          ∙ sym (first_of-none Outcome.Refused _ (account_cases path account call) taken))
+          ap output_of (slot-taken run words call (none-stands taken))
+          ∙ ap (λ (s : ℕ). Ok (record { 0 = s })) (ap (input_into run words call) joined.counted ∙ into-same path run words account arrived joined passes.number call (length path.operators) (le_refl _))
+          ∙ sym (first_of-none Err _ (account_cases path account call) taken))
           (λ (why, first).
-          ap (λ (slotted : Slotted). slotted.outcome) (slot-refused run words call why (first-stands why first))
-          ∙ sym (first-answered Outcome.Refused _ why (account_cases path account call) first))
+          ap output_of (slot-refused run words call why (first-stands why first))
+          ∙ sym (first-answered Err _ why (account_cases path account call) first))
           (none-or-first (account_cases path account call))
 
-      pub joined-after : Joined path (slotted_of run words call).run (words_slotted run words call) (account_after path account call) (λ k. arrived k ++ arrived_in path account call k)
-      unfolding taken_slot refused_slot
+      pub joined-after : Joined path (run_behind run (slotted_of run words call)) (words_slotted run words call) (account_after path account call) (λ k. arrived k ++ arrived_in path account call k)
+      unfolding taken_slot
       joined-after =
           ⊎_elim
           (λ taken.

@@ -3,6 +3,7 @@
 -- are section 3's on the account's b, h and past; and these are what a single operator's state and words by age hold. So what each call brings to each operator, and out of the last, is the account's.
 use mathlib.Core.Path.{◌≡◌, refl}
 use mathlib.Core.List.{List, []}
+use Rattle.std.specs.Prelude.{Ok}
 use Prim.Native.Nat.{ℕ, ◌≤◌, ◌<◌}
 use native.Mathlib.Omega.{arith}
 use lib.ListN.{length, take}
@@ -12,8 +13,8 @@ use Rattle.operator.specs.Ring.{path_least, path_greatest}
 use Rattle.operator.proofs.HeldByAge.{past-none, state_by_age, words_by_age, holds-by-age}
 use Rattle.sheet.specs.Paths.{Path}
 use Rattle.sheet.specs.Sheets.{path_in}
-use Rattle.sheet.specs.declared.read.Verdict.{Verdict}
 use Rattle.figures.specs.Answers.{operator_at}
+use Rattle.run.specs.declared.Run.{Run}
 use Rattle.run.specs.Calls.{Call}
 use Rattle.run.specs.Account.{Account, new_account, arriving, account_next}
 use Rattle.run.specs.Runs.{operator_words, operator_in}
@@ -54,7 +55,7 @@ past-none-after path calls =
     (λ account arrived call none before k a above. past-none (operator_at path k) (account.held k) _ _ a above) new_account (λ k. []) calls (λ k a above. refl)
 
 -- of every sheet, every content of the lent words, and every list of calls, where opening was not refused
-pub same-as-by-age : (sheet words : List ℕ) → (opened_of sheet words).verdict ≡ Verdict.Accepted → (calls : List Call) → SameAsByAge sheet words calls
+pub same-as-by-age : (sheet words : List ℕ) {run : Run} → opened_of sheet words ≡ Ok run → (calls : List Call) → SameAsByAge sheet words calls
 same-as-by-age sheet words accepted calls =
     let path = path_in sheet in
     let number = (passes sheet words accepted).number in

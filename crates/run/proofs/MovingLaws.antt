@@ -1,8 +1,10 @@
 -- The operators of a slot one behind the other: what the loop over them has found before operator k, and behind the last.
-use Prim.Native.Nat.{ℕ, zero, suc, ◌+◌, ◌-◌, ◌*◌, ◌≤◌, ◌<◌, min}
+use Prim.Native.Nat.{ℕ, zero, suc, ◌+◌, ◌-◌, ◌*◌, ◌≤◌, ◌<◌}
 use mathlib.Core.Path.{◌≡◌, refl, sym, ap, ap₂, ◌∙◌}
 use mathlib.Core.Bool.{Bool, true, false, not}
 use mathlib.Core.List.{List, [], ◌∷◌, ◌++◌}
+use Rattle.std.specs.Prelude.{Option, Some, None, Result, Ok, Err}
+use Rattle.std.specs.Option.{option_or, MatchOption}
 use mathlib.Core.Logic.{◌⊎◌, inl, inr, ⊎_elim}
 use native.Mathlib.Nat.{not-suc-le-zero, le_of_suc-le-suc, eq-or-lt_of_le}
 use native.Mathlib.Numerals.{add-one}
@@ -19,7 +21,7 @@ use Rattle.quantity.specs.declared.Units.{Units}
 use Rattle.quantity.specs.declared.refusal.Refusal.{Refusal}
 use Rattle.quantity.specs.declared.refusal.Refusal.TheVariants.{Unusable, ChoiceAboveGreatest}
 use Rattle.quantity.proofs.Laws.{either-false}
-use Rattle.quantity.proofs.Sums.{every-next}
+use Rattle.quantity.proofs.Sums.{every-next, every-on, every-at}
 use Rattle.quantity.proofs.Refusals.{NoneStands, none-of-both, FirstIs, first-of-more}
 use Rattle.operator.specs.Held.{Held}
 use Rattle.operator.specs.Operators.{number_in_range}
@@ -28,27 +30,25 @@ use Rattle.operator.specs.Parts.{most_on_the_way}
 use Rattle.operator.specs.Ring.{path_holds, path_unusable, path_choice_above, path_sent, path_holds_next, storable, path_advanced, path_unready, path_holds_sent, ring_place, advanced_of}
 use Rattle.operator.specs.declared.ring.PathOperator.{PathOperator}
 use Rattle.operator.specs.declared.ring.Advanced.{Advanced}
+use Rattle.operator.specs.declared.ring.Halted.{Halted}
 use Rattle.operator.proofs.RingLaws.{path-stored-usable, is-ready}
 use Rattle.sheet.specs.Bodies.{part}
 use Rattle.run.specs.declared.Stage.{Stage}
 use Rattle.run.specs.declared.Run.{Run}
 use Rattle.run.specs.declared.stages.Progress.{Progress}
-use Rattle.run.specs.declared.test.Begun.{Begun}
+use Rattle.meter.specs.declared.parts.Awaited.{Awaited}
 use Rattle.run.specs.Calls.{Call, choices_miscounted, amount_too_large, call_of}
 use Rattle.run.specs.Runs.{operator_at_word, operator_words, no_stage, stage_at, operator_of, operator_in, stage_fits}
 use Rattle.run.specs.Slots.{input_into, choice_above_at, choice_cases, run_holds_next, leaves_too_much_at, slot_leaves_too_much, operator_next, stage_next, slot_cases}
-use Rattle.run.specs.Steps.{awaited_in, not_begun, meter_begun_of, begun_of, stage_kept, first_progress, once_sent, once_unusable, once_above, decision_cases}
+use Rattle.run.specs.Steps.{awaited_in, begun_in, begun_of, Begun, stage_kept, first_progress, once_sent, once_above, decision_cases}
 use Rattle.run.proofs.PathAnswers.{path-sent-fits, path-b-le, Sending, sends-told, above-told, unusable-told}
-use Rattle.run.proofs.UsableRun.{MeterFits, usable-fits, run-unusable, stage-usable, stage-number}
-use Rattle.run.proofs.TestLaws.{named-fits, meter-begun}
+use Rattle.run.proofs.UsableRun.{slot-left, MeterFits, usable-fits, run-unusable, stage-usable, stage-number}
+use Rattle.run.proofs.TestLaws.{Behind, named-fits, begun-told, behind-unused}
 
 never : ◌≡◌ {A = Bool} true false → ⊥
 never e = let z : ◌≡◌ {A = ℕ} 0 1 = cc in omega arith
 
 -- an operator's words as the code lends them
-abbrev lent : List ℕ → ℕ → List ℕ
-lent words k = take (operator_at_word k + word_count - operator_at_word k) (drop (operator_at_word k) words)
-
 pub lent-words : (words : List ℕ) (k : ℕ) → take (operator_at_word k + word_count - operator_at_word k) (drop (operator_at_word k) words) ≡ operator_words words k
 unfolding operator_words part
 lent-words words k = let width : operator_at_word k + word_count - operator_at_word k ≡ word_count = omega arith in ap (λ (n : ℕ). take n (drop (operator_at_word k) words)) width
@@ -60,6 +60,7 @@ pub record Ready (run : Run) (words : List ℕ) (input : Units) (choices : List 
   pub miscounted : choices_miscounted run.count (call_of input choices) ≡ false
   pub large : amount_too_large (call_of input choices) ≡ false
   pub fits : MeterFits run words
+  pub behind : Behind run words
 
 module _ {run : Run} {words : List ℕ} {input : Units} {choices : List ℕ} (ready : Ready run words input choices) where
   pub counted : length choices ≡ run.count
@@ -70,35 +71,40 @@ module _ {run : Run} {words : List ℕ} {input : Units} {choices : List ℕ} (re
   unfolding amount_too_large
   input-le = ltb-false largest_amount input.0 (either-false (ltb largest_amount input.0) _ ready.large).0
 
--- begun with operators, all of that holds
-pub record Begins (run : Run) (words : List ℕ) (input : Units) (choices : List ℕ) (begun : Begun) : Type 0 where
-  pub ready : Ready run words input choices
-  pub count : begun.count ≡ run.count
-  pub awaited : begun.awaited ≡ awaited_in run words
-
-module _ (run : Run) (words : List ℕ) (input : Units) (choices : List ℕ) {begun : Begun} (same : begun ≡ begun_of run words (call_of input choices)) where
+module _ (run : Run) (words : List ℕ) (input : Units) (choices : List ℕ) where
   abbrev call : Call
   call = call_of input choices
 
-  pub begun-or-not : ((begun.count ≡ 0) × FirstIs (slot_cases run words call) Unusable) ⊎ Begins run words input choices begun
+  begun-or-not : {begun : Option Awaited} → begun ≡ begun_of run words call → ((begun ≡ None) × FirstIs (slot_cases run words call) Unusable) ⊎ (Ready run words input choices × (begun ≡ Some (awaited_in run words)))
   unfolding begun_of
-  begun-or-not = by_tests (choices_miscounted run.count call) (amount_too_large call) refl refl same
+  begun-or-not {begun} same = by_tests (choices_miscounted run.count call) (amount_too_large call) refl refl same
     where
-      by_tests : (a b : Bool) → choices_miscounted run.count call ≡ a → amount_too_large call ≡ b → begun ≡ pick (either a b) not_begun (meter_begun_of run words)
-          → ((begun.count ≡ 0) × FirstIs (slot_cases run words call) Unusable) ⊎ Begins run words input choices begun
-      by_tests true b e f made = inl (ap (λ (b : Begun). b.count) made, inl (e, refl))
-      by_tests false true e f made = inl (ap (λ (b : Begun). b.count) made, inr (e, inl (f, refl)))
+      by_tests : (a b : Bool) → choices_miscounted run.count call ≡ a → amount_too_large call ≡ b → begun ≡ pick (either a b) None (begun_in run words)
+          → ((begun ≡ None) × FirstIs (slot_cases run words call) Unusable) ⊎ (Ready run words input choices × (begun ≡ Some (awaited_in run words)))
+      by_tests true b e f made = inl (made, inl (e, refl))
+      by_tests false true e f made = inl (made, inr (e, inl (f, refl)))
       by_tests false false e f made =
           ⊎_elim
-          (λ none. inl (none.0, inr (e, inr (f, inl (run-unusable run words (λ usable. none.1 (usable-fits run words usable)), refl)))))
-          (λ some. inr (record { ready = record { miscounted = e; large = f; fits = some.0 }; count = some.1.0; awaited = some.1.1 }))
-          (meter-begun run words made)
+          (λ none. inl (none.0, inr (e, inr (f, inl (run-unusable run words (λ usable. none.1 (usable-fits run words usable) (behind-unused run words (usable-fits run words usable) usable.stages)), refl)))))
+          (λ some. inr (record { miscounted = e; large = f; fits = some.0; behind = some.1.0 }, some.1.1))
+          (begun-told run words made)
 
-  pub begins : {k : ℕ} → k < begun.count → Begins run words input choices begun
-  begins less = ⊎_elim (λ none. absurd (let zero-count = none.0 in omega arith)) (λ some. some) begun-or-not
+  -- nothing is begun
+  pub none-begun : None ≡ begun_of run words call → FirstIs (slot_cases run words call) Unusable
+  none-begun same = ⊎_elim (λ none. none.1) (λ some. (let e = some.1 in let z : ◌≡◌ {A = ℕ} 0 1 = cc in absurd (omega arith))) (begun-or-not same)
 
-  pub few : begun.count ≤ most_operators
-  few = ⊎_elim (λ none. let zero-count = none.0 in omega arith) (λ some. let c = some.count in let f = some.ready.fits.few in omega arith) begun-or-not
+  -- or all of that holds
+  pub some-begun : {awaited : Awaited} → Some awaited ≡ begun_of run words call → Ready run words input choices × (awaited ≡ awaited_in run words)
+  some-begun same = ⊎_elim (λ none. (let e = none.0 in let z : ◌≡◌ {A = ℕ} 0 1 = cc in absurd (omega arith))) (λ some. (some.0, (let e = some.1 in cc))) (begun-or-not same)
+
+  -- so much is known of what has begun
+  pub begun-fits : {begun : Option Awaited} → begun ≡ begun_of run words call → MatchOption begun (Unit {0}) (λ awaited. Begun run words input choices)
+  begun-fits same =
+      ⊎_elim (λ none. rw none.0 tt)
+      (λ some.
+      let fits = some.0.fits in
+      rw some.1 (record { sized = fits.sized; few = fits.few; counted = counted some.0; small = input-le some.0; left = slot-left run words fits }))
+      (begun-or-not same)
 
 -- The test of what is stored.
 
@@ -120,7 +126,7 @@ storable-same run words call k =
 
 -- no choice was above so far: what arrives, what is stored and the stages are those of the definitions
 pub record Passing (run : Run) (words : List ℕ) (call : Call) (k : ℕ) (p : Progress) (stages : List Stage) (places : List ℕ) : Type 0 where
-  pub none_above : p.above ≡ most_operators
+  pub none_above : p.above ≡ None
   pub arrives : p.arriving.0 ≡ input_into run words call k
   pub passed : NoneStands (choice_cases run words call k)
   pub stored : p.fits ≡ every (λ j. not (leaves_too_much_at run words call j)) k
@@ -129,31 +135,33 @@ pub record Passing (run : Run) (words : List ℕ) (call : Call) (k : ℕ) (p : P
 
 -- or one was, and the first is told
 pub record Standing (run : Run) (words : List ℕ) (call : Call) (k : ℕ) (p : Progress) : Type 0 where
-  pub before : p.above < k
-  pub passed : NoneStands (choice_cases run words call p.above)
-  pub stands : choice_above_at run words call p.above ≡ true
+  pub first : ℕ
+  pub told : p.above ≡ Some first
+  pub before : first < k
+  pub passed : NoneStands (choice_cases run words call first)
+  pub stands : choice_above_at run words call first ≡ true
 
--- of so many operators; where one cannot be used, nothing else is told
-pub record Moving (run : Run) (words : List ℕ) (call : Call) (count k : ℕ) (p : Progress) (stages : List Stage) (places : List ℕ) : Type 0 where
+-- and all operators so far can be used
+pub record Moving (run : Run) (words : List ℕ) (call : Call) (k : ℕ) (p : Progress) (stages : List Stage) (places : List ℕ) : Type 0 where
   pub long : length stages ≡ most_operators
   pub wide : length places ≡ most_operators
   pub later : (i : ℕ) → k ≤ i → get_or stages i no_stage ≡ stage_at run i
-  pub tells : p.usable ≡ both (ltb 0 count) (every (stage_fits run words) k)
-  pub small : p.usable ≡ true → p.arriving.0 ≤ largest_amount * (k + 1)
-  pub goes : p.usable ≡ true → Passing run words call k p stages places ⊎ Standing run words call k p
+  pub fit : every (stage_fits run words) k ≡ true
+  pub small : p.arriving.0 ≤ largest_amount * (k + 1)
+  pub goes : Passing run words call k p stages places ⊎ Standing run words call k p
 
 -- before operator 0
-pub moving-start : (run : Run) (words choices : List ℕ) (input : Units) {begun : Begun} → begun ≡ begun_of run words (call_of input choices) → length run.stages ≡ most_operators
-    → {p : Progress} → p ≡ first_progress begun.count input → (places : List ℕ) → length places ≡ most_operators → Moving run words (call_of input choices) begun.count 0 p run.stages places
+pub moving-start : {run : Run} {words choices : List ℕ} {input : Units} → Ready run words input choices → length run.stages ≡ most_operators
+    → {p : Progress} → p ≡ first_progress input → (places : List ℕ) → length places ≡ most_operators → Moving run words (call_of input choices) 0 p run.stages places
 unfolding first_progress stage_at input_into choice_cases every
-moving-start run words choices input {begun} same full {p} first places sixteen =
+moving-start ready full {p} first places sixteen =
     record {
       long = full;
       wide = sixteen;
       later = λ i behind. refl;
-      tells = ap (λ (q : Progress). q.usable) first ∙ sym (both-last (ltb 0 begun.count));
-      small = λ usable. let some = begins run words input choices same (ltb-true 0 begun.count (sym (ap (λ (q : Progress). q.usable) first) ∙ usable)) in omega (arith, input-le some.ready, ap (λ (q : Progress). q.arriving.0) first);
-      goes = λ usable. inl (record {
+      fit = refl;
+      small = omega (arith, input-le ready, ap (λ (q : Progress). q.arriving.0) first);
+      goes = inl (record {
         none_above = ap (λ (q : Progress). q.above) first;
         arrives = ap (λ (q : Progress). q.arriving.0) first;
         passed = tt;
@@ -162,10 +170,6 @@ moving-start run words choices input {begun} same full {p} first places sixteen 
         placed = λ i less. absurd (not-suc-le-zero less);
       });
     }
-  where
-    both-last : (t : Bool) → both t true ≡ t
-    both-last true = refl
-    both-last false = refl
 
 -- an operator that has advanced, as the run keeps it
 stage-advanced : (run : Run) (words : List ℕ) (call : Call) (k : ℕ)
@@ -175,7 +179,7 @@ stage-advanced run words _ k = refl
 
 -- one operator on
 module _ {run : Run} {words choices : List ℕ} {input : Units} (ready : Ready run words input choices)
-    {count k : ℕ} {p : Progress} {stages : List Stage} {places : List ℕ} (moving : Moving run words (call_of input choices) count k p stages places) (here : k < run.count) where
+    {k : ℕ} {p : Progress} {stages : List Stage} {places : List ℕ} (moving : Moving run words (call_of input choices) k p stages places) (here : k < run.count) where
   abbrev asked : Call
   asked = call_of input choices
 
@@ -193,7 +197,7 @@ module _ {run : Run} {words choices : List ℕ} {input : Units} (ready : Ready r
   unfolding operator_in
   operator-same = ap (λ (stage : Stage). operator_of stage run.slot) (moving.later k (omega arith))
 
-  answer-same : {advanced : Advanced} → advanced ≡ advanced_of (operator_of (get_or stages k no_stage) run.slot) ws p.arriving.0 (get_or choices k 0) → advanced ≡ advanced_of x ws p.arriving.0 (get_or choices k 0)
+  answer-same : {answer : Result Advanced Halted} → answer ≡ advanced_of (operator_of (get_or stages k no_stage) run.slot) ws p.arriving.0 (get_or choices k 0) → answer ≡ advanced_of x ws p.arriving.0 (get_or choices k 0)
   answer-same e = e ∙ ap (λ (y : PathOperator). advanced_of y ws p.arriving.0 (get_or choices k 0)) operator-same
 
   -- it fits just where it is ready for what can be on the way
@@ -216,28 +220,26 @@ module _ {run : Run} {words choices : List ℕ} {input : Units} (ready : Ready r
       by-test true e =
           absurd (never (sym unready ∙ is-ready x ws r (path-stored-usable x ws (stage-usable run words k e)) (stage-number run words k e here) within))
 
-  on-the-way : p.usable ≡ true → p.arriving.0 ≤ most_on_the_way
-  on-the-way usable = omega (arith, moving.small usable, below)
+  on-the-way : p.arriving.0 ≤ most_on_the_way
+  on-the-way = omega (arith, moving.small, below)
 
-  tells-next : stage_fits run words k ≡ true → p.usable ≡ both (ltb 0 count) (every (stage_fits run words) (k + 1))
-  tells-next fits = moving.tells ∙ ap (both (ltb 0 count)) (sym (every-next (stage_fits run words) k ∙ ap (both (every (stage_fits run words) k)) fits ∙ both-last (every (stage_fits run words) k)))
-    where
-      both-last : (t : Bool) → both t true ≡ t
-      both-last true = refl
-      both-last false = refl
+  fit-next : stage_fits run words k ≡ true → every (stage_fits run words) (k + 1) ≡ true
+  fit-next fits = every-on (stage_fits run words) k moving.fit fits
 
   standing-next : {q : Progress} → q.above ≡ p.above → Standing run words asked k p → Standing run words asked (k + 1) q
   standing-next same standing =
       record {
-        before = let early = standing.before in omega (arith, same);
-        passed = rw same standing.passed;
-        stands = rw same standing.stands;
+        first = standing.first;
+        told = same ∙ standing.told;
+        before = let early = standing.before in omega arith;
+        passed = standing.passed;
+        stands = standing.stands;
       }
 
   -- It sends.
-  module _ {output : Units} {fits : Bool} {next : PathOperator} {at : ℕ} (told : Advanced.Sends output fits next at ≡ advanced_of (operator_of (get_or stages k no_stage) run.slot) ws p.arriving.0 (get_or choices k 0))
-      {stage : Stage} (kept : stage ≡ stage_kept next) {q : Progress} (made : q ≡ once_sent p output fits) where
-    sending : Sending x ws p.arriving.0 (get_or choices k 0) output fits next at
+  module _ {advanced : Advanced} (told : Ok advanced ≡ advanced_of (operator_of (get_or stages k no_stage) run.slot) ws p.arriving.0 (get_or choices k 0))
+      {stage : Stage} (kept : stage ≡ stage_kept advanced.next) {q : Progress} (made : q ≡ once_sent p advanced.output advanced.fits) where
+    sending : Sending x ws p.arriving.0 (get_or choices k 0) advanced
     sending = sends-told x ws p.arriving.0 (get_or choices k 0) (answer-same told)
 
     arriving-next : q.arriving.0 ≡ path_sent x ws p.arriving.0 (get_or choices k 0)
@@ -269,7 +271,7 @@ module _ {run : Run} {words choices : List ℕ} {input : Units} (ready : Ready r
       stage-same : stage ≡ stage_next run words asked k
       stage-same =
           kept
-          ∙ ap stage_kept sending.advanced
+          ∙ ap stage_kept sending.kept
           ∙ ap (λ (r : ℕ). stage_kept (path_advanced x r (path_sent x ws p.arriving.0 (get_or choices k 0)) (path_holds_sent x ws p.arriving.0 (get_or choices k 0)).b (path_holds_sent x ws p.arriving.0 (get_or choices k 0)).h)) passing.arrives
           ∙ ap₂ (λ (s : ℕ) (y : Held). stage_kept (path_advanced x (input_into run words asked k) s y.b y.h)) sent-same holds_same
           ∙ stage-advanced run words asked k
@@ -288,14 +290,14 @@ module _ {run : Run} {words choices : List ℕ} {input : Units} (ready : Ready r
           (λ under. get_or-set_other stages k i stage no_stage (omega arith) ∙ passing.advanced i under)
           (eq-or-lt_of_le (omega arith))
 
-      placed-next : (i : ℕ) → i < k + 1 → get_or (set places k at) i 0 ≡ ring_place (operator_in run i)
+      placed-next : (i : ℕ) → i < k + 1 → get_or (set places k advanced.at) i 0 ≡ ring_place (operator_in run i)
       placed-next i less =
           ⊎_elim
-          (λ same. rw same (get_or-set_same places k at 0 (rw moving.wide below) ∙ sending.placed))
-          (λ under. get_or-set_other places k i at 0 (omega arith) ∙ passing.placed i under)
+          (λ same. rw same (get_or-set_same places k advanced.at 0 (rw moving.wide below) ∙ sending.placed))
+          (λ under. get_or-set_other places k i advanced.at 0 (omega arith) ∙ passing.placed i under)
           (eq-or-lt_of_le (omega arith))
 
-      passing-next : Passing run words asked (k + 1) q (set stages k stage) (set places k at)
+      passing-next : Passing run words asked (k + 1) q (set stages k stage) (set places k advanced.at)
       unfolding once_sent choice_cases
       passing-next =
           record {
@@ -307,73 +309,37 @@ module _ {run : Run} {words choices : List ℕ} {input : Units} (ready : Ready r
             placed = placed-next;
           }
 
-    usable_same : q.usable ≡ p.usable
-    unfolding once_sent
-    usable_same = ap (λ (q : Progress). q.usable) made
-
     above_kept : q.above ≡ p.above
     unfolding once_sent
     above_kept = ap (λ (q : Progress). q.above) made
 
-    pub moving-sent : Moving run words (call_of input choices) count (k + 1) q (set stages k stage) (set places k at)
+    pub moving-sent : Moving run words (call_of input choices) (k + 1) q (set stages k stage) (set places k advanced.at)
     moving-sent =
         record {
           long = length-set stages k stage ∙ moving.long;
-          wide = length-set places k at ∙ moving.wide;
+          wide = length-set places k advanced.at ∙ moving.wide;
           later = later-next;
-          tells = usable_same ∙ tells-next fitting;
-          small = λ usable.
-              let was = moving.small (sym usable_same ∙ usable) in
+          fit = fit-next fitting;
+          small =
+              let was = moving.small in
               let holds = path-b-le x ws (stage-usable run words k fitting) in
               omega (arith, arriving-next, sent-le);
-          goes = λ usable. ⊎_elim (λ passing. inl (passing-next passing)) (λ standing. inr (standing-next above_kept standing)) (moving.goes (sym usable_same ∙ usable));
+          goes = ⊎_elim (λ passing. inl (passing-next passing)) (λ standing. inr (standing-next above_kept standing)) moving.goes;
         }
 
   -- It cannot be used.
-  module _ (told : Advanced.Unusable ≡ advanced_of (operator_of (get_or stages k no_stage) run.slot) ws p.arriving.0 (get_or choices k 0)) {q : Progress} (made : q ≡ once_unusable p) where
-    unusable : q.usable ≡ false
-    unfolding once_unusable
-    unusable = ap (λ (q : Progress). q.usable) made
-
-    unready : path_unready x ws p.arriving.0 ≡ true
-    unready = unusable-told x ws p.arriving.0 (get_or choices k 0) (answer-same told)
-
-    none_left : (t : Bool) → p.usable ≡ t → false ≡ both (ltb 0 count) (every (stage_fits run words) (k + 1))
-    none_left true usable =
-        sym (ap (both (ltb 0 count)) (every-next (stage_fits run words) k ∙ ap (both (every (stage_fits run words) k)) (unready-misfits p.arriving.0 (on-the-way usable) unready)) ∙ both-none (ltb 0 count) (every (stage_fits run words) k))
-      where
-        both-none : (a b : Bool) → both a (both b false) ≡ false
-        both-none true true = refl
-        both-none true false = refl
-        both-none false b = refl
-    none_left false usable = sym (ap (both (ltb 0 count)) (every-next (stage_fits run words) k) ∙ both-less (ltb 0 count) (every (stage_fits run words) k) (stage_fits run words k) (sym moving.tells ∙ usable))
-      where
-        both-less : (a b c : Bool) → both a b ≡ false → both a (both b c) ≡ false
-        both-less true true c e = absurd (never e)
-        both-less true false c e = refl
-        both-less false b c e = refl
-
-    pub moving-unusable : Moving run words (call_of input choices) count (k + 1) q stages places
-    moving-unusable =
-        record {
-          long = moving.long;
-          wide = moving.wide;
-          later = λ i behind. moving.later i (omega arith);
-          tells = unusable ∙ none_left p.usable refl;
-          small = λ usable. absurd (never (sym usable ∙ unusable));
-          goes = λ usable. absurd (never (sym usable ∙ unusable));
-        }
+  pub unusable-refused : Err Halted.Unusable ≡ advanced_of (operator_of (get_or stages k no_stage) run.slot) ws p.arriving.0 (get_or choices k 0) → FirstIs (slot_cases run words asked) Unusable
+  unusable-refused told =
+      let unready = unusable-told x ws p.arriving.0 (get_or choices k 0) (answer-same told) in
+      let misfits = unready-misfits p.arriving.0 on-the-way unready in
+      inr (ready.miscounted, inr (ready.large, inl (run-unusable run words (λ usable. never (sym (every-at (stage_fits run words) most_operators usable.stages k below) ∙ misfits)), refl)))
 
   -- Its choice is above.
-  module _ (told : Advanced.ChoiceAbove ≡ advanced_of (operator_of (get_or stages k no_stage) run.slot) ws p.arriving.0 (get_or choices k 0)) {q : Progress} (made : q ≡ once_above p k) where
+  module _ (told : Err Halted.ChoiceAbove ≡ advanced_of (operator_of (get_or stages k no_stage) run.slot) ws p.arriving.0 (get_or choices k 0)) {q : Progress} (made : q ≡ once_above p k) where
     tested : (path_unready x ws p.arriving.0 ≡ false) × (path_choice_above x ws p.arriving.0 (get_or choices k 0) ≡ true)
     tested = above-told x ws p.arriving.0 (get_or choices k 0) (answer-same told)
 
-    usable-kept : q.usable ≡ p.usable
-    unfolding once_above
-    usable-kept = ap (λ (q : Progress). q.usable) made
-
-    above-now : q.above ≡ min p.above k
+    above-now : q.above ≡ option_or p.above (Some k)
     unfolding once_above
     above-now = ap (λ (q : Progress). q.above) made
 
@@ -384,23 +350,26 @@ module _ {run : Run} {words choices : List ℕ} {input : Units} (ready : Ready r
     stands_here : Passing run words asked k p stages places → Standing run words asked (k + 1) q
     unfolding choice_above_at
     stands_here passing =
-        let first : q.above ≡ k = omega (arith, above-now, passing.none_above, below) in
         record {
+          first = k;
+          told = above-now ∙ ap (λ (above : Option ℕ). option_or above (Some k)) passing.none_above;
           before = omega arith;
-          passed = rw first passing.passed;
-          stands = rw first (sym (ap (λ (r : ℕ). path_choice_above x ws r (get_or choices k 0)) passing.arrives) ∙ tested.1);
+          passed = passing.passed;
+          stands = sym (ap (λ (r : ℕ). path_choice_above x ws r (get_or choices k 0)) passing.arrives) ∙ tested.1;
         }
 
-    pub moving-above : Moving run words (call_of input choices) count (k + 1) q stages places
+    still-stands : Standing run words asked k p → Standing run words asked (k + 1) q
+    still-stands standing = standing-next (above-now ∙ ap (λ (above : Option ℕ). option_or above (Some k)) standing.told ∙ sym standing.told) standing
+
+    pub moving-above : Moving run words (call_of input choices) (k + 1) q stages places
     moving-above =
         record {
           long = moving.long;
           wide = moving.wide;
           later = λ i behind. moving.later i (omega arith);
-          tells = usable-kept ∙ tells-next (ready-fits p.arriving.0 tested.0);
-          small = λ usable. let was = moving.small (sym usable-kept ∙ usable) in omega (arith, arriving-kept);
-          goes = λ usable.
-              ⊎_elim (λ passing. inr (stands_here passing)) (λ standing. inr (standing-next (let early = standing.before in omega (arith, above-now)) standing)) (moving.goes (sym usable-kept ∙ usable));
+          fit = fit-next (ready-fits p.arriving.0 tested.0);
+          small = let was = moving.small in omega (arith, arriving-kept);
+          goes = ⊎_elim (λ passing. inr (stands_here passing)) (λ standing. inr (still-stands standing)) moving.goes;
         }
 
 -- The cases.
@@ -425,8 +394,8 @@ module _ (run : Run) (words : List ℕ) (call : Call) where
   last = (slot_leaves_too_much run words call ⇒ Unusable) ∷ []
 
   -- behind the last operator: 14 of one
-  pub standing-decided : {p : Progress} → Standing run words call run.count p → FirstIs (decision_cases run words call) (ChoiceAboveGreatest p.above)
-  standing-decided {p} standing = first-of-more (ChoiceAboveGreatest p.above) (choice_cases run words call run.count) last (first_above p.above standing.passed standing.stands run.count standing.before)
+  pub standing-decided : {p : Progress} → (standing : Standing run words call run.count p) → FirstIs (decision_cases run words call) (ChoiceAboveGreatest standing.first)
+  standing-decided standing = first-of-more (ChoiceAboveGreatest standing.first) (choice_cases run words call run.count) last (first_above standing.first standing.passed standing.stands run.count standing.before)
 
   -- or 1 again, or nothing
   module _ {p : Progress} {stages : List Stage} {places : List ℕ} (passing : Passing run words call run.count p stages places) where

@@ -1,13 +1,13 @@
 -- What an operator within a path may send is there, what it holds is within the limit where it can be used, and what advancing answers tells of its tests.
-use mathlib.Core.Path.{◌≡◌, refl, sym, ◌∙◌}
+use mathlib.Core.Path.{◌≡◌, refl, sym, subst, ◌∙◌}
 use mathlib.Core.Bool.{Bool, true, false}
 use mathlib.Core.List.{List}
+use Rattle.std.specs.Prelude.{Result, Ok, Err}
 use Prim.Native.Nat.{ℕ, ◌+◌, ◌-◌, ◌≤◌}
 use native.Mathlib.Omega.{arith}
 use borrow.Author.Tests.{leb-true, ltb-false}
 use Rattle.quantity.specs.Choice.{pick}
 use Rattle.quantity.specs.Limits.{largest_amount}
-use Rattle.quantity.specs.declared.Units.{Units}
 use Rattle.quantity.proofs.Laws.{pick_true, pick-false}
 use Rattle.words.proofs.StoredLaws.{stored-le}
 use Rattle.operator.specs.Held.{Held}
@@ -19,6 +19,7 @@ use Rattle.operator.specs.declared.Operator.{Operator}
 use Rattle.operator.specs.declared.Operator.TheVariants.{Limiter, Compactor, Expander, Filter, Delayer}
 use Rattle.operator.specs.declared.ring.PathOperator.{PathOperator}
 use Rattle.operator.specs.declared.ring.Advanced.{Advanced}
+use Rattle.operator.specs.declared.ring.Halted.{Halted}
 use Rattle.operator.proofs.Laws.{greatest-le-there, least-le-greatest}
 use Rattle.operator.proofs.RingLaws.{PathUsable}
 
@@ -88,49 +89,42 @@ module _ (x : PathOperator) (words : List ℕ) (stored : PathUsable x words) whe
 
 module _ (x : PathOperator) (words : List ℕ) (input choice : ℕ) where
   -- an operator that sends
-  pub record Sending (output : Units) (fits : Bool) (next : PathOperator) (at : ℕ) : Type 0 where
+  pub record Sending (advanced : Advanced) : Type 0 where
     pub ready : path_unready x words input ≡ false
     pub below : path_choice_above x words input choice ≡ false
-    pub sent : output ≡ record { 0 = path_sent x words input choice }
-    pub stored : fits ≡ storable (path_holds_sent x words input choice).b (path_holds_sent x words input choice).h
-    pub advanced : next ≡ path_advanced x input (path_sent x words input choice) (path_holds_sent x words input choice).b (path_holds_sent x words input choice).h
-    pub placed : at ≡ ring_place x
+    pub sent : advanced.output ≡ record { 0 = path_sent x words input choice }
+    pub stored : advanced.fits ≡ storable (path_holds_sent x words input choice).b (path_holds_sent x words input choice).h
+    pub kept : advanced.next ≡ path_advanced x input (path_sent x words input choice) (path_holds_sent x words input choice).b (path_holds_sent x words input choice).h
+    pub placed : advanced.at ≡ ring_place x
 
-  pub sends-told : {output : Units} {fits : Bool} {next : PathOperator} {at : ℕ} → Advanced.Sends output fits next at ≡ advanced_of x words input choice → Sending output fits next at
+  -- what the two tests tell of an answer
+  abbrev Told : Result Advanced Halted → Type 0
+  Told (Ok advanced) = Sending advanced
+  Told (Err Halted.Unusable) = path_unready x words input ≡ true
+  Told (Err Halted.ChoiceAbove) = (path_unready x words input ≡ false) × (path_choice_above x words input choice ≡ true)
+
+  told : Told (advanced_of x words input choice)
   unfolding advanced_of
-  sends-told {output} {fits} {next} {at} told = by_tests (path_unready x words input) (path_choice_above x words input choice) refl refl told
+  told = by_tests (path_unready x words input) (path_choice_above x words input choice) refl refl
     where
       by_tests : (t u : Bool) → path_unready x words input ≡ t → path_choice_above x words input choice ≡ u
-          → Advanced.Sends output fits next at
-          ≡ pick t Advanced.Unusable
-          (pick u Advanced.ChoiceAbove
-          (Advanced.Sends
-          (record { 0 = path_sent x words input choice })
-          (storable (path_holds_sent x words input choice).b (path_holds_sent x words input choice).h)
-          (path_advanced x input (path_sent x words input choice) (path_holds_sent x words input choice).b (path_holds_sent x words input choice).h)
-          (ring_place x)))
-          → Sending output fits next at
-      by_tests true u e f same = absurd (let z : ◌≡◌ {A = ℕ} 0 1 = cc in omega arith)
-      by_tests false true e f same = absurd (let z : ◌≡◌ {A = ℕ} 0 1 = cc in omega arith)
-      by_tests false false e f same = record { ready = e; below = f; sent = cc; stored = cc; advanced = cc; placed = cc }
+          → Told (pick t (Err Halted.Unusable)
+          (pick u (Err Halted.ChoiceAbove)
+          (Ok (record {
+            output = record { 0 = path_sent x words input choice };
+            fits = storable (path_holds_sent x words input choice).b (path_holds_sent x words input choice).h;
+            next = path_advanced x input (path_sent x words input choice) (path_holds_sent x words input choice).b (path_holds_sent x words input choice).h;
+            at = ring_place x;
+          }))))
+      by_tests true u e f = e
+      by_tests false true e f = (e, f)
+      by_tests false false e f = record { ready = e; below = f; sent = refl; stored = refl; kept = refl; placed = refl }
 
-  pub above-told : Advanced.ChoiceAbove ≡ advanced_of x words input choice → (path_unready x words input ≡ false) × (path_choice_above x words input choice ≡ true)
-  unfolding advanced_of
-  above-told told = by_tests (path_unready x words input) (path_choice_above x words input choice) refl refl _ _ _ _ told
-    where
-      by_tests : (t u : Bool) → path_unready x words input ≡ t → path_choice_above x words input choice ≡ u
-          → (output : Units) (fits : Bool) (next : PathOperator) (at : ℕ) → Advanced.ChoiceAbove ≡ pick t Advanced.Unusable (pick u Advanced.ChoiceAbove (Advanced.Sends output fits next at))
-          → (path_unready x words input ≡ false) × (path_choice_above x words input choice ≡ true)
-      by_tests true u e f output fits next at same = absurd (let z : ◌≡◌ {A = ℕ} 0 1 = cc in omega arith)
-      by_tests false true e f output fits next at same = (e, f)
-      by_tests false false e f output fits next at same = absurd (let z : ◌≡◌ {A = ℕ} 0 1 = cc in omega arith)
+  pub sends-told : {advanced : Advanced} → Ok advanced ≡ advanced_of x words input choice → Sending advanced
+  sends-told same = subst Told (sym same) told
 
-  pub unusable-told : Advanced.Unusable ≡ advanced_of x words input choice → path_unready x words input ≡ true
-  unfolding advanced_of
-  unusable-told told = by_tests (path_unready x words input) (path_choice_above x words input choice) refl _ _ _ _ told
-    where
-      by_tests : (t u : Bool) → path_unready x words input ≡ t
-          → (output : Units) (fits : Bool) (next : PathOperator) (at : ℕ) → Advanced.Unusable ≡ pick t Advanced.Unusable (pick u Advanced.ChoiceAbove (Advanced.Sends output fits next at)) → path_unready x words input ≡ true
-      by_tests true u e output fits next at same = e
-      by_tests false true e output fits next at same = absurd (let z : ◌≡◌ {A = ℕ} 0 1 = cc in omega arith)
-      by_tests false false e output fits next at same = absurd (let z : ◌≡◌ {A = ℕ} 0 1 = cc in omega arith)
+  pub above-told : Err Halted.ChoiceAbove ≡ advanced_of x words input choice → (path_unready x words input ≡ false) × (path_choice_above x words input choice ≡ true)
+  above-told same = subst Told (sym same) told
+
+  pub unusable-told : Err Halted.Unusable ≡ advanced_of x words input choice → path_unready x words input ≡ true
+  unusable-told same = subst Told (sym same) told

@@ -2,6 +2,7 @@
 -- Behind it, lent runs of a delayer (document 02, item 10): its totals wrap, or its ring's words are such as no slot wrote.
 use mathlib.Core.Path.{◌≡◌, refl}
 use mathlib.Core.List.{List, [], ◌∷◌, ◌++◌}
+use Rattle.std.specs.Prelude.{Result, Ok, Err}
 use Prim.Native.Nat.{ℕ, ◌+◌}
 use lib.ListN.{length, replicate}
 use Rattle.quantity.specs.Ranges.{in_range}
@@ -27,20 +28,21 @@ use Rattle.figures.proofs.ReferencePaths.{path_of, path, rows_path, camera}
 use Rattle.run.specs.Calls.{Call, choices_miscounted, amount_too_large}
 use Rattle.run.specs.Account.{Account, new_account, arriving, slots_used_up, breaks_declaration, choice_too_large, choices_too_large, account_answer, account_next, account_after}
 use Rattle.run.specs.Runs.{meter_words, operator_words, no_stage, no_operator, stage_at, meter_in, operator_in, stage_misplaced, stage_unusable, stage_fits, run_unusable}
-use Rattle.run.specs.Slots.{input_into, slot_breaks, choice_above_at, choice_cases, run_holds_next, leaves_too_much_at, slot_leaves_too_much, operator_next, stage_next, run_next, operator_word_next, word_next, refused_slot, taken_slot, slotted_of}
+use Rattle.run.specs.Slots.{input_into, slot_breaks, choice_above_at, choice_cases, run_holds_next, leaves_too_much_at, slot_leaves_too_much, operator_next, stage_next, run_next, operator_word_next, word_next, taken_slot, slotted_of, output_of}
 use Rattle.run.specs.Watching.{run_holds}
 use Rattle.run.specs.Lists.{account_all}
+use Rattle.quantity.specs.declared.Units.{Units}
+use Rattle.quantity.specs.declared.refusal.Refusal.{Refusal}
 use Rattle.run.specs.declared.Run.{Run}
-use Rattle.run.specs.declared.slot.Outcome.{Outcome}
 
 -- what a call answers
 pub data Answer : Type 0 where
   sent : ℕ → Answer
   refused : ℕ → ℕ → Answer
 
-abbrev pub answer_of : Outcome → Answer
-answer_of (Outcome.Sent output) = sent output.0
-answer_of (Outcome.Refused why) = refused (refusal_number why) (refusal_place why)
+abbrev pub answer_of : Result Units Refusal → Answer
+answer_of (Ok output) = sent output.0
+answer_of (Err why) = refused (refusal_number why) (refusal_place why)
 
 pub answers : Path → Account → List Call → List Answer
 answers path account [] = []
@@ -107,7 +109,7 @@ words_of now = replicate 1_024 0 ++ (now.ring ++ replicate 1_020 0)
 
 -- what a slot answers
 pub answer_on : Lent → ℕ → ℕ → Answer
-answer_on now input choice = answer_of (slotted_of (run_of now) (words_of now) (given input (choice ∷ []))).outcome
+answer_on now input choice = answer_of (output_of (slotted_of (run_of now) (words_of now) (given input (choice ∷ []))))
 
 -- what a slot that is taken leaves
 pub left_by : Lent → ℕ → ℕ → Lent
@@ -159,7 +161,7 @@ over_the_wrap_expected =
     }
 
 pub reference-wrap : over_the_wrap ≡ over_the_wrap_expected
-unfolding over_the_wrap over_the_wrap_expected before_wrap after_wrap one_word_left no_word_left answer_on left_by held_in every list_of choices_miscounted amount_too_large part stage_at no_operator meter_words operator_words meter_in operator_in stage_misplaced stage_unusable stage_fits run_unusable run_holds input_into slot_breaks choice_above_at choice_cases run_holds_next leaves_too_much_at slot_leaves_too_much operator_next stage_next run_next operator_word_next word_next refused_slot taken_slot slotted_of in_range number_in_range row_count row_at row_in_range declaration_in_range rows_in_order row_clear rows_clear_from unused_clear Meter.meter_unusable Meter.uses_block Meter.ring_length Meter.block_before Meter.counted_before Meter.input_breaks Meter.block_next Meter.meter_next uses_held uses_beside words_used stored_fits word_fits greatest_output delayer_greatest held_after delayer_after Ring.total_more Ring.total_less Ring.ring_held Ring.ring_recent Ring.path_holds Ring.path_least Ring.path_greatest Ring.word_unused Ring.totals_fit Ring.path_unusable Ring.path_sent Ring.path_choice_above Ring.path_holds_next Ring.total_next Ring.path_state_kept Ring.ring_word_next
+unfolding over_the_wrap over_the_wrap_expected before_wrap after_wrap one_word_left no_word_left answer_on left_by held_in every list_of choices_miscounted amount_too_large part stage_at no_operator meter_words operator_words meter_in operator_in stage_misplaced stage_unusable stage_fits run_unusable run_holds input_into slot_breaks choice_above_at choice_cases run_holds_next leaves_too_much_at slot_leaves_too_much operator_next stage_next run_next operator_word_next word_next taken_slot slotted_of in_range number_in_range row_count row_at row_in_range declaration_in_range rows_in_order row_clear rows_clear_from unused_clear Meter.meter_unusable Meter.uses_block Meter.ring_length Meter.block_before Meter.counted_before Meter.input_breaks Meter.block_next Meter.meter_next uses_held uses_beside words_used stored_fits word_fits greatest_output delayer_greatest held_after delayer_after Ring.total_more Ring.total_less Ring.ring_held Ring.ring_recent Ring.path_holds Ring.path_least Ring.path_greatest Ring.word_unused Ring.totals_fit Ring.path_unusable Ring.path_sent Ring.path_choice_above Ring.path_holds_next Ring.total_next Ring.path_state_kept Ring.ring_word_next
 reference-wrap = refl
 
 -- Words that no slot wrote: of the 40 held, slot 7's word says that 30 entered after slot 4, and the two others that more entered than is held.
@@ -199,5 +201,5 @@ on_any_words_expected =
     }
 
 pub reference-any-words : on_any_words ≡ on_any_words_expected
-unfolding on_any_words on_any_words_expected unwritten one_written two_written full overfull soiled answer_on left_by held_in every list_of choices_miscounted amount_too_large part stage_at no_operator meter_words operator_words meter_in operator_in stage_misplaced stage_unusable stage_fits run_unusable run_holds input_into slot_breaks choice_above_at choice_cases run_holds_next leaves_too_much_at slot_leaves_too_much operator_next stage_next run_next operator_word_next word_next refused_slot taken_slot slotted_of in_range number_in_range row_count row_at row_in_range declaration_in_range rows_in_order row_clear rows_clear_from unused_clear Meter.meter_unusable Meter.uses_block Meter.ring_length Meter.block_before Meter.counted_before Meter.input_breaks Meter.block_next Meter.meter_next uses_held uses_beside words_used stored_fits word_fits greatest_output delayer_greatest held_after delayer_after Ring.total_more Ring.total_less Ring.ring_held Ring.ring_recent Ring.path_holds Ring.path_least Ring.path_greatest Ring.word_unused Ring.totals_fit Ring.path_unusable Ring.path_sent Ring.path_choice_above Ring.path_holds_next Ring.total_next Ring.path_state_kept Ring.ring_word_next
+unfolding on_any_words on_any_words_expected unwritten one_written two_written full overfull soiled answer_on left_by held_in every list_of choices_miscounted amount_too_large part stage_at no_operator meter_words operator_words meter_in operator_in stage_misplaced stage_unusable stage_fits run_unusable run_holds input_into slot_breaks choice_above_at choice_cases run_holds_next leaves_too_much_at slot_leaves_too_much operator_next stage_next run_next operator_word_next word_next taken_slot slotted_of in_range number_in_range row_count row_at row_in_range declaration_in_range rows_in_order row_clear rows_clear_from unused_clear Meter.meter_unusable Meter.uses_block Meter.ring_length Meter.block_before Meter.counted_before Meter.input_breaks Meter.block_next Meter.meter_next uses_held uses_beside words_used stored_fits word_fits greatest_output delayer_greatest held_after delayer_after Ring.total_more Ring.total_less Ring.ring_held Ring.ring_recent Ring.path_holds Ring.path_least Ring.path_greatest Ring.word_unused Ring.totals_fit Ring.path_unusable Ring.path_sent Ring.path_choice_above Ring.path_holds_next Ring.total_next Ring.path_state_kept Ring.ring_word_next
 reference-any-words = refl

@@ -2,11 +2,13 @@
 use mathlib.Core.Path.{◌≡◌, ap}
 use mathlib.Core.Bool.{true, false, not}
 use mathlib.Core.List.{List}
+use Rattle.std.specs.Prelude.{Result, Ok, Err}
 use mathlib.Core.Logic.{◌↔◌, ⊎_elim}
 use Prim.Native.Nat.{ℕ, zero, suc, ◌≤◌, ◌<◌}
 use native.Mathlib.Nat.{not-suc-le-zero, le_of_suc-le-suc, eq-or-lt_of_le}
 use native.Mathlib.Omega.{arith}
 use borrow.Author.Tests.{leb-true, le-leb, not-false, ltb-false, le-ltb}
+use Rattle.quantity.specs.declared.refusal.Refusal.{Refusal}
 use Rattle.quantity.proofs.Sums.{every-at, every_holds}
 use Rattle.flow.specs.Declarations.{row_count}
 use Rattle.quantity.proofs.Refusals.{NoneStands, none-of-both, none-of-each, none-where-result}
@@ -19,7 +21,7 @@ use Rattle.run.specs.declared.Run.{Run}
 use Rattle.run.specs.declared.slot.Slotted.{Slotted}
 use Rattle.run.specs.Calls.{Call, choice_for}
 use Rattle.run.specs.Runs.{operator_words, stage_at, meter_in, operator_in}
-use Rattle.run.specs.Slots.{input_into, slot_breaks, choice_above_at, choice_cases, slot_cases, refused_slot, taken_slot, slotted_of}
+use Rattle.run.specs.Slots.{input_into, slot_breaks, choice_above_at, choice_cases, slot_cases, taken_slot, slotted_of}
 use Rattle.run.specs.Watching.{run_holds}
 use Rattle.run.specs.Taking.{Took, LetPass, KeepsDeclared, InInterval}
 use Rattle.run.proofs.SlotAnswers.{slot-taken}
@@ -64,12 +66,11 @@ module _ (run : Run) (words : List ℕ) (call : Call) where
     unfolding choice_above_at path_choice_above path_greatest run_holds operator_in input_into path_sent
     interval-within within = le-ltb _ (choice_for call k) (omega (arith, within.1))
 
-  took-stands : Took (slotted_of run words call).outcome → NoneStands (slot_cases run words call)
-  unfolding slotted_of refused_slot taken_slot
-  took-stands = none-where-result (refused_slot run) (taken_slot run words call) (λ (answer : Slotted). Took answer.outcome) (λ why took. took) (slot_cases run words call)
+  took-stands : Took (slotted_of run words call) → NoneStands (slot_cases run words call)
+  unfolding slotted_of
+  took-stands = none-where-result Err (Ok (taken_slot run words call)) (λ (answer : Result Slotted Refusal). Took answer) (λ why took. took) (slot_cases run words call)
 
-  stands-took : NoneStands (slot_cases run words call) → Took (slotted_of run words call).outcome
-  unfolding taken_slot
+  stands-took : NoneStands (slot_cases run words call) → Took (slotted_of run words call)
   stands-took none = rw (slot-taken run words call none) tt
 
   -- the input breaks the declaration where it is above the quota in some row
@@ -81,7 +82,7 @@ module _ (run : Run) (words : List ℕ) (call : Call) where
   unfolding slot_breaks input_breaks meter_in
   kept-rows keeps = ap not (every_holds _ (row_count run.declaration) (λ i less. le-leb _ _ (keeps i less)))
 
-  pub taken-iff : LetPass run words call → Took (slotted_of run words call).outcome ↔ (KeepsDeclared run words call × ((k : ℕ) → k < run.count → InInterval run words call k))
+  pub taken-iff : LetPass run words call → Took (slotted_of run words call) ↔ (KeepsDeclared run words call × ((k : ℕ) → k < run.count → InInterval run words call k))
   taken-iff passes =
       let passed = usable-run run words passes.usable in (
         λ took.

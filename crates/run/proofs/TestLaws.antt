@@ -2,6 +2,7 @@
 use mathlib.Core.Path.{◌≡◌, refl, ap, ap₂, sym, ◌∙◌}
 use mathlib.Core.Bool.{Bool, true, false, not}
 use mathlib.Core.List.{List}
+use Rattle.std.specs.Prelude.{Option, Some, None, Ok, Err}
 use mathlib.Core.Logic.{◌⊎◌, inl, inr}
 use Prim.Native.Nat.{ℕ, zero, suc, ◌*◌, ◌%◌, ◌^◌, ◌≤◌, ◌<◌}
 use native.Mathlib.Nat.{mod-eq_of_lt}
@@ -14,7 +15,7 @@ use borrow.Author.Tests.{eq-eqb, ne_eqb, eqb-true, lt-ltb, le-ltb, le-leb}
 use Rattle.quantity.specs.Limits.{most_operators, last_slot}
 use Rattle.quantity.specs.Choice.{pick, both, either}
 use Rattle.quantity.specs.Sums.{every}
-use Rattle.quantity.proofs.Laws.{pick_true, pick-false, either_first, either_second}
+use Rattle.quantity.proofs.Laws.{pick_true, pick-false, either_first, either_second, either-none}
 use Rattle.quantity.proofs.Sums.{both_true, both-assoc, every-at, every_holds, every-fails}
 use Rattle.words.specs.Stored.{clear_at, stored_fits}
 use Rattle.words.proofs.JoinLaws.{or-clear}
@@ -29,15 +30,13 @@ use Rattle.operator.specs.declared.Operator.{Operator}
 use Rattle.operator.specs.declared.Operator.TheVariants.{Limiter, Compactor, Expander, Filter, Delayer}
 use Rattle.meter.specs.declared.SourceMeter.{SourceMeter}
 use Rattle.meter.specs.declared.parts.Awaited.{Awaited}
-use Rattle.meter.specs.declared.parts.Counted.{Counted}
-use Rattle.meter.specs.declared.parts.Counted.TheVariants.{Below}
+use Rattle.meter.specs.declared.parts.Uncounted.{Uncounted}
 use Rattle.operator.proofs.RingLaws.{PathUsable, path-stored-usable}
 use Rattle.meter.proofs.PartsLaws.{counted-unusable, counted-outside, counted-unordered, counted_next}
 use Rattle.run.specs.declared.Stage.{Stage}
 use Rattle.run.specs.declared.Run.{Run}
-use Rattle.run.specs.declared.test.Begun.{Begun}
-use Rattle.run.specs.Runs.{run_word_count, meter_in, meter_words, operator_words, no_stage, no_operator, stage_at, operator_of, operator_in, stage_misplaced, stage_unusable, stage_fits, run_unusable}
-use Rattle.run.specs.Steps.{stage_empty, stage_unused, unused_behind, awaited_in, meter_misfits, not_begun, meter_begun_of}
+use Rattle.run.specs.Runs.{meter_in, meter_words, operator_words, no_stage, no_operator, stage_at, operator_of, operator_in, stage_misplaced, stage_unusable, stage_fits, run_unusable}
+use Rattle.run.specs.Steps.{stage_empty, stage_unused, unused_behind, awaited_in, meter_misfits, begun_in}
 use Rattle.run.proofs.Parts.{length-operator_words}
 use Rattle.run.proofs.UsableRun.{MeterFits, usable-stages, fits-meter, meter-fits, meter-misfits, run-usable, run-unusable, stage-usable, stage-none}
 
@@ -99,17 +98,6 @@ module _ (run : Run) (words : List ℕ) where
       (ap (λ (t : Bool). both (not (not (pick t (number_in_range stage.operator) (both (no_operator stage.operator) (eqb stage.held.0 0))))) (not (path_unusable (operator_of stage run.slot) (operator_words words k)))) (lt-ltb k run.count less)
       ∙ ap (λ (t : Bool). both t (not (path_unusable (operator_of stage run.slot) (operator_words words k)))) (not-not (number_in_range stage.operator)))
 
--- a stage is unused by its fields and its words
-module _ (stage : Stage) (words : List ℕ) (k : ℕ) where
-  pub stage-unsized : (length words ≡ run_word_count → ⊥) → false ≡ stage_unused stage words k
-  unfolding stage_unused
-  stage-unsized other = rw (ne_eqb (length words) run_word_count other)
-
-  module _ (sized : length words ≡ run_word_count) where
-    pub stage-told : both (stage_empty stage) (every (clear_at (operator_words words k)) word_count) ≡ stage_unused stage words k
-    unfolding stage_unused
-    stage-told = rw (eq-eqb (length words) run_word_count sized)
-
 -- a stage behind the path's operators is to be unused
 module _ (count : ℕ) (stages : List Stage) (words : List ℕ) where
   unused-named : (k : ℕ) → k < count → unused_behind count stages words k ≡ true
@@ -124,15 +112,16 @@ module _ (count : ℕ) (stages : List Stage) (words : List ℕ) where
   pub unused-first : every (unused_behind count stages words) count ≡ true
   unused-first = every_holds (unused_behind count stages words) count unused-named
 
-  -- which goes on to the last, or stops at one that is used
-  pub unused-all : (k : ℕ) → k ≤ most_operators → most_operators ≤ k → every (unused_behind count stages words) k ≡ true → eqb k most_operators ≡ every (unused_behind count stages words) most_operators
-  unused-all k most last each = let all : k ≡ most_operators = omega arith in eq-eqb k most_operators all ∙ sym (ap (every (unused_behind count stages words)) (sym all) ∙ each)
+  -- all that are passed tell of the sixteen, and so does one that is used
+  pub unused-all : (k : ℕ) → most_operators ≤ k → every (unused_behind count stages words) k ≡ true → true ≡ every (unused_behind count stages words) most_operators
+  unused-all k last each =
+      sym (every_holds (unused_behind count stages words) most_operators (λ i less. every-at (unused_behind count stages words) k each i (omega arith)))
 
-  pub used-at : (k : ℕ) → count ≤ k → k < most_operators → stage_unused (get_or stages k no_stage) words k ≡ false → eqb k most_operators ≡ every (unused_behind count stages words) most_operators
-  used-at k behind less used = ne_eqb k most_operators (λ e. omega arith) ∙ sym (every-fails (unused_behind count stages words) most_operators k less (unused-told k behind ∙ used))
+  pub used-at : (k : ℕ) → count ≤ k → k < most_operators → stage_unused (get_or stages k no_stage) words k ≡ false → false ≡ every (unused_behind count stages words) most_operators
+  used-at k behind less used = sym (every-fails (unused_behind count stages words) most_operators k less (unused-told k behind ∙ used))
 
 -- A stage behind the path's operators fits just where it is empty and its words are 0.
-module _ (run : Run) (words : List ℕ) (sized : length words ≡ run_word_count) (k : ℕ) (behind : run.count ≤ k) where
+module _ (run : Run) (words : List ℕ) (k : ℕ) (behind : run.count ≤ k) where
   abbrev stage : Stage
   stage = stage_at run k
 
@@ -140,8 +129,8 @@ module _ (run : Run) (words : List ℕ) (sized : length words ≡ run_word_count
   Unused = unused_behind run.count run.stages words k ≡ true
 
   unused-is : unused_behind run.count run.stages words k ≡ both (stage_empty stage) (every (clear_at (operator_words words k)) word_count)
-  unfolding stage_at
-  unused-is = unused-told run.count run.stages words k behind ∙ sym (stage-told stage words k sized)
+  unfolding stage_at stage_unused
+  unused-is = unused-told run.count run.stages words k behind
 
   module _ (unused : Unused) (left : run.slot.0 ≤ last_slot) (size : length (operator_words words k) ≡ word_count) where
     parts : (stage_empty stage ≡ true) × (every (clear_at (operator_words words k)) word_count ≡ true)
@@ -217,9 +206,9 @@ module _ (run : Run) (words : List ℕ) where
   lent = meter_words words
 
   -- what is not counted cannot be used
-  pub meter-uncounted : {answer : Counted} → answer ≡ counted_of meter lent → ((awaited : Awaited) → answer ≡ Below awaited → ⊥) → MeterFits run words → ⊥
+  pub meter-uncounted : {why : Uncounted} → Err why ≡ counted_of meter lent → MeterFits run words → ⊥
   unfolding meter_in
-  meter-uncounted answered never fits = never _ (answered ∙ counted_next meter lent fits.meter fits.declared fits.ordered)
+  meter-uncounted answered fits = (let counted = answered ∙ counted_next meter lent fits.meter fits.declared fits.ordered in let z : ◌≡◌ {A = ℕ} 0 1 = cc in omega arith)
 
   -- and what is counted can
   pub record MeterCounted (awaited : Awaited) : Type 0 where
@@ -228,7 +217,7 @@ module _ (run : Run) (words : List ℕ) where
     pub ordered : rows_in_order run.declaration ≡ true
     pub counted : awaited ≡ awaited_in run words
 
-  pub meter-counted : {awaited : Awaited} → Below awaited ≡ counted_of meter lent → MeterCounted awaited
+  pub meter-counted : {awaited : Awaited} → Ok awaited ≡ counted_of meter lent → MeterCounted awaited
   unfolding awaited_in meter_in
   meter-counted {awaited} answered = by_tests (meter_unusable meter lent) (declaration_in_range run.declaration) (rows_in_order run.declaration) refl refl refl
     where
@@ -243,23 +232,31 @@ module _ (run : Run) (words : List ℕ) where
 -- What is answered before the first operator.
 
 module _ (run : Run) (words : List ℕ) where
-  pub begun-not : (MeterFits run words → ⊥) → not_begun ≡ meter_begun_of run words
-  unfolding meter_begun_of
-  begun-not fails = sym (pick_true _ _ _ (meter-misfits run words fails))
+  abbrev pub Behind : Type 0
+  Behind = every (unused_behind run.count run.stages words) most_operators ≡ true
 
-  pub begun-fits : MeterFits run words → {awaited : Awaited} → awaited ≡ awaited_in run words → record { count = run.count; awaited = awaited } ≡ meter_begun_of run words
-  unfolding meter_begun_of
-  begun-fits fits counts = rw counts (sym (pick-false _ _ _ (fits-meter run words fits)))
+  pub begun-not : (MeterFits run words → ⊥) → None ≡ begun_in run words
+  unfolding begun_in
+  begun-not fails = sym (pick_true _ _ _ (either_first (meter_misfits run words) _ (meter-misfits run words fails)))
 
-  -- no operators, or those of the run
-  pub meter-begun : {begun : Begun} → begun ≡ meter_begun_of run words → ((begun.count ≡ 0) × (MeterFits run words → ⊥)) ⊎ (MeterFits run words × ((begun.count ≡ run.count) × (begun.awaited ≡ awaited_in run words)))
-  unfolding meter_begun_of
-  meter-begun {begun} same = by-test (meter_misfits run words) refl same
+  pub begun-used : every (unused_behind run.count run.stages words) most_operators ≡ false → None ≡ begun_in run words
+  unfolding begun_in
+  begun-used used = sym (pick_true _ _ _ (either_second (meter_misfits run words) _ (ap not used)))
+
+  pub begun-fits : MeterFits run words → Behind → {awaited : Awaited} → awaited ≡ awaited_in run words → Some awaited ≡ begun_in run words
+  unfolding begun_in
+  begun-fits fits behind counts = rw counts (sym (pick-false _ _ _ (either-none (meter_misfits run words) _ (fits-meter run words fits) (ap not behind))))
+
+  -- nothing, or the meter fits and what is behind is unused
+  pub begun-told : {begun : Option Awaited} → begun ≡ begun_in run words → ((begun ≡ None) × (MeterFits run words → Behind → ⊥)) ⊎ (MeterFits run words × (Behind × (begun ≡ Some (awaited_in run words))))
+  unfolding begun_in
+  begun-told {begun} same = by_tests (meter_misfits run words) (every (unused_behind run.count run.stages words) most_operators) refl refl same
     where
-      by-test : (t : Bool) → meter_misfits run words ≡ t → begun ≡ pick t not_begun (record { count = run.count; awaited = awaited_in run words })
-          → ((begun.count ≡ 0) × (MeterFits run words → ⊥)) ⊎ (MeterFits run words × ((begun.count ≡ run.count) × (begun.awaited ≡ awaited_in run words)))
-      by-test true e made = inl (ap (λ (b : Begun). b.count) made, λ fits. let z : ◌≡◌ {A = Bool} true false = sym e ∙ fits-meter run words fits in let w : ◌≡◌ {A = ℕ} 0 1 = cc in omega arith)
-      by-test false e made = inr (meter-fits run words e, (ap (λ (b : Begun). b.count) made, ap (λ (b : Begun). b.awaited) made))
+      by_tests : (t u : Bool) → meter_misfits run words ≡ t → every (unused_behind run.count run.stages words) most_operators ≡ u → begun ≡ pick (either t (not u)) None (Some (awaited_in run words))
+          → ((begun ≡ None) × (MeterFits run words → Behind → ⊥)) ⊎ (MeterFits run words × (Behind × (begun ≡ Some (awaited_in run words))))
+      by_tests true u e f made = inl (made, λ fits behind. let z : ◌≡◌ {A = Bool} true false = sym e ∙ fits-meter run words fits in let w : ◌≡◌ {A = ℕ} 0 1 = cc in omega arith)
+      by_tests false false e f made = inl (made, λ fits behind. let z : ◌≡◌ {A = Bool} true false = sym behind ∙ f in let w : ◌≡◌ {A = ℕ} 0 1 = cc in omega arith)
+      by_tests false true e f made = inr (meter-fits run words e, (f, made))
 
 -- two tests that tell of a third
 both-tell : (a b c : Bool) → (c ≡ true → (a ≡ true) × (b ≡ true)) → (a ≡ true → b ≡ true → c ≡ true) → both a b ≡ c
@@ -284,12 +281,12 @@ module _ (run : Run) (words : List ℕ) (fits : MeterFits run words) where
     named-fit : NamedFit ≡ true
     named-fit = every_holds (stage_fits run words) run.count (λ k less. every-at (stage_fits run words) most_operators all k (omega (arith, fits.few)))
 
-    behind-unused : BehindUnused ≡ true
+    pub behind-unused : BehindUnused ≡ true
     behind-unused =
         every_holds (unused_behind run.count run.stages words) most_operators
         (λ k less. elim (dec_lt k run.count) [
           | yes named ↦ unused-named run.count run.stages words k named
-          | no behind ↦ fits-unused run words fits.sized k (omega arith) (every-at (stage_fits run words) most_operators all k less)
+          | no behind ↦ fits-unused run words k (omega arith) (every-at (stage_fits run words) most_operators all k less)
         ])
 
   module _ (named : NamedFit ≡ true) (behind : BehindUnused ≡ true) where
@@ -305,7 +302,7 @@ module _ (run : Run) (words : List ℕ) (fits : MeterFits run words) where
         every_holds (stage_fits run words) most_operators
         (λ k less. elim (dec_lt k run.count) [
           | yes inside ↦ every-at (stage_fits run words) run.count named k inside
-          | no outside ↦ unused-fits run words fits.sized k (omega arith) (unused k less) slot-left (length-operator_words words fits.sized k less)
+          | no outside ↦ unused-fits run words k (omega arith) (unused k less) slot-left (length-operator_words words fits.sized k less)
         ])
 
   pub stages-told : both (every (stage_fits run words) run.count) (every (unused_behind run.count run.stages words) most_operators) ≡ every (stage_fits run words) most_operators

@@ -3,12 +3,15 @@ use mathlib.Core.Path.{◌≡◌, refl, ap, sym, ◌∙◌}
 use mathlib.Core.Bool.{Bool, true, false}
 use mathlib.Core.List.{List, ◌++◌}
 use mathlib.Core.Logic.{◌⊎◌, inl, inr}
-use Prim.Native.Nat.{ℕ, ◌+◌, ◌-◌, ◌/◌, ◌%◌, ◌<◌}
+use Prim.Native.Nat.{ℕ, zero, suc, ◌+◌, ◌-◌, ◌/◌, ◌%◌, ◌≤◌, ◌<◌}
+use native.Mathlib.Numerals.{add-one}
 use native.Mathlib.Nat.{zero-add, div-add-mod', mod-lt}
 use native.Mathlib.Omega.{arith}
 use lib.Dec.{ltb}
 use lib.ListN.{length, get_or, take, drop}
 use borrow.Author.Tests.{ltb-true, ltb-false}
+use Rattle.std.specs.Prelude.{Option, Some, None}
+use Rattle.std.proofs.lemmas.List.{take-append-drop}
 use Rattle.quantity.specs.Limits.{most_operators}
 use Rattle.quantity.specs.Choice.{pick}
 use Rattle.quantity.specs.Sums.{list_of}
@@ -19,13 +22,13 @@ use Rattle.operator.specs.Single.{word_count}
 use Rattle.operator.specs.Ring.{ring_noted}
 use Rattle.words.proofs.StoredLaws.{length-noted}
 use Rattle.meter.specs.Meter.{meter_word_count}
-use Rattle.meter.specs.Parts.{input_place, awaited_of, block_behind}
+use Rattle.meter.specs.Parts.{input_place, input_noted, awaited_of, block_behind}
 use Rattle.meter.specs.declared.parts.Awaited.{Awaited}
 use Rattle.operator.specs.declared.ring.PathOperator.{PathOperator}
 use Rattle.sheet.specs.Bodies.{part}
 use Rattle.run.specs.declared.Run.{Run}
 use Rattle.run.specs.Runs.{run_word_count, meter_words, operator_at_word, operator_words, no_stage, stage_at, meter_in, operator_of, operator_in}
-use Rattle.run.specs.Steps.{awaited_in, block_written, meter_noted, with_part, stage_word, word_written}
+use Rattle.run.specs.Steps.{awaited_in, block_written, meter_noted, with_part, totals_written, stage_word, word_written}
 use Rattle.run.proofs.UpTo.{UpTo, up-to-none, up-to-here, up-to-next}
 use Rattle.run.proofs.Parts.{length_part, part_at, length-operator_words, operator-word}
 use Rattle.run.proofs.WithPart.{put_back, meter-sized, meter-replaced, meter-beside, operator-sized, operator-replaced, meter-before, operator-before, operator-behind}
@@ -45,12 +48,16 @@ meter-word words sized j less = part_at 0 meter_word_count words (omega arith) j
 
 -- The meter.
 
-module _ (at input : ℕ) (words : List ℕ) (sized : length words ≡ run_word_count) where
+input-sized : (at : Option ℕ) (input : ℕ) (words : List ℕ) → length (input_noted at words input) ≡ length words
+input-sized None input words = refl
+input-sized (Some at) input words = length-noted words at input
+
+module _ (at : Option ℕ) (input : ℕ) (words : List ℕ) (sized : length words ≡ run_word_count) where
   abbrev noted : List ℕ
-  noted = word_noted (meter_words words) at input
+  noted = input_noted at (meter_words words) input
 
   noted-sized : length noted ≡ meter_word_count
-  noted-sized = length-noted (meter_words words) at input ∙ length-meter_words words sized
+  noted-sized = input-sized at input (meter_words words) ∙ length-meter_words words sized
 
   pub meter-written : {new : List ℕ} → new ≡ noted → take 0 words ++ (new ++ drop meter_word_count (drop 0 words)) ≡ with_part 0 noted words
   meter-written left = rw left (put_back 0 meter_word_count noted words noted-sized)
@@ -58,13 +65,21 @@ module _ (at input : ℕ) (words : List ℕ) (sized : length words ≡ run_word_
   pub metered-size : {after : List ℕ} → after ≡ with_part 0 noted words → length after ≡ run_word_count
   metered-size same = rw same (meter-sized words noted sized noted-sized)
 
+-- the meter's words as they were are all words as they were
+pub meter-unwritten : (words : List ℕ) → length words ≡ run_word_count → words ≡ with_part 0 (meter_words words) words
+unfolding meter_words part
+meter-unwritten words sized =
+    sym (take-append-drop 0 words)
+    ∙ ap (λ (rest : List ℕ). take 0 words ++ rest) (sym (take-append-drop meter_word_count (drop 0 words)))
+    ∙ put_back 0 meter_word_count (meter_words words) words (length-meter_words words sized)
+
 -- what is known of the input of a run has its place
 pub metered-same : (run : Run) (words : List ℕ) (input : Units) {awaited : Awaited} → awaited ≡ awaited_in run words → {block : Units} → block ≡ block_behind awaited input
-    → {after : List ℕ} → after ≡ with_part 0 (word_noted (meter_words words) awaited.at input.0) words
+    → {after : List ℕ} → after ≡ with_part 0 (input_noted awaited.at (meter_words words) input.0) words
     → (block ≡ block_written run words input.0) × (after ≡ with_part 0 (meter_noted run words input.0) words)
 unfolding block_written awaited_in awaited_of
 metered-same run words input known blocks noted =
-    (blocks ∙ ap (λ (a : Awaited). block_behind a input) known, noted ∙ ap (λ (a : Awaited). with_part 0 (word_noted (meter_words words) a.at input.0) words) known)
+    (blocks ∙ ap (λ (a : Awaited). block_behind a input) known, noted ∙ ap (λ (a : Awaited). with_part 0 (input_noted a.at (meter_words words) input.0) words) known)
 
 -- A stage.
 
@@ -130,6 +145,20 @@ module _ {run : Run} {words : List ℕ} {k : ℕ} {after : List ℕ} (written : 
             up-to-next most_operators (words_done run words) (operator_words words) k (operator_words after) (operator_words renewed) written.operator
             (operator-replaced after new written.sized new-size k less ∙ rw words-here) words-beside;
       })
+
+-- the first k stages, where each has its place
+module _ (run : Run) (words : List ℕ) (sized : length words ≡ run_word_count) (places : List ℕ) where
+  abbrev Placed : ℕ → Type 0
+  Placed k = (ws : List ℕ) → word_noted ws (get_or places k 0) (get_or run.stages k no_stage).entered ≡ ring_noted (operator_of (get_or run.stages k no_stage) run.slot) ws
+
+  pub all-written : (k : ℕ) → k ≤ most_operators → ((i : ℕ) → i < k → Placed i) → Written run words k (totals_written places run.stages k words)
+  unfolding totals_written
+  all-written zero few placed = written_start run words sized
+  all-written (suc k) few placed =
+      let so-far = totals_written places run.stages k words in
+      let before = all-written k (omega arith) (λ i less. placed i (omega arith)) in
+      let next = written_next before (omega arith) (ap (λ (ws : List ℕ). with_part (operator_at_word k) ws so-far) (placed k (omega arith) (operator_words so-far k))) in
+      rw add-one at next
 
 -- Behind the last stage.
 

@@ -1,7 +1,9 @@
 -- The account of a run (section 6, last paragraph): kept from the path and the arguments of its slot calls alone, without run or words.
-use Rattle.std.specs.Prelude.{ℕ, zero, suc, ◌+◌, ◌-◌, Bool, not, List, [], ◌∷◌, ◌++◌, length, ltb}
+use Rattle.std.specs.Prelude.{ℕ, zero, suc, ◌+◌, ◌-◌, Bool, not, List, [], ◌∷◌, ◌++◌, Result, Ok, Err, length, ltb}
 use Rattle.quantity.specs.Limits.{last_slot}
 use Rattle.quantity.specs.Refusals.{Case, ◌⇒◌, first_of}
+use Rattle.quantity.specs.declared.Units.{Units}
+use Rattle.quantity.specs.declared.refusal.Refusal.{Refusal}
 use Rattle.quantity.specs.declared.refusal.Refusal.TheVariants.{Unusable, InputBreaksDeclaration, ChoiceAboveGreatest}
 use Rattle.operator.specs.Held.{Held, nothing}
 use Rattle.operator.specs.Operators.{least_output, greatest_output, held_after}
@@ -10,7 +12,6 @@ use Rattle.flow.specs.Keeping.{keeps_class}
 use Rattle.sheet.specs.Paths.{Path}
 use Rattle.figures.specs.Answers.{operator_at}
 use Rattle.run.specs.Calls.{Call, choice_for, choices_miscounted, amount_too_large}
-use Rattle.run.specs.declared.slot.Outcome.{Outcome}
 
 -- the next slot number; what entered, the inputs taken so far; what left, the last operator's outputs of the same slots;
 -- and section 3's b, h and past of operator k
@@ -68,8 +69,8 @@ abbrev pub leaving : Path → Account → Call → ℕ
 leaving path account call = arriving path account call (length path.operators)
 
 -- what is answered: the output, or the refusal by number and place
-unfoldable pub account_answer : Path → Account → Call → Outcome
-account_answer path account call = first_of (account_cases path account call) Outcome.Refused (Outcome.Sent (record { 0 = leaving path account call }))
+unfoldable pub account_answer : Path → Account → Call → Result Units Refusal
+account_answer path account call = first_of (account_cases path account call) Err (Ok (record { 0 = leaving path account call }))
 
 -- the account of a call that is taken: each operator keeps b + r − s, with h and a delayer's past slots as section 3 says
 unfoldable pub account_next : Path → Account → Call → Account

@@ -1,11 +1,12 @@
 -- A list of slot calls (section 10, 3): the first gets what opening returned and left, each later one what the call before it left.
-use Rattle.std.specs.Prelude.{ℕ, List, [], ◌∷◌, ◌++◌}
+use Rattle.std.specs.Prelude.{ℕ, List, [], ◌∷◌, ◌++◌, Result, Ok, Err}
 use Rattle.quantity.specs.Refusals.{first_of}
+use Rattle.quantity.specs.declared.refusal.Refusal.{Refusal}
 use Rattle.sheet.specs.Paths.{Path}
 use Rattle.run.specs.Calls.{Call}
 use Rattle.run.specs.Account.{Account, arriving, account_cases, account_after}
-use Rattle.run.specs.Opening.{opened_of, words_opened}
-use Rattle.run.specs.Slots.{slotted_of, words_slotted}
+use Rattle.run.specs.Opening.{no_run, opened_of, words_opened}
+use Rattle.run.specs.Slots.{slotted_of, run_behind, words_slotted}
 use Rattle.run.specs.declared.Run.{Run}
 
 -- a run and its words
@@ -13,13 +14,18 @@ pub record Running : Type 0 where
   pub run : Run
   pub words : List ℕ
 
+-- the run that opening answered; where it was refused there is none
+abbrev pub run_opened : Result Run Refusal → Run
+run_opened (Ok run) = run
+run_opened (Err why) = no_run
+
 -- what opening returned and left
 unfoldable pub opened : List ℕ → List ℕ → Running
-opened sheet words = record { run = (opened_of sheet words).run; words = words_opened sheet words }
+opened sheet words = record { run = run_opened (opened_of sheet words); words = words_opened sheet words }
 
 -- what a call left
 unfoldable pub slotted : Running → Call → Running
-slotted now call = record { run = (slotted_of now.run now.words call).run; words = words_slotted now.run now.words call }
+slotted now call = record { run = run_behind now.run (slotted_of now.run now.words call); words = words_slotted now.run now.words call }
 
 -- what a list of calls left
 unfoldable pub slotted_all : Running → List Call → Running

@@ -1,6 +1,8 @@
 -- Demand 3: what is promised of every list of slot calls from a newly opened run.
-use Rattle.std.specs.Prelude.{ℕ, suc, ◌+◌, ◌≤◌, ◌<◌, ◌≡◌, true, false, List, [], ◌∷◌, ◌++◌, ◌⊎◌, ◌↔◌, length, get_or, take}
+use Rattle.std.specs.Prelude.{ℕ, suc, ◌+◌, ◌≤◌, ◌<◌, ◌≡◌, true, false, List, [], ◌∷◌, ◌++◌, ◌⊎◌, ◌↔◌, Result, Ok, Err, length, get_or, take}
 use Rattle.quantity.specs.Sums.{total}
+use Rattle.quantity.specs.declared.Units.{Units}
+use Rattle.quantity.specs.declared.refusal.Refusal.{Refusal}
 use Rattle.quantity.specs.declared.refusal.Refusal.TheVariants.{Unusable}
 use Rattle.flow.specs.Flows.{flow_of}
 use Rattle.flow.specs.Classes.{Keeps}
@@ -8,16 +10,25 @@ use Rattle.flow.specs.Declarations.{class_of}
 use Rattle.words.specs.Stored.{word_at}
 use Rattle.sheet.specs.Paths.{Path}
 use Rattle.sheet.specs.Sheets.{path_in}
+use Rattle.figures.specs.declared.PathFigures.{PathFigures}
 use Rattle.figures.specs.Answers.{figures_of, no_figure}
 use Rattle.run.specs.Calls.{Call, choices_miscounted, amount_too_large}
 use Rattle.run.specs.Account.{Account, new_account, arriving, slots_used_up, breaks_declaration, account_answer}
 use Rattle.run.specs.Runs.{run_word_count}
-use Rattle.run.specs.Slots.{slotted_of}
+use Rattle.run.specs.Slots.{slotted_of, output_of}
 use Rattle.run.specs.Watching.{run_holds}
 use Rattle.run.specs.Words.{run_word}
 use Rattle.run.specs.Taking.{Took}
 use Rattle.run.specs.Lists.{Running, opened, slotted_all, account_all, arrived_all}
-use Rattle.run.specs.declared.slot.Outcome.{Outcome}
+
+-- the delay and the capacities that figures are answered with; 0 where they are refused
+abbrev pub delay_told : Result PathFigures Refusal → ℕ
+delay_told (Ok answer) = answer.delay.0
+delay_told (Err why) = 0
+
+abbrev pub capacity_told : Result PathFigures Refusal → ℕ → ℕ
+capacity_told (Ok answer) k = (get_or answer.figures k no_figure).capacity.0
+capacity_told (Err why) k = 0
 
 -- call n of a list
 abbrev pub call_at : List Call → ℕ → Call
@@ -29,10 +40,10 @@ module _ (sheet lent : List ℕ) (calls : List Call) where
   path = path_in sheet
 
   abbrev pub delay : ℕ
-  delay = (figures_of sheet).delay.0
+  delay = delay_told (figures_of sheet)
 
   abbrev pub capacity : ℕ → ℕ
-  capacity k = (get_or (figures_of sheet).figures k no_figure).capacity.0
+  capacity = capacity_told (figures_of sheet)
 
   -- run and words after the first n calls, and the account of these
   abbrev pub running_after : ℕ → Running
@@ -46,8 +57,8 @@ module _ (sheet lent : List ℕ) (calls : List Call) where
   arrived_after n = arrived_all path new_account (take n calls)
 
   -- what call n answers
-  abbrev pub answer_to : ℕ → Outcome
-  answer_to n = (slotted_of (running_after n).run (running_after n).words (call_at calls n)).outcome
+  abbrev pub answer_to : ℕ → Result Units Refusal
+  answer_to n = output_of (slotted_of (running_after n).run (running_after n).words (call_at calls n))
 
   -- the account of the whole list
   abbrev pub final : Account
@@ -71,5 +82,5 @@ module _ (sheet lent : List ℕ) (calls : List Call) where
     pub within : (n : ℕ) → n < length calls → Took (answer_to n) → (k : ℕ) → k < length path.operators
         → ((account_after_calls n).held k).b + arriving path (account_after_calls n) (call_at calls n) k ≤ capacity k
     -- a refusal 1 comes only from a wrong argument or the last slot number
-    pub unusable_only : (n : ℕ) → n < length calls → answer_to n ≡ Outcome.Refused Unusable
+    pub unusable_only : (n : ℕ) → n < length calls → answer_to n ≡ Err Unusable
         → (choices_miscounted (length path.operators) (call_at calls n) ≡ true) ⊎ (amount_too_large (call_at calls n) ≡ true) ⊎ (slots_used_up (account_after_calls n) ≡ true)

@@ -1,5 +1,5 @@
 -- Opening a run (sections 6 and 7): 1, then 2 to 9 of the sheet; accepted, it clears all words and does not test what they held.
-use Rattle.std.specs.Prelude.{ℕ, not, List, ◌∷◌, length, replicate, eqb}
+use Rattle.std.specs.Prelude.{ℕ, not, List, ◌∷◌, Result, Ok, Err, length, replicate, eqb}
 use Rattle.quantity.specs.Limits.{most_operators}
 use Rattle.quantity.specs.Sums.{list_of}
 use Rattle.quantity.specs.Refusals.{Case, ◌⇒◌, first_of}
@@ -7,25 +7,28 @@ use Rattle.quantity.specs.declared.refusal.Refusal.{Refusal}
 use Rattle.quantity.specs.declared.refusal.Refusal.TheVariants.{Unusable}
 use Rattle.flow.specs.Declarations.{of_one_row}
 use Rattle.flow.specs.declared.Kind.{Kind}
+use Rattle.operator.specs.declared.Operator.{Operator}
 use Rattle.sheet.specs.Paths.{Path}
 use Rattle.sheet.specs.Sheets.{path_in}
-use Rattle.sheet.specs.declared.read.Verdict.{Verdict}
 use Rattle.figures.specs.Answers.{operator_at, figures_cases}
 use Rattle.run.specs.Runs.{run_word_count, no_stage}
 use Rattle.run.specs.declared.Stage.{Stage}
 use Rattle.run.specs.declared.Run.{Run}
-use Rattle.run.specs.declared.opening.Opened.{Opened}
 
--- operator k with nothing held; behind the path's operators the empty stage
+-- an operator with nothing held
+abbrev pub stage_of : Operator → Stage
+stage_of operator = record { operator = operator; held = record { 0 = 0 }; beside = record { 0 = 0 }; entered = 0; left = 0 }
+
+-- operator k so; behind the path's operators the empty stage
 unfoldable pub new_stage : Path → ℕ → Stage
-new_stage path k = record { operator = operator_at path k; held = record { 0 = 0 }; beside = record { 0 = 0 }; entered = 0; left = 0 }
+new_stage path k = stage_of (operator_at path k)
 
 -- a path's run before its first slot
 unfoldable pub new_run : Path → Run
 new_run path =
     record { declaration = path.declaration; slot = record { 0 = 0 }; block = record { 0 = 0 }; count = length path.operators; stages = list_of (new_stage path) most_operators }
 
--- the run that is handed back beside a refusal
+-- the run of who has none yet
 abbrev pub no_run : Run
 no_run =
     record {
@@ -39,13 +42,9 @@ no_run =
 abbrev pub open_cases : List ℕ → List ℕ → List Case
 open_cases sheet words = (not (eqb (length words) run_word_count) ⇒ Unusable) ∷ figures_cases sheet
 
-unfoldable pub refused_opening : Refusal → Opened
-refused_opening why = record { verdict = Verdict.Refused why; run = no_run }
-
 -- what opening answers
-unfoldable pub opened_of : List ℕ → List ℕ → Opened
-unfolding refused_opening
-opened_of sheet words = first_of (open_cases sheet words) refused_opening (record { verdict = Verdict.Accepted; run = new_run (path_in sheet) })
+unfoldable pub opened_of : List ℕ → List ℕ → Result Run Refusal
+opened_of sheet words = first_of (open_cases sheet words) Err (Ok (new_run (path_in sheet)))
 
 -- and what the words hold then; refused, it leaves them
 unfoldable pub words_opened : List ℕ → List ℕ → List ℕ

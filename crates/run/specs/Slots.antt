@@ -1,9 +1,10 @@
 -- A slot of a run (sections 3, 6 and 7): 1, then 13, then 14 operator by operator, and 1 again; everything is decided before a word is written.
-use Rattle.std.specs.Prelude.{ℕ, zero, suc, ◌+◌, ◌-◌, ◌/◌, ◌%◌, Bool, not, List, [], ◌∷◌, ◌++◌, ltb}
+use Rattle.std.specs.Prelude.{ℕ, zero, suc, ◌+◌, ◌-◌, ◌/◌, ◌%◌, Bool, not, List, [], ◌∷◌, ◌++◌, Result, Ok, Err, ltb}
 use Rattle.quantity.specs.Limits.{most_operators, largest_amount}
 use Rattle.quantity.specs.Choice.{pick, either}
 use Rattle.quantity.specs.Sums.{every, list_of}
 use Rattle.quantity.specs.Refusals.{Case, ◌⇒◌, first_of}
+use Rattle.quantity.specs.declared.Units.{Units}
 use Rattle.quantity.specs.declared.refusal.Refusal.{Refusal}
 use Rattle.quantity.specs.declared.refusal.Refusal.TheVariants.{Unusable, InputBreaksDeclaration, ChoiceAboveGreatest}
 use Rattle.words.specs.Stored.{word_at}
@@ -16,7 +17,6 @@ use Rattle.run.specs.Calls.{Call, choice_for, choices_miscounted, amount_too_lar
 use Rattle.run.specs.Runs.{run_word_count, meter_words, operator_words, stage_at, meter_in, operator_in, run_unusable}
 use Rattle.run.specs.declared.Stage.{Stage}
 use Rattle.run.specs.declared.Run.{Run}
-use Rattle.run.specs.declared.slot.Outcome.{Outcome}
 use Rattle.run.specs.declared.slot.Slotted.{Slotted}
 
 -- what goes into operator k: the input, or what the operator before it sends in the same slot
@@ -97,20 +97,26 @@ word_next run words call j =
     (meter_word_next (meter_in run) (meter_words words) call.input j)
     (operator_word_next run words call ((j - meter_word_count) / word_count) ((j - meter_word_count) % word_count))
 
-unfoldable pub refused_slot : Run → Refusal → Slotted
-refused_slot run why = record { outcome = Outcome.Refused why; run = run }
-
 -- what leaves the last operator
 abbrev pub slot_output : Run → List ℕ → Call → ℕ
 slot_output run words call = input_into run words call run.count
 
 unfoldable pub taken_slot : Run → List ℕ → Call → Slotted
-taken_slot run words call = record { outcome = Outcome.Sent (record { 0 = slot_output run words call }); run = run_next run words call }
+taken_slot run words call = record { output = record { 0 = slot_output run words call }; run = run_next run words call }
 
 -- what a slot answers
-unfoldable pub slotted_of : Run → List ℕ → Call → Slotted
-unfolding refused_slot taken_slot
-slotted_of run words call = first_of (slot_cases run words call) (refused_slot run) (taken_slot run words call)
+unfoldable pub slotted_of : Run → List ℕ → Call → Result Slotted Refusal
+slotted_of run words call = first_of (slot_cases run words call) Err (Ok (taken_slot run words call))
+
+-- the output alone, or why the slot is refused
+abbrev pub output_of : Result Slotted Refusal → Result Units Refusal
+output_of (Ok slotted) = Ok slotted.output
+output_of (Err why) = Err why
+
+-- the run behind a slot: the next one, and where the slot was refused the one that was given
+abbrev pub run_behind : Run → Result Slotted Refusal → Run
+run_behind run (Ok slotted) = slotted.run
+run_behind run (Err why) = run
 
 -- and what the words hold then; a refused slot writes nothing
 unfoldable pub words_slotted : Run → List ℕ → Call → List ℕ

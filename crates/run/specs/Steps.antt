@@ -1,29 +1,28 @@
 -- Serves the private contracts of the run, and need not be believed: no public call cites it.
 -- A slot as the code takes it: what the tests find, what the operators tell one behind the other, and what is written.
-use Rattle.std.specs.Prelude.{ℕ, ◌+◌, ◌-◌, ◌/◌, ◌%◌, min, Bool, true, false, not, List, [], ◌∷◌, ◌++◌, leb, ltb, eqb, length, get_or, take, drop}
+use Rattle.std.specs.Prelude.{ℕ, zero, suc, ◌≡◌, ◌≤◌, ◌+◌, ◌-◌, ◌/◌, ◌%◌, Bool, true, not, List, [], ◌∷◌, ◌++◌, Option, Some, None, Result, Ok, Err, leb, ltb, eqb, length, get_or, take, drop}
+use Rattle.std.specs.Option.{option_or}
 use Rattle.quantity.specs.Choice.{pick, both, either, any_of}
-use Rattle.quantity.specs.Limits.{most_operators}
+use Rattle.quantity.specs.Limits.{most_operators, largest_amount, last_slot}
 use Rattle.quantity.specs.Sums.{every, list_of}
 use Rattle.quantity.specs.Refusals.{Case, ◌⇒◌}
 use Rattle.quantity.specs.declared.Units.{Units}
+use Rattle.quantity.specs.declared.refusal.Refusal.{Refusal}
 use Rattle.quantity.specs.declared.refusal.Refusal.TheVariants.{Unusable, InputBreaksDeclaration, ChoiceAboveGreatest}
 use Rattle.flow.specs.Declarations.{declaration_in_range, rows_in_order}
 use Rattle.operator.specs.Single.{word_count}
 use Rattle.operator.specs.Ring.{ring_noted}
 use Rattle.meter.specs.Meter.{meter_word_count, meter_unusable}
-use Rattle.meter.specs.Parts.{input_place, awaited_of, block_behind}
-use Rattle.words.specs.Stored.{word_at, clear_at, word_noted}
+use Rattle.meter.specs.Parts.{input_place, input_noted, awaited_of, block_behind}
+use Rattle.words.specs.Stored.{word_at, word_noted, clear_at}
 use Rattle.operator.specs.declared.ring.PathOperator.{PathOperator}
 use Rattle.meter.specs.declared.parts.Awaited.{Awaited}
-use Rattle.sheet.specs.declared.read.Verdict.{Verdict}
 use Rattle.run.specs.Calls.{Call, choices_miscounted, amount_too_large}
-use Rattle.run.specs.Runs.{run_word_count, meter_words, operator_words, no_operator, no_stage, stage_at, meter_in, operator_in}
+use Rattle.run.specs.Runs.{run_word_count, meter_words, operator_at_word, operator_words, no_operator, no_stage, stage_at, meter_in, operator_in}
 use Rattle.run.specs.Slots.{choice_cases, slot_leaves_too_much, stage_next}
 use Rattle.run.specs.declared.Stage.{Stage}
 use Rattle.run.specs.declared.Run.{Run}
-use Rattle.run.specs.declared.slot.Outcome.{Outcome}
 use Rattle.run.specs.declared.stages.Progress.{Progress}
-use Rattle.run.specs.declared.test.Begun.{Begun}
 
 -- Test.
 
@@ -33,7 +32,7 @@ stage_empty stage = both (no_operator stage.operator) (both (both (eqb stage.hel
 
 -- stage k is empty, and its words are 0
 unfoldable pub stage_unused : Stage → List ℕ → ℕ → Bool
-stage_unused stage words k = both (eqb (length words) run_word_count) (both (stage_empty stage) (every (clear_at (operator_words words k)) word_count))
+stage_unused stage words k = both (stage_empty stage) (every (clear_at (operator_words words k)) word_count)
 
 -- the same of stage k, unless it is one of the first so many, which are the path's
 unfoldable pub unused_behind : ℕ → List Stage → List ℕ → ℕ → Bool
@@ -54,14 +53,21 @@ meter_misfits run words =
     ∷ meter_unusable (meter_in run) (meter_words words)
     ∷ [])
 
-abbrev pub not_begun : Begun
-not_begun = record { count = 0; awaited = record { below = record { 0 = 0 }; block = record { 0 = 0 }; at = meter_word_count } }
+-- what is known of the next input, where all fits but for the path's operators
+unfoldable pub begun_in : Run → List ℕ → Option Awaited
+begun_in run words = pick (either (meter_misfits run words) (not (every (unused_behind run.count run.stages words) most_operators))) None (Some (awaited_in run words))
 
-unfoldable pub meter_begun_of : Run → List ℕ → Begun
-meter_begun_of run words = pick (meter_misfits run words) not_begun (record { count = run.count; awaited = awaited_in run words })
+-- and where the arguments fit too
+unfoldable pub begun_of : Run → List ℕ → Call → Option Awaited
+begun_of run words call = pick (either (choices_miscounted run.count call) (amount_too_large call)) None (begun_in run words)
 
-unfoldable pub begun_of : Run → List ℕ → Call → Begun
-begun_of run words call = pick (either (choices_miscounted run.count call) (amount_too_large call)) not_begun (meter_begun_of run words)
+-- so of what has begun it is known how much there is
+pub record Begun (run : Run) (words : List ℕ) (input : Units) (choices : List ℕ) : Type 0 where
+  pub sized : length words ≡ run_word_count
+  pub few : run.count ≤ most_operators
+  pub counted : length choices ≡ run.count
+  pub small : input.0 ≤ largest_amount
+  pub left : run.slot.0 ≤ last_slot
 
 -- Decide, operator by operator.
 
@@ -69,33 +75,22 @@ begun_of run words call = pick (either (choices_miscounted run.count call) (amou
 unfoldable pub stage_kept : PathOperator → Stage
 stage_kept x = record { operator = x.operator; held = x.held; beside = x.beside; entered = x.entered; left = x.left }
 
-unfoldable pub first_progress : ℕ → Units → Progress
-first_progress count input = record { usable = ltb 0 count; fits = true; above = most_operators; arriving = input }
+unfoldable pub first_progress : Units → Progress
+first_progress input = record { fits = true; above = None; arriving = input }
 
 unfoldable pub once_sent : Progress → Units → Bool → Progress
-once_sent p output fits = record { usable = p.usable; fits = both p.fits fits; above = p.above; arriving = output }
-
-unfoldable pub once_unusable : Progress → Progress
-once_unusable p = record { usable = false; fits = p.fits; above = p.above; arriving = p.arriving }
+once_sent p output fits = record { fits = both p.fits fits; above = p.above; arriving = output }
 
 unfoldable pub once_above : Progress → ℕ → Progress
-once_above p k = record { usable = p.usable; fits = p.fits; above = min p.above k; arriving = p.arriving }
+once_above p k = record { fits = p.fits; above = option_or p.above (Some k); arriving = p.arriving }
 
--- the first refusal that stands, of what all tests and all operators have told
-unfoldable pub judged_of : Bool → ℕ → ℕ → Progress → Verdict
-judged_of usable below input p =
-    pick (not usable) (Verdict.Refused Unusable)
-    (pick (leb below input) (Verdict.Refused InputBreaksDeclaration)
-    (pick (ltb p.above most_operators) (Verdict.Refused (ChoiceAboveGreatest p.above))
-    (pick (not p.fits) (Verdict.Refused Unusable) Verdict.Accepted)))
+-- the first refusal that stands, of what the meter and all operators have told
+abbrev pub judged_choice : Option ℕ → Bool → Result (Unit {0}) Refusal
+judged_choice (Some k) fits = Err (ChoiceAboveGreatest k)
+judged_choice None fits = pick fits (Ok tt) (Err Unusable)
 
-unfoldable pub accepted_by : Verdict → Bool
-accepted_by Verdict.Accepted = true
-accepted_by (Verdict.Refused why) = false
-
-unfoldable pub outcome_of : Verdict → Units → Outcome
-outcome_of Verdict.Accepted output = Outcome.Sent output
-outcome_of (Verdict.Refused why) output = Outcome.Refused why
+unfoldable pub judged_of : ℕ → ℕ → Progress → Result (Unit {0}) Refusal
+judged_of below input p = pick (leb below input) (Err InputBreaksDeclaration) (judged_choice p.above p.fits)
 
 -- the run once its operators have sent: its slot is not counted yet, and its meter not written
 unfoldable pub run_advanced : Run → List ℕ → Call → Run
@@ -114,12 +109,20 @@ run_advanced run words call =
 unfoldable pub with_part : ℕ → List ℕ → List ℕ → List ℕ
 with_part at new words = take at words ++ (new ++ drop (at + length new) words)
 
+-- the words with the totals of the first k operators noted, each in its word
+unfoldable pub totals_written : List ℕ → List Stage → ℕ → List ℕ → List ℕ
+totals_written places stages zero words = words
+totals_written places stages (suc k) words =
+    with_part (operator_at_word k)
+    (word_noted (operator_words (totals_written places stages k words) k) (get_or places k 0) (get_or stages k no_stage).entered)
+    (totals_written places stages k words)
+
 -- the meter's block and its words once the input is noted
 unfoldable pub block_written : Run → List ℕ → ℕ → Units
 block_written run words input = block_behind (awaited_in run words) (record { 0 = input })
 
 abbrev pub meter_noted : Run → List ℕ → ℕ → List ℕ
-meter_noted run words input = word_noted (meter_words words) (input_place (meter_in run)) input
+meter_noted run words input = input_noted (input_place (meter_in run)) (meter_words words) input
 
 -- the run that has advanced, and word j of all, once the slot is counted and meter and stages are written
 unfoldable pub run_written : Run → List ℕ → ℕ → Run

@@ -1,19 +1,19 @@
 -- Demand 2: when a slot is taken, in any run that refusal 1 lets pass, opened or not.
-use Rattle.std.specs.Prelude.{ℕ, suc, ◌+◌, ◌≤◌, ◌<◌, ◌≡◌, false, List}
+use Rattle.std.specs.Prelude.{ℕ, suc, ◌+◌, ◌≤◌, ◌<◌, ◌≡◌, false, List, Result, Ok, Err}
+use Rattle.quantity.specs.declared.refusal.Refusal.{Refusal}
 use Rattle.operator.specs.Operators.{least_output, greatest_output}
 use Rattle.flow.specs.Declarations.{row_count, row_at}
 use Rattle.meter.specs.Meter.{counted_before}
 use Rattle.run.specs.declared.Run.{Run}
-use Rattle.run.specs.declared.slot.Outcome.{Outcome}
 use Rattle.run.specs.Calls.{Call, choices_miscounted, amount_too_large}
 use Rattle.run.specs.Runs.{meter_words, stage_at, meter_in, run_unusable}
 use Rattle.run.specs.Slots.{input_into, slot_leaves_too_much}
 use Rattle.run.specs.Watching.{run_holds}
 
 -- a slot call took a slot if its answer is no refusal
-abbrev pub Took : Outcome → Type 0
-Took (Outcome.Sent output) = Unit {0}
-Took (Outcome.Refused why) = ⊥
+abbrev pub Took : {A : Type 0} → Result A Refusal → Type 0
+Took (Ok answer) = Unit {0}
+Took (Err why) = ⊥
 
 module _ (run : Run) (words : List ℕ) (call : Call) where
   -- refusal 1 lets the call pass: for its arguments, for what is lent and stored, and for what it would leave stored

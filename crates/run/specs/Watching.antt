@@ -1,5 +1,5 @@
 -- What each operator of a run holds (sections 3 and 6), for people who watch a path; refused by 1 as a slot is for what is stored.
-use Rattle.std.specs.Prelude.{ℕ, List, [], ◌∷◌, ltb, replicate}
+use Rattle.std.specs.Prelude.{ℕ, List, [], ◌∷◌, Result, Ok, Err, ltb}
 use Rattle.quantity.specs.Limits.{most_operators}
 use Rattle.quantity.specs.Choice.{pick}
 use Rattle.quantity.specs.Sums.{list_of}
@@ -9,10 +9,8 @@ use Rattle.quantity.specs.declared.refusal.Refusal.{Refusal}
 use Rattle.quantity.specs.declared.refusal.Refusal.TheVariants.{Unusable}
 use Rattle.operator.specs.Held.{Held}
 use Rattle.operator.specs.Ring.{path_holds}
-use Rattle.sheet.specs.declared.read.Verdict.{Verdict}
 use Rattle.run.specs.Runs.{operator_words, operator_in, run_unusable}
 use Rattle.run.specs.declared.Run.{Run}
-use Rattle.run.specs.declared.watch.Watched.{Watched}
 
 -- section 3's b, h and past of operator k, as run and words have them: a delayer's are read off its totals and its ring
 unfoldable pub run_holds : Run → List ℕ → ℕ → Held
@@ -22,10 +20,6 @@ run_holds run words k = path_holds (operator_in run k) (operator_words words k)
 unfoldable pub units_held : Run → List ℕ → ℕ → Units
 units_held run words k = record { 0 = pick (ltb k run.count) (run_holds run words k).b 0 }
 
-unfoldable pub refused_watch : Refusal → Watched
-refused_watch why = record { verdict = Verdict.Refused why; held = replicate most_operators (record { 0 = 0 }) }
-
-unfoldable pub watched_of : Run → List ℕ → Watched
-unfolding refused_watch
-watched_of run words =
-    first_of ((run_unusable run words ⇒ Unusable) ∷ []) refused_watch (record { verdict = Verdict.Accepted; held = list_of (units_held run words) most_operators })
+-- what the watch answers
+unfoldable pub watched_of : Run → List ℕ → Result (List Units) Refusal
+watched_of run words = first_of ((run_unusable run words ⇒ Unusable) ∷ []) Err (Ok (list_of (units_held run words) most_operators))

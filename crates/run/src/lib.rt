@@ -3,15 +3,14 @@
 #![tactic(auto)]
 
 ghost use Rattle.std.specs.Prelude.{◌≡◌, ◌<◌, length};
-ghost use Rattle.quantity.specs.Choice.{both};
 ghost use Rattle.quantity.specs.Limits.{most_operators};
-ghost use Rattle.run.specs.Runs.{run_word_count, no_stage, meter_in, operator_of, operator_words};
+ghost use Rattle.run.specs.Runs.{run_word_count, meter_in, operator_of, operator_words};
 
 use flow::Declaration;
 use meter::SourceMeter;
 use operator::Operator;
 use operator::ring::PathOperator;
-use quantity::{Rate, Slots, Units};
+use quantity::{Slots, Units};
 
 pub mod opening;
 pub mod slot;
@@ -31,6 +30,7 @@ const OPERATORS: usize = 16;
 
 // An operator of the path with section 3's b, a filter's h, and a delayer's totals of what entered and of what left, 32 bits wide and wrapping.
 // A delayer's b is the difference of its totals; what an operator does not use is 0.
+// A PathOperator without its slot, which the run keeps once for all.
 #[derive(Clone, Copy)]
 pub struct Stage {
     pub operator: Operator,
@@ -47,49 +47,32 @@ pub struct Run {
     pub declaration: Declaration,
     pub slot: Slots,
     pub block: Units,
+    // No heap: an array with its count (document 01 names the form for rows).
     pub count: usize,
     pub stages: [Stage; 16],
 }
 
-// The stage behind the path's operators: a limiter 0 that holds nothing.
-fn no_stage() -> Stage
-    ensures { result ≡ no_stage }
-{
-    Stage {
-        operator: Operator::Limiter(Rate(0)),
-        held: Units(0),
-        beside: Units(0),
-        entered: 0,
-        left: 0,
-    }
-}
-
 // The run's meter.
-fn meter_of(run: Run) -> SourceMeter
-    ensures { result ≡ meter_in run }
+#[tactic(auto, unfolding(crate::specs::Runs::meter_in))]
+fn meter_of(run: &Run) -> SourceMeter
+    ensures { result ≡ meter_in run.now }
 {
-    let declaration = run.declaration;
-    let slot = run.slot;
-    let block = run.block;
     SourceMeter {
-        declaration,
-        slot,
-        block,
+        declaration: run.declaration,
+        slot: run.slot,
+        block: run.block,
     }
 }
 
-// A stage at a slot, as an operator within a path.
+// A stage at a slot, as an operator within a path. No From: the slot is added.
 fn operator_of(stage: Stage, slot: Slots) -> PathOperator
     ensures { result ≡ operator_of stage slot }
 {
-    let operator = stage.operator;
-    let held = stage.held;
-    let beside = stage.beside;
     PathOperator {
-        operator,
+        operator: stage.operator,
         slot,
-        held,
-        beside,
+        held: stage.held,
+        beside: stage.beside,
         entered: stage.entered,
         left: stage.left,
     }
@@ -101,12 +84,5 @@ fn operator_words(words: &[u32], k: usize) -> &[u32]
     ensures { result.now ≡ operator_words words.now k }
 {
     let start = METER_WORDS + OPERATOR_WORDS * k;
-    let end = start + OPERATOR_WORDS;
-    &words[start..end]
-}
-
-fn and(a: bool, b: bool) -> bool
-    ensures { result ≡ both a b }
-{
-    if a { b } else { false }
+    &words[start..start + OPERATOR_WORDS]
 }

@@ -2,109 +2,70 @@
 
 ghost use Rattle.std.specs.Prelude.{◌≡◌, ◌≤◌, length};
 ghost use Rattle.quantity.specs.Limits.{most_operators};
-ghost use Rattle.quantity.specs.Sums.{list_of};
 ghost use Rattle.sheet.specs.Paths.{Path};
 ghost use Rattle.sheet.specs.Forms.{value_of_path};
-ghost use Rattle.run.specs.Opening.{new_run, no_run, refused_opening, opened_of, words_opened};
+ghost use Rattle.run.specs.Opening.{stage_of, new_run, no_run, opened_of, words_opened};
 
-use crate::{Run, Stage, no_stage};
+use crate::{Run, Stage};
 use figures::figures;
 use flow::{Declaration, Kind};
+use operator::Operator;
 use quantity::refusal::Refusal;
-use quantity::{Interval, Quota, Slots, Units};
-use sheet::PathValue;
-use sheet::read::Verdict;
+use quantity::{Interval, Link, Quota, Rate, Slots, Units};
+use sheet::{LinkedOperator, PathValue};
 
-// The run of an accepted sheet. Beside a refusal it is the empty one.
-#[derive(Clone, Copy)]
-pub struct Opened {
-    pub verdict: Verdict,
-    pub run: Run,
-}
-
-// Opens the run of a sheet's path and clears all words, whatever they held.
-pub fn open(sheet: &[u8], words: &mut [u32]) -> Opened
+// Opens the run of a sheet's path and clears all words, whatever they held. A refusal leaves them.
+pub fn open(sheet: &[u8], words: &mut [u32]) -> Result<Run, Refusal>
     ensures { (result ≡ opened_of sheet.now words.old) × (words.new ≡ words_opened sheet.now words.old) }
 {
     if words.len() != crate::WORDS {
-        return refused(Refusal::Unusable);
+        return Err(Refusal::Unusable);
     }
-    let answer = figures(sheet);
-    let verdict = answer.verdict;
-    match verdict {
-        Verdict::Refused(why) => refused(why),
-        Verdict::Accepted => {
-            clear(words);
-            let path = answer.path;
-            Opened {
-                verdict: Verdict::Accepted,
-                run: new_run(path),
-            }
-        }
-    }
-}
-
-fn clear(words: &mut [u32])
-    ensures { words.new ≡ list_of (λ j. 0) (length words.old) }
-{
-    let mut j = 0;
-    while j < words.len() {
-        words[j] = 0;
-        j += 1;
-    }
+    let planned = figures(sheet)?;
+    words.fill(0);
+    Ok(new_run(planned.path))
 }
 
 // The run of a path before its first slot. The places behind a path's operators are empty, and so are the stages.
 fn new_run(path: PathValue) -> Run
     ensures { (given : Path) → length given.operators ≤ most_operators → path ≡ value_of_path path.form given → result ≡ new_run given }
 {
-    let operators = path.operators;
-    let none = no_stage();
-    let mut stages = [none; 16];
-    let mut k = 0;
-    while k < 16 {
-        let linked = operators[k];
-        let operator = linked.operator;
-        stages[k] = Stage {
-            operator,
-            held: Units(0),
-            beside: Units(0),
-            entered: 0,
-            left: 0,
-        };
-        k += 1;
-    }
-    let declaration = path.declaration;
     Run {
-        declaration,
+        declaration: path.declaration,
         slot: Slots(0),
         block: Units(0),
         count: path.count,
-        stages,
+        stages: path.operators.map(new_stage),
     }
 }
 
-fn refused(why: Refusal) -> Opened
-    ensures { result ≡ refused_opening why }
+// A place's operator with nothing held.
+fn new_stage(linked: LinkedOperator) -> Stage
+    ensures { result ≡ stage_of linked.operator }
 {
-    Opened {
-        verdict: Verdict::Refused(why),
-        run: no_run(),
+    Stage {
+        operator: linked.operator,
+        held: Units(0),
+        beside: Units(0),
+        entered: 0,
+        left: 0,
     }
 }
 
-// The empty run, which is handed back beside a refusal.
+// The empty run, for who has none yet: its stages are limiters 0 that hold nothing.
+// Public (README); the planner's own programs keep an Option<Run>.
 pub fn no_run() -> Run
     ensures { result ≡ no_run }
 {
-    let declaration = Declaration::of_one_row(Kind::Smooth, Interval(0), Quota(0));
-    let none = no_stage();
-    let stages = [none; 16];
+    let none = new_stage(LinkedOperator {
+        operator: Operator::Limiter(Rate(0)),
+        link: Link(0),
+    });
     Run {
-        declaration,
+        declaration: Declaration::of_one_row(Kind::Smooth, Interval(0), Quota(0)),
         slot: Slots(0),
         block: Units(0),
         count: 0,
-        stages,
+        stages: [none; 16],
     }
 }

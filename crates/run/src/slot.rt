@@ -1,168 +1,105 @@
 // A slot of a run: tested and decided operator by operator, then written (document 01, sections 3, 6 and 7).
 
-ghost use Rattle.std.specs.Prelude.{◌≡◌, true, not, ◌+◌, ◌≤◌, leb, length, get_or};
-ghost use Rattle.quantity.specs.Choice.{pick, both};
-ghost use Rattle.quantity.specs.Limits.{largest_amount, last_slot};
-ghost use Rattle.quantity.specs.Sums.{every};
+ghost use Rattle.std.specs.Prelude.{◌≡◌, not, fold, bit_or, ⊤, MatchOption, OnOk};
+ghost use Rattle.quantity.specs.Choice.{both};
 ghost use Rattle.run.specs.Calls.{choices_miscounted, amount_too_large, call_of};
-ghost use Rattle.run.specs.Slots.{slotted_of, words_slotted};
-ghost use Rattle.run.specs.Steps.{begun_of, judged_of, accepted_by, outcome_of};
+ghost use Rattle.run.specs.Slots.{run_next, slotted_of, output_of, words_slotted};
+ghost use Rattle.run.specs.Steps.{begun_of, Begun, judged_of};
 
-use crate::stages::{
-    Progress, advance_stage, first_progress, once_above, once_sent, once_unusable, stage_of,
-    write_meter, write_total,
-};
-use crate::test::{Begun, begin_meter, not_begun, unused};
-use crate::{Run, and};
-use operator::ring::Advanced;
+use crate::Run;
+use crate::stages::{Progress, advance_stage, stage_of, write_totals};
+use crate::test::begin_run;
+use meter::parts::{Awaited, block_behind, note_input};
+use operator::ring::Halted;
 use quantity::refusal::Refusal;
 use quantity::{Slots, Units};
-use sheet::read::Verdict;
 
-// What a slot call answers: the last operator's output, or why it is refused.
-#[derive(Clone, Copy)]
-pub enum Outcome {
-    Sent(Units),
-    Refused(Refusal),
-}
-
-// The next run beside it: the one that was given, where the call is refused.
+// What a slot answers: the last operator's output, and the next run.
 #[derive(Clone, Copy)]
 pub struct Slotted {
-    pub outcome: Outcome,
+    pub output: Units,
     pub run: Run,
 }
 
-// One slot: the input, and a choice for each operator. Everything is decided before a word is written.
-// The operators advance in a copy of the stages, which is dropped where the slot is refused; there is one way out, so that it is the only copy.
-pub fn slot(run: Run, words: &mut [u32], input: Units, choices: &[u64]) -> Slotted
+// One slot: the input, and a choice for each operator. A refusal leaves the words.
+// What is answered is made first, so that the run is copied into its place and no more.
+pub fn slot(run: Run, words: &mut [u32], input: Units, choices: &[u64]) -> Result<Slotted, Refusal>
     ensures { (result ≡ slotted_of run words.old (call_of input choices.now)) × (words.new ≡ words_slotted run words.old (call_of input choices.now)) }
 {
-    let begun = begin(run, &words[..], input, choices);
-    let count = begun.count;
-    let mut stages = run.stages;
-    let mut places = [crate::OPERATOR_WORDS; 16];
-    let mut progress = first_progress(count, input);
-    let mut k = 0;
-    while k < count {
-        let stage = stages[k];
-        let advanced = advance_stage(
-            stage,
-            run.slot,
-            &words[..],
-            k,
-            progress.arriving,
-            Units(choices[k]),
-        );
-        match advanced {
-            Advanced::Sends {
-                output,
-                fits,
-                next,
-                at,
-            } => {
-                stages[k] = stage_of(next);
-                places[k] = at;
-                progress = once_sent(progress, output, fits);
-            }
-            Advanced::Unusable => {
-                progress = once_unusable(progress);
-            }
-            Advanced::ChoiceAbove => {
-                progress = once_above(progress, k);
-            }
-        }
-        k += 1;
-    }
-    while k < 16 {
-        let stage = stages[k];
-        if !unused(stage, &words[..], k) {
-            break;
-        }
-        k += 1;
-    }
-    let usable = and(progress.usable, k == 16);
-    let verdict = judge(usable, begun.awaited.below, input, progress);
-    let taken = accepted(verdict);
-    if !taken {
-        stages = run.stages;
-    }
-    let block = write_meter(taken, run.block, begun.awaited, words, input);
-    let end = if taken { count } else { 0 };
-    let mut k = 0;
-    while k < end {
-        let stage = stages[k];
-        write_total(places[k], stage.entered, words, k);
-        k += 1;
-    }
-    let declaration = run.declaration;
-    let next = Run {
-        declaration,
-        slot: next_slot(taken, run.slot),
-        block,
-        count: run.count,
-        stages,
+    let mut slotted = Slotted {
+        output: Units(0),
+        run,
     };
-    let output = progress.arriving;
-    Slotted {
-        outcome: outcome_of(verdict, output),
-        run: next,
+    slotted.output = take(&mut slotted.run, words, input, choices)?;
+    Ok(slotted)
+}
+
+// The slot, taken in the run itself, so that its stages are not copied: it is the next run then. Everything is decided before a word is written.
+fn take(run: &mut Run, words: &mut [u32], input: Units, choices: &[u64]) -> Result<Units, Refusal>
+    ensures answered { result ≡ output_of (slotted_of run.old words.old (call_of input choices.now)) }
+    ensures written { words.new ≡ words_slotted run.old words.old (call_of input choices.now) }
+    ensures next { OnOk result (run.new ≡ run_next run.old words.old (call_of input choices.now)) }
+{
+    let Some(awaited) = begin(run, words, input, choices) else {
+        return Err(Refusal::Unusable);
+    };
+    let slot = run.slot;
+    let count = run.count;
+    // 64 where none is noted: note writes nothing there; by an Option a slot of sixteen operators takes 7 in a hundred more instructions.
+    let mut places = [crate::OPERATOR_WORDS; 16];
+    let mut progress = Progress::new(input);
+    // By the operator's number: its choice, stage, words and place are in four lists, and a refusal names it.
+    for k in 0..count {
+        let choice = Units(choices[k]);
+        match advance_stage(run.stages[k], slot, words, k, progress.arriving, choice) {
+            Ok(advanced) => {
+                run.stages[k] = stage_of(advanced.next);
+                places[k] = advanced.at;
+                progress = progress.sent(advanced.output, advanced.fits);
+            }
+            Err(Halted::ChoiceAbove) => progress = progress.above(k),
+            Err(Halted::Unusable) => return Err(Refusal::Unusable),
+        }
+    }
+    judge(awaited.below, input, progress)?;
+    note_input(
+        &mut words[0..crate::METER_WORDS],
+        awaited.at,
+        input.0 as u32,
+    );
+    write_totals(&places, &run.stages, count, words);
+    run.block = block_behind(awaited, input);
+    run.slot = Slots(slot.0 + 1);
+    Ok(progress.arriving)
+}
+
+// What is known of the input, where the arguments fit, and what is lent and stored but for the path's operators.
+fn begin(run: &Run, words: &[u32], input: Units, choices: &[u64]) -> Option<Awaited>
+    ensures begun { result ≡ begun_of run.now words.now (call_of input choices.now) }
+    ensures fits { MatchOption result ⊤ (λ awaited. Begun run.now words.now input choices.now) }
+{
+    if arguments_fit(run.count, input, choices) {
+        begin_run(run, words)
+    } else {
+        None
     }
 }
 
-// The path's operators and what is known of the input; no operators where an argument, the words' length, the declaration or the meter does not fit.
-fn begin(run: Run, words: &[u32], input: Units, choices: &[u64]) -> Begun
-    ensures { result ≡ begun_of run words.now (call_of input choices.now) }
+// The first refusal that stands, of what the meter and all operators have told.
+#[tactic(auto, unfolding(crate::specs::Steps::judged_of))]
+fn judge(below: Units, input: Units, progress: Progress) -> Result<(), Refusal>
+    ensures { result ≡ judged_of below.0 input.0 progress }
 {
-    if !arguments_fit(run.count, input, choices) {
-        return not_begun();
-    }
-    begin_meter(run, words)
-}
-
-// The first refusal that stands, of what all tests and all operators have told.
-fn judge(usable: bool, below: Units, input: Units, progress: Progress) -> Verdict
-    ensures { result ≡ judged_of usable below.0 input.0 progress }
-{
-    if !usable {
-        return Verdict::Refused(Refusal::Unusable);
-    }
     if below.0 <= input.0 {
-        return Verdict::Refused(Refusal::InputBreaksDeclaration);
+        return Err(Refusal::InputBreaksDeclaration);
     }
-    let above = progress.above;
-    if above < crate::OPERATORS {
-        return Verdict::Refused(Refusal::ChoiceAboveGreatest(above));
+    if let Some(k) = progress.above {
+        return Err(Refusal::ChoiceAboveGreatest(k));
     }
-    if !progress.fits {
-        return Verdict::Refused(Refusal::Unusable);
-    }
-    Verdict::Accepted
-}
-
-fn accepted(verdict: Verdict) -> bool
-    ensures { result ≡ accepted_by verdict }
-{
-    match verdict {
-        Verdict::Accepted => true,
-        Verdict::Refused(_) => false,
-    }
-}
-
-// A slot that is taken is counted.
-fn next_slot(taken: bool, slot: Slots) -> Slots
-    requires { taken ≡ true → slot.0 ≤ last_slot }
-    ensures { result ≡ pick taken (record { 0 = slot.0 + 1 }) slot }
-{
-    if taken { Slots(slot.0 + 1) } else { slot }
-}
-
-fn outcome_of(verdict: Verdict, output: Units) -> Outcome
-    ensures { result ≡ outcome_of verdict output }
-{
-    match verdict {
-        Verdict::Accepted => Outcome::Sent(output),
-        Verdict::Refused(why) => Outcome::Refused(why),
+    if progress.fits {
+        Ok(())
+    } else {
+        Err(Refusal::Unusable)
     }
 }
 
@@ -170,24 +107,13 @@ fn outcome_of(verdict: Verdict, output: Units) -> Outcome
 fn arguments_fit(operators: usize, input: Units, choices: &[u64]) -> bool
     ensures { result ≡ both (not (choices_miscounted operators (call_of input choices.now))) (not (amount_too_large (call_of input choices.now))) }
 {
-    if choices.len() != operators {
-        return false;
-    }
-    if Units::LARGEST < input.0 {
-        return false;
-    }
-    amounts_fit(choices)
+    let counted = choices.len() == operators;
+    counted & (input.0 <= Units::LARGEST) & (joined(choices) <= Units::LARGEST)
 }
 
-// The amounts joined by "or" are within the limit, 2^30 − 1, just where each is.
-fn amounts_fit(amounts: &[u64]) -> bool
-    ensures { result ≡ every (λ k. leb (get_or amounts.now k 0) largest_amount) (length amounts.now) }
+// The amounts joined by "or": they are within the limit, 2^30 − 1, just where each is.
+fn joined(amounts: &[u64]) -> u64
+    ensures { result ≡ fold bit_or 0 amounts.now }
 {
-    let mut join: u64 = 0;
-    let mut k = 0;
-    while k < amounts.len() {
-        join = join | amounts[k];
-        k += 1;
-    }
-    join <= Units::LARGEST
+    amounts.iter().fold(0, |join, amount| join | *amount)
 }

@@ -5,12 +5,10 @@ use mathlib.Core.Bool.{Bool, true, false}
 use mathlib.Core.List.{List, ◌++◌}
 use native.Mathlib.Omega.{arith}
 use lib.ListN.{length}
-use Rattle.quantity.specs.declared.refusal.Refusal.{Refusal}
 use Rattle.quantity.proofs.Refusals.{NoneStands, none-of-each}
 use Rattle.flow.specs.Declarations.{rows_in_order, unused_clear, cleared}
 use Rattle.flow.specs.declared.Declaration.{Declaration}
 use Rattle.sheet.specs.declared.Form.{Form}
-use Rattle.sheet.specs.declared.read.Verdict.{Verdict}
 use Rattle.sheet.specs.House.{house_in, house_in_range, house_fits, house_path}
 use Rattle.sheet.specs.Forms.{in_full, stands_for, value_of_path, house_value}
 use Rattle.sheet.specs.Fields.{wanted_format, operator_format, house_format, body_at, field_cases}
@@ -139,7 +137,3 @@ module _ (sheet : List ℕ) (stands : NoneStands (sheet_cases sheet)) where
 
   pub rows-of-sheet : length (path_in sheet).declaration.rows ≡ 4
   rows-of-sheet = ap (λ (declared : Declaration). length declared.rows) (sym sheet-path.clear) ∙ cleared-length (path_in sheet).declaration
-
--- and an accepted one is not refused
-pub never-accepted : (why : Refusal) → Verdict.Refused why ≡ Verdict.Accepted → ⊥
-never-accepted why e = let never : ◌≡◌ {A = ℕ} 0 1 = cc in omega arith

@@ -103,11 +103,7 @@ module _ (sheet : List ℕ) where
         let (field, order) = none-of-each (field_cases sheet 0 (first_format sheet)) ((not (rows_in_order (declared_in sheet)) ⇒ RowsOutOfOrder 0) ∷ []) stands in
         (field, not-false (rows_in_order (declared_in sheet)) order.0)
 
-    -- an accepted field ends within the sheet; its numbers are in range, and its rows in order
-    pub declared-ends : wanted_at sheet ≤ length sheet
-    unfolding wanted_at
-    declared-ends = (field-accepted sheet 0 (first_format sheet) stands-both.0).ends
-
+    -- an accepted field's numbers are in range, and its rows in order
     pub declared-inside : declaration_in_range (declared_in sheet) ≡ true
     declared-inside =
         in-either-form (λ due declared. NoneStands (field_cases sheet 0 due) → declaration_in_range declared ≡ true)

@@ -17,7 +17,7 @@ mod OperatorsRead
 mod FirstRead
 mod HeadRead
 mod HouseRead
-mod AnswerLaws
+pub mod AnswerLaws
 mod ReadLaws
 pub mod Runs
 pub mod InRange

@@ -3,12 +3,14 @@ use mathlib.Core.Path.{◌≡◌, refl, sym, ap, ◌∙◌}
 use mathlib.Core.Bool.{true, false}
 use mathlib.Core.List.{List, [], ◌∷◌, ◌++◌, append-nil}
 use mathlib.Core.Logic.{◌⊎◌, inl, inr, ⊎_elim}
-use Prim.Native.Nat.{ℕ, zero, suc, ◌+◌, ◌-◌, ◌*◌, ◌≤◌, ◌<◌, min}
+use Prim.Native.Nat.{ℕ, zero, suc, ◌+◌, ◌-◌, ◌*◌, ◌≤◌, ◌<◌, min, max}
 use native.Mathlib.Nat.{eq-zero-or-pos}
+use native.Mathlib.Numerals.{add-one}
 use native.Mathlib.Omega.{arith}
-use borrow.Author.Tests.{le-leb, lt-leb, eq-eqb, ne_eqb}
+use borrow.Author.Tests.{le-leb, eq-eqb}
 use lib.ListN.{length, set, take, replicate, length-append}
 use lib.Seq.{set_at, append_snoc}
+use Rattle.std.specs.Prelude.{Result, Ok, Err}
 use Rattle.quantity.specs.Rounding.{round_up}
 use Rattle.quantity.specs.Refusals.{first_of}
 use Rattle.quantity.specs.declared.refusal.Refusal.{Refusal}
@@ -18,16 +20,15 @@ use Rattle.quantity.specs.declared.WantedDelay.{WantedDelay}
 use Rattle.sheet.specs.declared.LinkedOperator.{LinkedOperator}
 use Rattle.sheet.specs.declared.Form.{Form}
 use Rattle.sheet.specs.declared.PathValue.{PathValue}
-use Rattle.sheet.specs.declared.read.Verdict.{Verdict}
-use Rattle.sheet.specs.declared.read.ReadSheet.{ReadSheet}
-use Rattle.sheet.specs.declared.read.Due.{Due}
 use Rattle.sheet.specs.Paths.{no_linked_operator}
 use Rattle.sheet.specs.Forms.{value_of_path}
 use Rattle.sheet.specs.Bodies.{operator_in, operator_fits}
-use Rattle.sheet.specs.Fields.{operator_format, body_at, field_cases}
-use Rattle.sheet.specs.Sheets.{operators_from, further_cases, refused_read}
+use Rattle.sheet.specs.Fields.{operator_format, body_at, field_cases, header_judged}
+use Rattle.sheet.specs.Sheets.{operators_from, further_cases}
 use Rattle.sheet.proofs.Filling.{filled}
-use Rattle.sheet.proofs.ReadLaws.{any, after, judged-answer, field-refused, field-outside, field-passed, field-inside}
+use Rattle.sheet.proofs.OperatorRows.{operators-begun, further-begun}
+use Rattle.sheet.proofs.AnswerLaws.{behind}
+use Rattle.sheet.proofs.ReadLaws.{Judged, judged-answer, field-refused, field-outside, field-passed, field-inside}
 
 -- `count` operators are read and stored, and `more` operators are left
 pub record Reached (sheet : List ℕ) (from : ℕ) (operators : List LinkedOperator) (count more at : ℕ) : Type 0 where
@@ -40,10 +41,6 @@ pub record Reached (sheet : List ℕ) (from : ℕ) (operators : List LinkedOpera
 reached-first : (sheet : List ℕ) (from : ℕ) → Reached sheet from (replicate 16 no_linked_operator) 0 16 from
 reached-first sheet from = record { done = []; counted = refl; room = refl; stored = refl; all = refl }
 
-operators_from-suc : (sheet : List ℕ) (more at : ℕ) → at < length sheet → operators_from (suc more) at sheet ≡ operator_in (body_at sheet at 6) ∷ operators_from more (at + 9) sheet
-unfolding operators_from
-operators_from-suc sheet more at h = rw (lt-leb _ _ h)
-
 reached-next : (sheet : List ℕ) (from : ℕ) (operators : List LinkedOperator) (count more at : ℕ) → at < length sheet → Reached sheet from operators count (suc more) at
     → Reached sheet from (set operators count (operator_in (body_at sheet at 6))) (count + 1) more (at + 9)
 reached-next sheet from operators count more at inside r =
@@ -53,7 +50,7 @@ reached-next sheet from operators count more at inside r =
       counted = length-append r.done (linked ∷ []) ∙ ap (λ (n : ℕ). n + 1) r.counted;
       room = omega arith;
       stored = rw r.stored (set_at r.done no_linked_operator (replicate more no_linked_operator) linked count r.counted ∙ sym (append_snoc r.done linked (replicate more no_linked_operator)));
-      all = r.all ∙ ap (λ (rest : List LinkedOperator). r.done ++ rest) (operators_from-suc sheet more at inside) ∙ sym (append_snoc r.done linked (operators_from more (at + 9) sheet));
+      all = r.all ∙ ap (λ (rest : List LinkedOperator). r.done ++ rest) (operators-begun sheet more at inside) ∙ sym (append_snoc r.done linked (operators_from more (at + 9) sheet));
     }
 
 operators_from-end : (sheet : List ℕ) (more at : ℕ) → (more ≡ 0) ⊎ (at ≡ length sheet) → operators_from more at sheet ≡ []
@@ -72,100 +69,111 @@ reached-end sheet from operators count more at declaration wanted end r =
     let kept : take 16 (operators_from 16 from sheet ++ replicate 16 no_linked_operator) ≡ operators = rw whole (filled no_linked_operator 16 r.done more (omega arith) ∙ sym r.stored) in
     rw (number, kept)
 
--- how many operators begin in what is left of the sheet: one every 9 bytes, and 16 at the most
-abbrev pub begun_from : List ℕ → ℕ → ℕ
-begun_from sheet from = min (round_up (length sheet - from) 9) 16
+-- how many operators are due in what is left of the sheet: one every 9 bytes, but one at the least and 16 at the most
+abbrev pub due_from : List ℕ → ℕ → ℕ
+due_from sheet from = max 1 (min (round_up (length sheet - from) 9) 16)
 
 module _ (sheet : List ℕ) (from : ℕ) (declaration : Declaration) (wanted : WantedDelay) where
   -- what is answered of a sheet that is not refused
-  abbrev pub accepted : ReadSheet
-  accepted = record { verdict = Verdict.Accepted; path = value_of_path Form.Fields (record { declaration = declaration; wanted = wanted.0; operators = operators_from 16 from sheet }) }
+  abbrev pub accepted : Result PathValue Refusal
+  accepted = Ok (value_of_path Form.Fields (record { declaration = declaration; wanted = wanted.0; operators = operators_from 16 from sheet }))
 
   -- what is answered where an operator is due and `more` may follow it
-  abbrev pub due_at : ℕ → ℕ → ReadSheet
-  due_at more at = first_of (field_cases sheet at operator_format ++ further_cases more (at + 9) sheet) refused_read accepted
+  abbrev pub due_at : ℕ → ℕ → Result PathValue Refusal
+  due_at more at = first_of (field_cases sheet at operator_format ++ further_cases more (at + 9) sheet) Err accepted
 
-  -- the same behind an operator
-  abbrev further_at : ℕ → ℕ → ReadSheet
-  further_at more at = first_of (further_cases more at sheet) refused_read accepted
+  -- the same behind so many operators, of which the first is always due
+  pub left_at : ℕ → ℕ → Result PathValue Refusal
+  left_at zero at = due_at 15 at
+  left_at (suc count) at = first_of (further_cases (15 - count) at sheet) Err accepted
 
-  further-due : (more at : ℕ) → (at ≡ length sheet → ⊥) → further_at (suc more) at ≡ due_at more at
-  unfolding further_cases
-  further-due more at goes_on = rw (ne_eqb _ _ goes_on)
+  further-due : (more at : ℕ) → at < length sheet → first_of (further_cases (suc more) at sheet) Err accepted ≡ due_at more at
+  further-due more at goes_on = rw (further-begun sheet more at goes_on)
 
-  further-end : (more at : ℕ) → (more ≡ 0) ⊎ (at ≡ length sheet) → (result : ReadSheet) → first_of (further_cases more at sheet) refused_read result ≡ first_of (further_cases 0 at sheet) refused_read result
+  further-end : (more at : ℕ) → (more ≡ 0) ⊎ (at ≡ length sheet) → (result : Result PathValue Refusal) → first_of (further_cases more at sheet) Err result ≡ first_of (further_cases 0 at sheet) Err result
   unfolding further_cases
   further-end zero at end result = refl
   further-end (suc more) at (inl none) result = absurd (omega arith)
   further-end (suc more) at (inr end) result = rw (eq-eqb _ _ end)
 
-  -- an operator is due at a byte: what is read so far, and that the rest decides
-  pub record Reading (operators : List LinkedOperator) (count at : ℕ) : Type 0 where
-    pub few : count ≤ 15
-    pub begins : at ≡ from + 9 * count
-    pub reached : Reached sheet from operators count (suc (15 - count)) at
-    pub decides : due_at 15 from ≡ due_at (15 - count) at
+  left-due : (count at : ℕ) → count ≤ 15 → (1 ≤ count → at < length sheet) → left_at count at ≡ due_at (15 - count) at
+  unfolding left_at
+  left-due zero at few goes_on = refl
+  left-due (suc count) at few goes_on =
+      let left : 15 - count ≡ suc (15 - suc count) = omega arith in
+      rw left (further-due (15 - suc count) at (goes_on (omega arith)))
 
-  -- the same behind an operator
-  pub record Passed (operators : List LinkedOperator) (count at : ℕ) : Type 0 where
+  left-behind : (count at : ℕ) → left_at (count + 1) at ≡ first_of (further_cases (15 - count) at sheet) Err accepted
+  unfolding left_at
+  left-behind count at = rw add-one
+
+  left-end : (count at : ℕ) → 1 ≤ count → (16 - count ≡ 0) ⊎ (at ≡ length sheet) → left_at count at ≡ first_of (further_cases 0 at sheet) Err accepted
+  unfolding left_at
+  left-end zero at some end = absurd (omega arith)
+  left-end (suc count) at some end =
+      let left : 16 - suc count ≡ 15 - count = omega arith in
+      further-end (15 - count) at (rw left at end) accepted
+
+  -- so many operators are read: what is stored, and that the rest decides
+  pub record Reading (operators : List LinkedOperator) (count at : ℕ) : Type 0 where
     pub begins : at ≡ from + 9 * count
     pub inside : at ≤ length sheet
     pub reached : Reached sheet from operators count (16 - count) at
-    pub decides : due_at 15 from ≡ further_at (16 - count) at
+    pub decides : due_at 15 from ≡ left_at count at
 
-  pub reading-first : Reading (replicate 16 no_linked_operator) 0 from
-  reading-first = record { few = omega arith; begins = omega arith; reached = reached-first sheet from; decides = refl }
+  pub reading-first : from ≤ length sheet → Reading (replicate 16 no_linked_operator) 0 from
+  unfolding left_at
+  reading-first begun = record { begins = omega arith; inside = begun; reached = reached-first sheet from; decides = refl }
 
-  module _ (operators : List LinkedOperator) (count at : ℕ) (so_far : Reading operators count at) {header : Due} (judged : header ≡ first_of (field_cases sheet at (any 3 6)) Due.Refused Due.Whole) where
-    pub header-refuses : {why : Refusal} → header ≡ Due.Refused why → due_at 15 from ≡ refused_read why
-    header-refuses e = so_far.decides ∙ field-refused refused_read accepted sheet at operator_format (further_cases (15 - count) (at + 9) sheet) judged e
-
-    module _ (whole : header ≡ Due.Whole) where
-      pub body-refuses : operator_fits (body_at sheet at 6) ≡ false → due_at 15 from ≡ refused_read (OutOfRange at)
-      body-refuses out = so_far.decides ∙ field-outside refused_read accepted sheet at operator_format (further_cases (15 - count) (at + 9) sheet) judged whole out
-
-      pub operator-passes : operator_fits (body_at sheet at 6) ≡ true → (linked : LinkedOperator) → linked ≡ operator_in (body_at sheet at 6) → (next : ℕ) → next ≡ at + 9 → Passed (set operators count linked) (count + 1) next
-      operator-passes fits linked same next step =
-          let left : 15 - count ≡ 16 - (count + 1) = omega arith in
-          let inside = field-inside sheet at 3 6 judged whole in
-          let begun : at < length sheet = omega arith in
-          rw (same, step)
-          (record {
-            begins = omega (arith, so_far.begins);
-            inside = omega arith;
-            reached = rw left at (reached-next sheet from operators count (15 - count) at begun so_far.reached);
-            decides = rw left at (so_far.decides ∙ field-passed refused_read accepted sheet at operator_format (further_cases (15 - count) (at + 9) sheet) judged whole fits);
-          })
-
-  module _ (operators : List LinkedOperator) (count at : ℕ) (so_far : Passed operators count at) where
+  module _ (operators : List LinkedOperator) (count at : ℕ) (so_far : Reading operators count at) where
     -- one more operator is due
-    pub reading-next : (count ≡ begun_from sheet from → ⊥) → Reading operators count at
-    unfolding round_up
-    reading-next other =
-        let few : count < 16 = omega (arith, so_far.reached.room, so_far.begins, so_far.inside) in
-        let goes_on : at ≡ length sheet → ⊥ = λ end. omega (arith, so_far.begins) in
-        let left : 16 - count ≡ suc (15 - count) = omega arith in
-        record { few = omega arith; begins = so_far.begins; reached = rw left at so_far.reached; decides = rw left at so_far.decides ∙ further-due (15 - count) at goes_on }
+    module _ (few : count < due_from sheet from) where
+      decided : due_at 15 from ≡ due_at (15 - count) at
+      unfolding round_up
+      decided =
+          let begins = so_far.begins in
+          so_far.decides ∙ left-due count at (omega arith) (λ some. omega arith)
 
-    all_read : count ≡ begun_from sheet from → (16 - count ≡ 0) ⊎ (at ≡ length sheet)
-    unfolding round_up
-    all_read e = ⊎_elim inl (λ some. inr (omega (arith, so_far.begins, so_far.inside))) (eq-zero-or-pos (16 - count))
+      pub header-refuses : {why : Refusal} → header_judged sheet at 3 6 ≡ Err why → due_at 15 from ≡ Err why
+      header-refuses e = decided ∙ field-refused accepted sheet at operator_format (further_cases (15 - count) (at + 9) sheet) e
+
+      module _ (judged : header_judged sheet at 3 6 ≡ Ok tt) where
+        pub body-refuses : operator_fits (body_at sheet at 6) ≡ false → due_at 15 from ≡ Err (OutOfRange at)
+        body-refuses out = decided ∙ field-outside accepted sheet at operator_format (further_cases (15 - count) (at + 9) sheet) judged out
+
+        pub operator-passes : operator_fits (body_at sheet at 6) ≡ true → (linked : LinkedOperator) → linked ≡ operator_in (body_at sheet at 6) → (next : ℕ) → next ≡ at + 9 → Reading (set operators count linked) (count + 1) next
+        unfolding round_up
+        operator-passes fits linked same next step =
+            let before : 16 - count ≡ suc (15 - count) = omega arith in
+            let left : 15 - count ≡ 16 - (count + 1) = omega arith in
+            let inside = field-inside sheet at 3 6 judged in
+            let begun : at < length sheet = omega arith in
+            rw (same, step)
+            (record {
+              begins = omega (arith, so_far.begins);
+              inside = omega arith;
+              reached = rw left at (reached-next sheet from operators count (15 - count) at begun (rw before at so_far.reached));
+              decides = decided ∙ field-passed accepted sheet at operator_format (further_cases (15 - count) (at + 9) sheet) judged fits ∙ sym (left-behind count (at + 9));
+            })
 
     -- none is due any more: what lies behind the last decides
-    module _ (last : count ≡ begun_from sheet from) {behind : Due} (ended : behind ≡ first_of (further_cases 0 at sheet) Due.Refused Due.Whole) where
-      abbrev stored : ReadSheet
-      stored = record { verdict = Verdict.Accepted; path = record { form = Form.Fields; declaration = declaration; wanted = wanted; count = count; operators = operators } }
+    module _ (last : count ≡ due_from sheet from) {rest : Judged} (ended : rest ≡ first_of (further_cases 0 at sheet) Err (Ok tt)) where
+      all_read : (16 - count ≡ 0) ⊎ (at ≡ length sheet)
+      unfolding round_up
+      all_read = ⊎_elim inl (λ some. inr (omega (arith, so_far.begins, so_far.inside))) (eq-zero-or-pos (16 - count))
 
-      reading-end : {found : Due} → behind ≡ found → due_at 15 from ≡ after refused_read stored found
+      abbrev stored : Result PathValue Refusal
+      stored = Ok (record { form = Form.Fields; declaration = declaration; wanted = wanted; count = count; operators = operators })
+
+      reading-end : {found : Judged} → rest ≡ found → due_at 15 from ≡ behind (λ whole. stored) found
       reading-end e =
-          let end = all_read last in
           so_far.decides
-          ∙ further-end (16 - count) at end accepted
-          ∙ ap (λ (value : PathValue). first_of (further_cases 0 at sheet) refused_read (record { verdict = Verdict.Accepted; path = value })) (sym (reached-end sheet from operators count (16 - count) at declaration wanted end so_far.reached))
-          ∙ judged-answer refused_read stored (further_cases 0 at sheet) ended e
+          ∙ left-end count at (omega arith) all_read
+          ∙ ap (λ (value : PathValue). first_of (further_cases 0 at sheet) Err (Ok value)) (sym (reached-end sheet from operators count (16 - count) at declaration wanted all_read so_far.reached))
+          ∙ judged-answer stored (further_cases 0 at sheet) ended e
 
-      pub end-refuses : {why : Refusal} → behind ≡ Due.Refused why → due_at 15 from ≡ refused_read why
+      pub end-refuses : {why : Refusal} → rest ≡ Err why → due_at 15 from ≡ Err why
       end-refuses e = reading-end e
 
-      pub end-accepts : behind ≡ Due.Whole → due_at 15 from ≡ stored
+      pub end-accepts : {whole : Unit {0}} → rest ≡ Ok whole → due_at 15 from ≡ stored
       end-accepts e = reading-end e

@@ -1,11 +1,7 @@
--- What the functions of the house profiles rest on: the delayer's slots fit their widths, and what a test that was taken tells.
+-- What the functions of the house profiles rest on: the delayer's slots fit their widths.
 use Prim.Native.Nat.{ℕ, ◌+◌, ◌*◌, ◌≤◌}
-use mathlib.Core.Path.{◌≡◌, refl, sym, ◌∙◌}
-use mathlib.Core.Bool.{Bool, true, false, not}
 use native.Mathlib.Nat.{add-mul, mul-le-mul, mul-le-mul_left, mul-le-mul_right}
 use native.Mathlib.Omega.{arith}
-use borrow.Author.Tests.{not-true, not-false}
-use Rattle.quantity.specs.Choice.{pick}
 use Rattle.quantity.specs.Rounding.{round_up}
 use Rattle.quantity.proofs.Rounding.{round-up-least}
 
@@ -22,15 +18,3 @@ slots-le L X R C some-R some-C =
     let less-R : R ≤ R * C = omega (arith, mul-le-mul_left R some-C) in
     round-up-least (L * C + X * R) (R * C) (L + X) (product-some some-R some-C)
     (omega (arith, add-mul L X (R * C), mul-le-mul_left L less-C, mul-le-mul_left X less-R))
-
--- a choice between the same
-pub pick_same : {A : Type 0} (t : Bool) (a : A) → pick t a a ≡ a
-pick_same true a = refl
-pick_same false a = refl
-
--- a test that is answered tells how it came out, where its negation was asked
-pub passed : {answer test : Bool} → answer ≡ test → not answer ≡ false → test ≡ true
-passed {answer} same left = sym same ∙ not-false answer left
-
-pub failed : {answer test : Bool} → answer ≡ test → not answer ≡ true → test ≡ false
-failed {answer} same taken = sym same ∙ not-true answer taken

@@ -3,7 +3,9 @@ use mathlib.Core.Path.{◌≡◌, refl}
 use mathlib.Core.List.{List, [], ◌∷◌, ◌++◌, map}
 use Prim.Native.Nat.{ℕ}
 use lib.ListN.{get_or, take, replicate}
+use Rattle.std.specs.Prelude.{Result, Ok, Err}
 use Rattle.quantity.specs.Ranges.{in_range}
+use Rattle.quantity.specs.declared.refusal.Refusal.{Refusal}
 use Rattle.quantity.specs.Refusals.{refusal_number, refusal_place}
 use Rattle.quantity.specs.Rounding.{round_up}
 use Rattle.quantity.specs.Sums.{every, list_of}
@@ -17,8 +19,6 @@ use Rattle.sheet.specs.declared.LinkedOperator.{LinkedOperator}
 use Rattle.sheet.specs.declared.House.{House}
 use Rattle.sheet.specs.declared.Form.{Form}
 use Rattle.sheet.specs.declared.PathValue.{PathValue}
-use Rattle.sheet.specs.declared.read.Verdict.{Verdict}
-use Rattle.sheet.specs.declared.write.Written.{Written}
 use Rattle.sheet.specs.Numbers as number
 use Rattle.sheet.specs.Numbers.{bytes_of}
 use Rattle.sheet.specs.Paths.{no_linked_operator}
@@ -63,9 +63,9 @@ pub data Outcome : Type 0 where
   written : ℕ → List ℕ → Outcome
   refused : ℕ → ℕ → List ℕ → Outcome
 
-abbrev pub outcome : Written → List ℕ → Outcome
-outcome (Written.Length n) around = written n around
-outcome (Written.Refused why) around = refused (refusal_number why) (refusal_place why) around
+abbrev pub outcome : Result ℕ Refusal → List ℕ → Outcome
+outcome (Ok n) around = written n around
+outcome (Err why) around = refused (refusal_number why) (refusal_place why) around
 
 abbrev pub into : ℕ → PathValue → Outcome
 into size p = outcome (write_answer p (replicate size 7)) (get_or (bytes_written p (replicate size 7)) 25 0 ∷ get_or (bytes_written p (replicate size 7)) 26 0 ∷ [])
@@ -128,7 +128,7 @@ pub house-sheet : take 27 (bytes_written (house_value house) (replicate 256 7)) 
 unfolding in_range round_up bytes_of house_body delayer_slots house_in_range house_value field_of sheet_of_value write_cases bytes_written
 house-sheet = refl
 
-pub house-read : read_sheet house_sheet ≡ record { verdict = Verdict.Accepted; path = house_value house }
+pub house-read : read_sheet house_sheet ≡ Ok (house_value house)
 unfolding in_range round_up number.value_of_bytes part house_in delayer_slots house_in_range house_fits body_at field_missing header_cut_off field_unexpected body_cut_off body_out_of_range further_cases in_house_form sheet_cases value_in read_sheet
 house-read = refl
 
@@ -145,12 +145,12 @@ unfolding round_up list_of number.value_of_bytes part house_in delayer_slots hou
 house-path = refl
 
 -- the number and place of what stands against a sheet
-abbrev pub against : Verdict → List ℕ
-against Verdict.Accepted = []
-against (Verdict.Refused why) = refusal_number why ∷ refusal_place why ∷ []
+abbrev pub against : Result PathValue Refusal → List ℕ
+against (Ok value) = []
+against (Err why) = refusal_number why ∷ refusal_place why ∷ []
 
 -- behind the field a byte, and a field; its body and its first bytes cut off; a length of 7
-pub house-refusals : map (λ sheet. against (read_sheet sheet).verdict) ((house_sheet ++ (3 ∷ [])) ∷ (house_sheet ++ (3 ∷ 0 ∷ 6 ∷ [])) ∷ take 24 house_sheet ∷ take 2 house_sheet ∷ (4 ∷ 0 ∷ 7 ∷ []) ∷ [])
+pub house-refusals : map (λ sheet. against (read_sheet sheet)) ((house_sheet ++ (3 ∷ [])) ∷ (house_sheet ++ (3 ∷ 0 ∷ 6 ∷ [])) ∷ take 24 house_sheet ∷ take 2 house_sheet ∷ (4 ∷ 0 ∷ 7 ∷ []) ∷ [])
     ≡ (2 ∷ 25 ∷ []) ∷ (3 ∷ 25 ∷ []) ∷ (4 ∷ 0 ∷ []) ∷ (2 ∷ 0 ∷ []) ∷ (3 ∷ 0 ∷ []) ∷ []
 unfolding in_range round_up number.value_of_bytes part house_in delayer_slots house_in_range house_fits body_at field_missing header_cut_off field_unexpected body_cut_off body_out_of_range further_cases in_house_form sheet_cases read_sheet
 house-refusals = refl
@@ -222,7 +222,7 @@ rows_sheets =
     ∷ (1 ∷ 0 ∷ 7 ∷ 0 ∷ 0 ∷ 10 ∷ 0 ∷ 0 ∷ 0 ∷ 30 ∷ camera_sheet)
     ∷ []
 
-pub rows-refusals : map (λ sheet. against (read_sheet sheet).verdict) rows_sheets
+pub rows-refusals : map (λ sheet. against (read_sheet sheet)) rows_sheets
     ≡ []
     ∷ []
     ∷ []

@@ -51,3 +51,6 @@ module _ (given : ℕ → DeclaredRow) where
   stored_next (suc (suc zero)) room = refl
   stored_next (suc (suc (suc zero))) room = refl
   stored_next (suc (suc (suc (suc k)))) room = absurd (omega arith)
+
+-- for the reader of the body
+pub ruleset one_row = one-fits

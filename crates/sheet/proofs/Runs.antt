@@ -1,11 +1,12 @@
 -- Bytes that are stored one run behind the other, or one before the other, are one run.
-use mathlib.Core.Path.{◌≡◌, refl, ap, ◌∙◌}
-use mathlib.Core.List.{List, [], ◌∷◌, ◌++◌}
-use Prim.Native.Nat.{ℕ, suc, ◌+◌, ◌≤◌, ◌<◌}
-use native.Mathlib.Nat.{add-zero, zero-add, add-suc, suc-add}
+use mathlib.Core.Path.{◌≡◌, refl, sym, ap, ◌∙◌}
+use mathlib.Core.List.{List, [], ◌∷◌, ◌++◌, append_assoc}
+use Prim.Native.Nat.{ℕ, suc, ◌+◌, ◌-◌, ◌≤◌, ◌<◌}
+use borrow.Rule.Slice.PartMut.{put_mid}
+use native.Mathlib.Nat.{add-sub_cancel_left, add-zero, zero-add, add-suc, suc-add}
 use native.Mathlib.Omega.{arith}
-use lib.ListN.{length, set, drop}
-use lib.Seq.{sets, sets-eq, set_comm}
+use lib.ListN.{length, set, take, drop}
+use lib.Seq.{sets, sets-eq, set_comm, drop-drop}
 
 -- a run of bytes behind another
 pub sets-append : (l : List ℕ) (i : ℕ) (vs ws : List ℕ) → sets (sets l i vs) (i + length vs) ws ≡ sets l i (vs ++ ws)
@@ -32,3 +33,7 @@ run-before l i j vs ws p q e = rw (q, p, e) (sets-before l i vs ws)
 -- bytes stored from the start on, and behind them what was there
 pub stored-first : (stored lent : List ℕ) → length stored ≤ length lent → sets lent 0 stored ≡ stored ++ drop (length stored) lent
 stored-first stored lent room = sets-eq stored lent 0 (rw zero-add room) ∙ rw zero-add
+
+-- a part that is written over as a whole is a run
+pub run-put : (l vs : List ℕ) (at width : ℕ) → length vs ≡ width → at + width ≤ length l → put_mid at (at + width - at) l vs ≡ sets l at vs
+run-put l vs at width size room = rw (add-sub_cancel_left at width, sets-eq vs l at (omega arith), size, ← drop-drop) (sym (append_assoc (take at l) vs (drop width (drop at l))))

@@ -9,6 +9,7 @@ use borrow.Author.Tests.{eq-eqb, ne_eqb, lt-ltb, le-ltb}
 use lib.ListN.{length, take, length-append}
 use lib.Seq.{sets}
 use lib.Dec.{eqb, ltb}
+use Rattle.std.specs.Prelude.{Result, Ok, Err}
 use Rattle.quantity.specs.Lent.{written_over}
 use Rattle.quantity.specs.Choice.{both, either}
 use Rattle.quantity.specs.Ranges.{in_range, wanted_delay_range}
@@ -20,7 +21,6 @@ use Rattle.flow.specs.Declarations.{declaration_in_range, rows_in_order}
 use Rattle.sheet.specs.declared.House.{House}
 use Rattle.sheet.specs.declared.Form.{Form}
 use Rattle.sheet.specs.declared.PathValue.{PathValue}
-use Rattle.sheet.specs.declared.write.Written.{Written}
 use Rattle.sheet.specs.Numbers.{bytes_of}
 use Rattle.sheet.specs.Bodies.{wanted_body}
 use Rattle.sheet.specs.House.{house_body, house_in_range}
@@ -84,7 +84,7 @@ module _ (value : PathValue) where
       sheet-written = rw (stands-in-fields value fields) (rw (cleared-tag value.declaration, cleared-body value.declaration inside))
 
 -- the answer and the bytes that are left are the definition's
-abbrev pub Answers : PathValue → List ℕ → Written → List ℕ → Type 0
+abbrev pub Answers : PathValue → List ℕ → Result ℕ Refusal → List ℕ → Type 0
 Answers value lent answer left = (answer ≡ write_answer value lent) × (left ≡ bytes_written value lent)
 
 -- the tests of the memory and of the number of operators are passed
@@ -112,28 +112,28 @@ module _ (value : PathValue) (lent : List ℕ) where
   kept why = lent
 
   -- where a refusal stands first, the bytes keep their values
-  refused-by : (why : Refusal) → FirstIs (write_cases value lent) why → Answers value lent (Written.Refused why) lent
+  refused-by : (why : Refusal) → FirstIs (write_cases value lent) why → Answers value lent (Err why) lent
   unfolding write_answer bytes_written
   refused-by why first = (
-    sym (first-answered Written.Refused (Written.Length (length (sheet_of_value value))) why (write_cases value lent) first),
+    sym (first-answered Err (Ok (length (sheet_of_value value))) why (write_cases value lent) first),
     sym (first-answered kept (written_over (sheet_of_value value) lent) why (write_cases value lent) first),
   )
 
   -- behind all tests
   all-passed : length lent ≡ 256 → NoneStands (write_cases value lent) → {stored left : List ℕ} → sheet_of_value value ≡ stored → left ≡ sets lent 0 stored → length stored ≤ 256
-      → Answers value lent (Written.Length (length stored)) left
+      → Answers value lent (Ok (length stored)) left
   unfolding write_answer bytes_written
   all-passed full stands {stored} same held room =
       rw same (
-        sym (first_of-none Written.Refused (Written.Length (length stored)) (write_cases value lent) stands),
+        sym (first_of-none Err (Ok (length stored)) (write_cases value lent) stands),
         held ∙ stored-first stored lent (rw full room) ∙ sym (first_of-none kept (written_over stored lent) (write_cases value lent) stands),
       )
 
-  pub wrong-length : (length lent ≡ 256 → ⊥) → Answers value lent (Written.Refused Unusable) lent
+  pub wrong-length : (length lent ≡ 256 → ⊥) → Answers value lent (Err Unusable) lent
   unfolding write_cases
   wrong-length other = refused-by Unusable (inl (rw (ne_eqb (length lent) 256 other), refl))
 
-  pub wrong-count : length lent ≡ 256 → value.form ≡ Form.Fields → (value.count ≡ 0) ⊎ (16 < value.count) → Answers value lent (Written.Refused (FieldUnexpected 0)) lent
+  pub wrong-count : length lent ≡ 256 → value.form ≡ Form.Fields → (value.count ≡ 0) ⊎ (16 < value.count) → Answers value lent (Err (FieldUnexpected 0)) lent
   wrong-count full fields wrong =
       refused-by (FieldUnexpected 0) (rw (refusals-in-fields value fields lent) (inr (rw (eq-eqb (length lent) 256 full), inl (wrong-either value.count wrong, refl))))
 
@@ -144,10 +144,10 @@ module _ (value : PathValue) (lent : List ℕ) where
         → FirstIs (write_cases value lent) why
     behind-count first = rw (refusals-in-fields value c.fields lent) (inr (rw (eq-eqb (length lent) 256 c.full), inr (right-either value.count c.some c.few, first)))
 
-    pub wrong-declaration : declaration_in_range value.declaration ≡ false → Answers value lent (Written.Refused (OutOfRange 0)) lent
+    pub wrong-declaration : declaration_in_range value.declaration ≡ false → Answers value lent (Err (OutOfRange 0)) lent
     wrong-declaration out = refused-by (OutOfRange 0) (behind-count (inl (rw (declaration-tested value c.fields, out), refl)))
 
-    pub wrong-order : declaration_in_range value.declaration ≡ true → rows_in_order value.declaration ≡ false → Answers value lent (Written.Refused (RowsOutOfOrder 0)) lent
+    pub wrong-order : declaration_in_range value.declaration ≡ true → rows_in_order value.declaration ≡ false → Answers value lent (Err (RowsOutOfOrder 0)) lent
     wrong-order inside falls =
         refused-by (RowsOutOfOrder 0) (behind-count (inr (rw (declaration-tested value c.fields, inside), inl (rw (order-tested value c.fields inside, falls), refl))))
 
@@ -161,12 +161,12 @@ module _ (value : PathValue) (lent : List ℕ) where
     ordered : not (rows_in_order (stands_for value).declaration) ≡ false
     ordered = rw (order-tested value c.fields d.inside, d.rises)
 
-    pub wrong-rest : rest_of value ≡ false → Answers value lent (Written.Refused (OutOfRange 0)) lent
+    pub wrong-rest : rest_of value ≡ false → Answers value lent (Err (OutOfRange 0)) lent
     wrong-rest out = refused-by (OutOfRange 0) (behind-count c (inr (tested, inr (ordered, inl (rw (rest-tested value c.fields, out), refl)))))
 
     -- all fields are stored, the operators' first
     pub all_right : rest_of value ≡ true → (at : ℕ) → at ≡ length (declaration value) → {operated declared left : List ℕ} → operated ≡ sets lent (at + 3 + 4) (operators value) → declared ≡ sets operated 0 (declaration value)
-        → left ≡ sets declared at (wanted value) → Answers value lent (Written.Length (at + 3 + 4 + length (operators value))) left
+        → left ≡ sets declared at (wanted value) → Answers value lent (Ok (at + 3 + 4 + length (operators value))) left
     all_right rest at begins third first second =
         let stands : NoneStands (write_cases value lent) =
         rw (refusals-in-fields value c.fields lent) (rw (eq-eqb (length lent) 256 c.full), (right-either value.count c.some c.few, (tested, (ordered, (rw (rest-tested value c.fields, rest), tt))))) in
@@ -177,10 +177,10 @@ module _ (value : PathValue) (lent : List ℕ) where
         rw ends (all-passed c.full stands (sheet-in-fields value c.fields ∙ sheet-written value c.fields d.inside) (stored-fields value lent at begins third first second) (omega (arith, c.few)))
 
   module _ (full : length lent ≡ 256) (h : House) (house : value.form ≡ Form.House h) where
-    pub wrong-house : house_in_range h ≡ false → Answers value lent (Written.Refused (OutOfRange 0)) lent
+    pub wrong-house : house_in_range h ≡ false → Answers value lent (Err (OutOfRange 0)) lent
     wrong-house out = refused-by (OutOfRange 0) (rw (refusals-in-house value h house lent) (inr (rw (eq-eqb (length lent) 256 full), inl (rw out, refl))))
 
-    pub house-right : house_in_range h ≡ true → {left : List ℕ} → left ≡ sets lent 0 (field_of 0x04 (house_body h)) → Answers value lent (Written.Length 25) left
+    pub house-right : house_in_range h ≡ true → {left : List ℕ} → left ≡ sets lent 0 (field_of 0x04 (house_body h)) → Answers value lent (Ok 25) left
     house-right in-range stored =
         let passed =
         all-passed full (rw (refusals-in-house value h house lent) (rw (eq-eqb (length lent) 256 full), (rw in-range, tt))) (sheet-in-house value h house) stored (rw (length-house_field h) (omega arith)) in

@@ -9,25 +9,24 @@ use lib.ListN.{length, take, drop}
 use lib.Seq.{length-take-le, take-append_seam}
 use lib.Dec.{ltb, eqb}
 use borrow.Author.Tests.{eqb-false, ltb-false, not-false, eq-eqb, ne_eqb, le-ltb}
+use Rattle.std.specs.Prelude.{Ok, Err}
 use Rattle.quantity.specs.Ranges.{in_range, wanted_delay_range}
 use Rattle.quantity.specs.declared.refusal.Refusal.{Refusal}
 use Rattle.quantity.proofs.Laws.{either-false}
 use Rattle.quantity.proofs.Sums.{both_true}
-use Rattle.quantity.proofs.Refusals.{NoneStands, none-of-both, none-of-each, first_of-none, none-where-result}
+use Rattle.quantity.proofs.Refusals.{NoneStands, none-of-both, none-of-each, first_of-none}
 use Rattle.flow.specs.Declarations.{by_kind, declaration_in_range, rows_in_order, cleared}
 use Rattle.flow.specs.declared.Kind.{Kind}
 use Rattle.sheet.specs.declared.House.{House}
 use Rattle.sheet.specs.declared.Form.{Form}
 use Rattle.sheet.specs.declared.PathValue.{PathValue}
-use Rattle.sheet.specs.declared.read.Verdict.{Verdict}
-use Rattle.sheet.specs.declared.read.ReadSheet.{ReadSheet}
-use Rattle.sheet.specs.declared.write.Written.{Written}
 use Rattle.sheet.specs.Paths.{Path}
 use Rattle.sheet.specs.Bodies.{wanted_in, declaration_tag, declaration_body, wanted_body}
 use Rattle.sheet.specs.House.{house_in, house_body, house_in_range}
-use Rattle.sheet.specs.Forms.{in_full, stands_for, value_of_path, house_value, no_path}
+use Rattle.sheet.specs.Forms.{in_full, stands_for, value_of_path, house_value}
 use Rattle.sheet.specs.Fields.{wanted_format, house_format, field_of, body_at, field_cases}
 use Rattle.sheet.specs.Sheets.{declaration_cases, wanted_at, operators_at, fields_cases, house_cases, in_house_form, sheet_cases, further_cases, operators_from, fields_path, value_in, read_sheet, operator_fields, operators_in_range, sheet_of, rest_in_range, sheet_of_value, write_cases, write_answer, bytes_written}
+use Rattle.sheet.proofs.AnswerLaws.{none-of-ok, ok-is}
 use Rattle.sheet.proofs.Numbers.{AreBytes}
 use Rattle.sheet.proofs.Bodies.{length-wanted_body, wanted_read, wanted-fits, wanted-written}
 use Rattle.sheet.proofs.Cleared.{cleared-twice}
@@ -36,7 +35,7 @@ use Rattle.sheet.proofs.HouseLaws.{length-house_body, house-read, house-fits, ho
 use Rattle.sheet.proofs.Fields.{field-read, field-accepted, field-written}
 use Rattle.sheet.proofs.DeclarationField.{declared-read, declared-written}
 use Rattle.sheet.proofs.OperatorRows.{length-operator_fields, further-begun, further-ended, operators-read, operators-written}
-use Rattle.sheet.proofs.Accepted.{fields-stand, fields-path, profile-inside, fields-clear, never-accepted}
+use Rattle.sheet.proofs.Accepted.{fields-stand, fields-path, profile-inside, fields-clear}
 use Rattle.sheet.proofs.InRange.{declaration-of-path, rest-of-path}
 
 -- a path written out in fields
@@ -215,37 +214,37 @@ module _ (sheet : List ℕ) (stands : NoneStands (sheet_cases sheet)) where
 
 -- the answers
 
-never-written : (n : ℕ) (why : Refusal) → Written.Refused why ≡ Written.Length n → ⊥
-never-written n why e = let never : ◌≡◌ {A = ℕ} 0 1 = cc in omega arith
-
 module _ (sheet : List ℕ) where
-  abbrev read_as : ReadSheet
-  read_as = record { verdict = Verdict.Accepted; path = value_in sheet }
-
-  abbrev refused-for : Refusal → ReadSheet
-  refused-for why = record { verdict = Verdict.Refused why; path = no_path }
-
   -- an accepted sheet is one in which no refusal stands
-  pub accepted-stands : (read_sheet sheet).verdict ≡ Verdict.Accepted → NoneStands (sheet_cases sheet)
+  pub accepted-stands : {value : PathValue} → read_sheet sheet ≡ Ok value → NoneStands (sheet_cases sheet)
   unfolding read_sheet
-  accepted-stands = none-where-result refused-for read_as (λ (answer : ReadSheet). answer.verdict ≡ Verdict.Accepted) never-accepted (sheet_cases sheet)
+  accepted-stands = none-of-ok (value_in sheet) (sheet_cases sheet)
 
   -- and that is read as the value of the path in it
-  pub standing-read : NoneStands (sheet_cases sheet) → read_sheet sheet ≡ record { verdict = Verdict.Accepted; path = value_in sheet }
+  pub accepted-is : {value : PathValue} → read_sheet sheet ≡ Ok value → value ≡ value_in sheet
   unfolding read_sheet
-  standing-read = first_of-none refused-for read_as (sheet_cases sheet)
+  accepted-is = ok-is (value_in sheet) (sheet_cases sheet)
+
+  pub standing-read : NoneStands (sheet_cases sheet) → read_sheet sheet ≡ Ok (value_in sheet)
+  unfolding read_sheet
+  standing-read = first_of-none Err (Ok (value_in sheet)) (sheet_cases sheet)
 
 module _ (value : PathValue) (lent : List ℕ) where
   -- a path of which a length is answered is one in which no refusal stands
-  pub written_stands : (n : ℕ) → write_answer value lent ≡ Written.Length n → NoneStands (write_cases value lent)
+  pub written_stands : {n : ℕ} → write_answer value lent ≡ Ok n → NoneStands (write_cases value lent)
   unfolding write_answer
-  written_stands n = none-where-result Written.Refused (Written.Length (length (sheet_of_value value))) (λ (written : Written). written ≡ Written.Length n) (never-written n) (write_cases value lent)
+  written_stands = none-of-ok (length (sheet_of_value value)) (write_cases value lent)
+
+  -- and the length is its sheet's
+  pub written-is : {n : ℕ} → write_answer value lent ≡ Ok n → n ≡ length (sheet_of_value value)
+  unfolding write_answer
+  written-is = ok-is (length (sheet_of_value value)) (write_cases value lent)
 
   -- the writer's answer, and the lent bytes after it, where no refusal stands
   module _ (stands : NoneStands (write_cases value lent)) where
-    pub standing-answer : write_answer value lent ≡ Written.Length (length (sheet_of_value value))
+    pub standing-answer : write_answer value lent ≡ Ok (length (sheet_of_value value))
     unfolding write_answer
-    standing-answer = first_of-none Written.Refused (Written.Length (length (sheet_of_value value))) (write_cases value lent) stands
+    standing-answer = first_of-none Err (Ok (length (sheet_of_value value))) (write_cases value lent) stands
 
     pub standing-bytes : take (length (sheet_of_value value)) (bytes_written value lent) ≡ sheet_of_value value
     unfolding bytes_written

@@ -3,41 +3,44 @@ use mathlib.Core.Path.{◌≡◌, refl, sym, ap, ◌∙◌}
 use mathlib.Core.Bool.{Bool, true, false}
 use mathlib.Core.List.{List, [], ◌∷◌, ◌++◌, append-nil, append_assoc}
 use Prim.Native.Nat.{ℕ, zero, suc, ◌+◌, ◌-◌, ◌*◌, ◌/◌, ◌%◌, ◌^◌, ◌≤◌, ◌<◌}
-use native.Mathlib.Nat.{pow-suc, div-div-eq-div-mul, le_refl, min-le_left}
+use native.Mathlib.Nat.{div-one, min-le_left}
 use native.Mathlib.Numerals.{add-one}
 use native.Mathlib.Omega.{arith}
-use lib.ListN.{length, get_or, set, take, drop, length-append, drop_of_length-le, length-take}
-use lib.Seq.{sets, drop-cons, get_or-take, take-suc, length-take-le}
-use Rattle.quantity.specs.Choice.{pick, both}
-use Rattle.quantity.proofs.Laws.{pick_true, pick-false, told, le-largest}
+use lib.ListN.{length, get_or, take, drop, length-take}
+use lib.Seq.{take-suc, length-take-le}
+use Rattle.std.specs.Prelude.{◌&&◌}
+use Rattle.std.specs.List.{list_all}
+use Rattle.std.specs.Int.{w32, bytes_high_first, to_be_bytes}
+use Rattle.quantity.specs.Choice.{both}
+use Rattle.quantity.proofs.Laws.{le-largest}
 use Rattle.quantity.proofs.Sums.{both_true}
 use Rattle.flow.specs.Declarations.{has_rows, several_range, declaration_in_range}
 use Rattle.flow.specs.declared.Kind.{Kind}
 use Rattle.flow.specs.declared.Declaration.{Declaration}
 use Rattle.flow.proofs.Declarations.{rows-range}
 use Rattle.sheet.specs.declared.LinkedOperator.{LinkedOperator}
-use Rattle.sheet.specs.declared.write.WrittenOperators.{WrittenOperators}
 use Rattle.sheet.specs.Numbers.{bytes_of}
 use Rattle.sheet.specs.Bodies.{row_bodies, pair_body, declaration_tag, declaration_body, operator_body, operator_in_range}
 use Rattle.sheet.specs.Fields.{field_of}
 use Rattle.sheet.specs.Sheets.{operator_fields, operators_in_range}
+use Rattle.sheet.proofs.OperatorRows.{length-operator_fields}
 use Rattle.sheet.proofs.Cleared.{by_rows}
 use Rattle.sheet.proofs.Bodies.{length-pair_body, length-of-one, length-row_bodies, length-of-rows}
-use Rattle.sheet.proofs.Runs.{set_before}
 
--- a number is written from its low byte: one byte more, before those that are written
-pub number-written : (l sheet : List ℕ) (at k width value left : ℕ) → 0 < k → k ≤ width → sheet ≡ sets l (at + k) (bytes_of (width - k) value) → left ≡ value / 256 ^ (width - k)
-    → set sheet (at + (k - 1)) (left % 256) ≡ sets l (at + (k - 1)) (bytes_of (width - (k - 1)) value)
+-- the last bytes of a number of four
+high-bytes : (width n : ℕ) → bytes_high_first width n ≡ bytes_of width n
 unfolding bytes_of
-number-written l sheet at k width value left some inside so_far rest =
-    let longer : width - (k - 1) ≡ suc (width - k) = omega arith in
-    let next : at + k ≡ suc (at + (k - 1)) = omega arith in
-    rw (so_far, rest, longer, next) (set_before l (at + (k - 1)) (suc (at + (k - 1))) (bytes_of (width - k) value) (value / 256 ^ (width - k) % 256) (omega arith))
+high-bytes zero n = refl
+high-bytes (suc zero) n = rw div-one
+high-bytes (suc (suc width)) n = ap (λ (rest : List ℕ). n / 256 ^ suc width % 256 ∷ rest) (high-bytes (suc width) n)
 
-pub number-left : (k width value left : ℕ) → 0 < k → k ≤ width → left ≡ value / 256 ^ (width - k) → left / 256 ≡ value / 256 ^ (width - (k - 1))
-number-left k width value left some inside rest =
-    let longer : width - (k - 1) ≡ suc (width - k) = omega arith in
-    rw (longer, pow-suc, rest) (div-div-eq-div-mul value (256 ^ (width - k)) 256)
+pub last-bytes : (width n : ℕ) → width ≤ 4 → drop (4 - width) (to_be_bytes w32 n) ≡ bytes_of width n
+last-bytes zero n few = high-bytes zero n
+last-bytes (suc zero) n few = high-bytes 1 n
+last-bytes (suc (suc zero)) n few = high-bytes 2 n
+last-bytes (suc (suc (suc zero))) n few = high-bytes 3 n
+last-bytes (suc (suc (suc (suc zero)))) n few = high-bytes 4 n
+last-bytes (suc (suc (suc (suc (suc width))))) n few = absurd (omega arith)
 
 -- a declaration's field by its kind, and how many rows there are of several
 module _ (declared : Declaration) where
@@ -82,17 +85,15 @@ declaration-short declared inside =
     let size = length-field (declaration_tag declared) (declaration_body declared) in
     by_rows declared (λ several. omega (arith, length-of-rows declared several, several-few declared several inside)) (λ one. omega (arith, length-of-one declared one))
 
--- the first `count` operators, tested one by one: those from k on are the operator at k and those behind it
-pub operators-tested : (operators : List LinkedOperator) (count k : ℕ) (d : LinkedOperator) {tested : Bool} → k < count → count ≤ length operators → tested ≡ operator_in_range (get_or operators k d)
-    → operators_in_range (drop k (take count operators)) ≡ both tested (operators_in_range (drop (k + 1) (take count operators)))
-unfolding operators_in_range
-operators-tested operators count k d here inside e =
-    let in-part : k < length (take count operators) = rw (length-take-le count operators inside) here in
-    rw (e, ← get_or-take count operators k d here, add-one, drop-cons (take count operators) k d in-part)
+-- each of the operators is tested
+both-is : (a b : Bool) → (a && b) ≡ both a b
+both-is true b = refl
+both-is false b = refl
 
-pub none_left : (operators : List LinkedOperator) (count : ℕ) → count ≤ length operators → operators_in_range (drop count (take count operators)) ≡ true
+pub each-tested : (operators : List LinkedOperator) → list_all operator_in_range operators ≡ operators_in_range operators
 unfolding operators_in_range
-none_left operators count inside = rw (drop_of_length-le (take count operators) {i = count} (rw (length-take-le count operators inside) (le_refl count)))
+each-tested [] = refl
+each-tested (linked ∷ operators) = rw (each-tested operators) (both-is (operator_in_range linked) (operators_in_range operators))
 
 operator_fields-snoc : (operators : List LinkedOperator) (linked : LinkedOperator) → operator_fields (operators ++ (linked ∷ [])) ≡ operator_fields operators ++ field_of 0x03 (operator_body linked)
 unfolding operator_fields
@@ -104,18 +105,6 @@ pub operator_fields-next : (operators : List LinkedOperator) (k : ℕ) (d : Link
     → operator_fields (take (k + 1) operators) ≡ operator_fields (take k operators) ++ field_of 0x03 (operator_body (get_or operators k d))
 operator_fields-next operators k d inside = rw (add-one, take-suc operators k d) (operator_fields-snoc (take k operators) (get_or operators k d))
 
-length-linked : (linked : LinkedOperator) → length (field_of 0x03 (operator_body linked)) ≡ 9
-unfolding field_of operator_body bytes_of
-length-linked linked = refl
-
--- an operator's field has 9 bytes
-pub length-operator_fields : (operators : List LinkedOperator) → length (operator_fields operators) ≡ 9 * length operators
-unfolding operator_fields
-length-operator_fields [] = refl
-length-operator_fields (linked ∷ operators) =
-    let rest = length-operator_fields operators in
-    rw (length-append, length-linked) (omega arith)
-
 pub length-operator_fields-take : (operators : List LinkedOperator) (k : ℕ) → k ≤ length operators → length (operator_fields (take k operators)) ≡ 9 * k
 length-operator_fields-take operators k inside = length-operator_fields (take k operators) ∙ ap (λ (n : ℕ). 9 * n) (length-take-le k operators inside)
 
@@ -123,18 +112,3 @@ pub length-operator_fields-most : (operators : List LinkedOperator) (k : ℕ) �
 length-operator_fields-most operators k =
     let few : length (take k operators) ≤ k = rw length-take (min-le_left k (length operators)) in
     omega (arith, length-operator_fields (take k operators))
-
--- what the answer of the operators' writer tells of them, and of the bytes
-pub record OperatorsTold (lent : List ℕ) (from : ℕ) (operators : List LinkedOperator) (answer : WrittenOperators) (left : List ℕ) : Type 0 where
-  pub within : {end : ℕ} → answer ≡ WrittenOperators.End end → (operators_in_range operators ≡ true) × (end ≡ from + length (operator_fields operators)) × (left ≡ sets lent from (operator_fields operators))
-  pub outside : answer ≡ WrittenOperators.OutOfRange → (operators_in_range operators ≡ false) × (left ≡ lent)
-
-pub operators-told : (lent : List ℕ) (from : ℕ) (operators : List LinkedOperator) {answer : WrittenOperators} {left : List ℕ}
-    → (answer ≡ pick (operators_in_range operators) (WrittenOperators.End (from + length (operator_fields operators))) WrittenOperators.OutOfRange) × (left ≡ pick (operators_in_range operators) (sets lent from (operator_fields operators)) lent)
-    → OperatorsTold lent from operators answer left
-operators-told lent from operators (answered, held) =
-    let tells = told (operators_in_range operators) (from + length (operator_fields operators)) WrittenOperators.End WrittenOperators.OutOfRange (λ k e. cc) (λ j k e. cc) answered in
-    record {
-      within = λ e. let (fit, same) = tells.within e in (fit, same, held ∙ pick_true _ _ _ fit);
-      outside = λ e. let out = tells.outside e in (out, held ∙ pick-false _ _ _ out);
-    }

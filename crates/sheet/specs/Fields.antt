@@ -1,7 +1,8 @@
 -- Sections 5 and 7: a field is a tag (1 byte), the body's length (2 bytes) and the body; and why one is refused where it is expected.
-use Rattle.std.specs.Prelude.{ℕ, ◌+◌, ◌*◌, Bool, not, List, [], ◌∷◌, ◌++◌, length, get_or, leb, ltb, eqb}
+use Rattle.std.specs.Prelude.{◌≡◌, ℕ, ◌+◌, ◌*◌, Bool, true, not, Result, Ok, Err, List, [], ◌∷◌, ◌++◌, length, get_or, leb, ltb, eqb}
 use Rattle.quantity.specs.Choice.{both}
-use Rattle.quantity.specs.Refusals.{Case, ◌⇒◌}
+use Rattle.quantity.specs.Refusals.{Case, ◌⇒◌, first_of}
+use Rattle.quantity.specs.declared.refusal.Refusal.{Refusal}
 use Rattle.quantity.specs.declared.refusal.Refusal.TheVariants.{HeaderCutOff, FieldUnexpected, BodyCutOff, OutOfRange}
 use Rattle.sheet.specs.Numbers.{value_of_bytes, bytes_of}
 use Rattle.sheet.specs.Bodies.{part, declaration_fits, row_length, rows_fit, wanted_fits, operator_fits}
@@ -66,3 +67,13 @@ field_cases sheet at due =
     ∷ (body_cut_off sheet at due ⇒ BodyCutOff at)
     ∷ (body_out_of_range sheet at due ⇒ OutOfRange at)
     ∷ []
+
+-- what 2, 3 and 4 say of the field that is due at a byte, whatever its body
+abbrev pub header_judged : List ℕ → ℕ → ℕ → ℕ → Result (Unit {0}) Refusal
+header_judged sheet at tag width = first_of (field_cases sheet at (record { tag = tag; width = width; fits = λ body. true })) Err (Ok tt)
+
+-- the bytes that are handed of the field where 2, 3 and 4 do not stand: its body
+pub record IsHanded (sheet : List ℕ) (at tag width : ℕ) (body : List ℕ) : Type 0 where
+  pub judged : header_judged sheet at tag width ≡ Ok tt
+  pub is : body ≡ body_at sheet at width
+  pub size : length body ≡ width

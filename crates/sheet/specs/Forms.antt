@@ -38,6 +38,6 @@ unfoldable pub house_value : House → PathValue
 unfolding value_of_path
 house_value h = value_of_path (Form.House h) (house_path h)
 
--- the path handed back beside a refusal
+-- the path without an operator
 abbrev pub no_path : PathValue
 no_path = record { form = Form.Fields; declaration = of_one_row Kind.Smooth 0 0; wanted = record { 0 = 0 }; count = 0; operators = replicate most_operators no_linked_operator }

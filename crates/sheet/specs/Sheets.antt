@@ -1,23 +1,23 @@
 -- Section 5: one field 01, or 05 in its place (document 02, item 6), one 02, then 1 to 16 of 03, or one 04 (item 2); what reading and writing a sheet answer (section 7).
-use Rattle.std.specs.Prelude.{ℕ, zero, suc, ◌+◌, ◌-◌, Bool, true, not, List, [], ◌∷◌, ◌++◌, length, get_or, leb, ltb, eqb}
+use Rattle.std.specs.Prelude.{ℕ, zero, suc, ◌+◌, ◌-◌, Bool, true, not, Result, Ok, Err, List, [], ◌∷◌, ◌++◌, length, get_or, leb, ltb, eqb}
 use Rattle.quantity.specs.Choice.{pick, both, either}
 use Rattle.quantity.specs.Lent.{written_over}
 use Rattle.quantity.specs.Limits.{most_operators}
 use Rattle.quantity.specs.Ranges.{in_range, wanted_delay_range}
 use Rattle.quantity.specs.Refusals.{Case, ◌⇒◌, first_of}
+use Rattle.quantity.specs.declared.refusal.Refusal.{Refusal}
 use Rattle.quantity.specs.declared.refusal.Refusal.TheVariants.{Unusable, HeaderCutOff, FieldUnexpected, OutOfRange, RowsOutOfOrder}
 use Rattle.flow.specs.Declarations.{declaration_in_range, rows_in_order}
 use Rattle.flow.specs.declared.Declaration.{Declaration}
 use Rattle.sheet.specs.declared.LinkedOperator.{LinkedOperator}
 use Rattle.sheet.specs.declared.PathValue.{PathValue}
-use Rattle.sheet.specs.declared.read.Verdict.{Verdict}
-use Rattle.sheet.specs.declared.read.ReadSheet.{ReadSheet}
-use Rattle.sheet.specs.declared.write.Written.{Written}
 use Rattle.sheet.specs.declared.Form.{Form}
+use Rattle.sheet.specs.declared.read.First.{First}
+use Rattle.sheet.specs.declared.read.Head.{Head}
 use Rattle.sheet.specs.Numbers.{value_of_bytes}
 use Rattle.sheet.specs.Paths.{Path}
 use Rattle.sheet.specs.House.{house_in, house_body, house_in_range}
-use Rattle.sheet.specs.Forms.{stands_for, value_of_path, house_value, no_path}
+use Rattle.sheet.specs.Forms.{stands_for, value_of_path, house_value}
 use Rattle.sheet.specs.Bodies.{part, declaration_in, rows_in, wanted_in, operator_in, operator_in_range, declaration_tag, declaration_body, wanted_body, operator_body}
 use Rattle.sheet.specs.Fields.{Format, declaration_format, rows_format, wanted_format, operator_format, house_format, field_of, body_at, header_cut_off, field_cases}
 
@@ -111,22 +111,26 @@ value_in sheet = pick (in_house_form sheet) (house_value (house_in (body_at shee
 unfoldable pub path_in : List ℕ → Path
 path_in sheet = stands_for (value_in sheet)
 
-unfoldable pub refused_read : Rattle.quantity.specs.declared.refusal.Refusal.Refusal → ReadSheet
-refused_read why = record { verdict = Verdict.Refused why; path = no_path }
+-- what reading the declaration answers: what it says, and where the field 02 begins
+abbrev pub first_answer : List ℕ → Result First Refusal
+first_answer sheet = first_of (declaration_cases sheet) Err (Ok (record { declaration = declared_in sheet; end = wanted_at sheet }))
+
+-- and with the field 02: what both say, and where the operators begin
+abbrev pub head_answer : List ℕ → Result Head Refusal
+head_answer sheet =
+    first_of (declaration_cases sheet ++ field_cases sheet (wanted_at sheet) wanted_format) Err
+    (Ok (record { declaration = (fields_path sheet).declaration; wanted = record { 0 = (fields_path sheet).wanted }; end = operators_at sheet }))
 
 -- what reading a sheet written out in fields answers, and one of a field 04
-unfoldable pub read_fields : List ℕ → ReadSheet
-unfolding refused_read
-read_fields sheet = first_of (fields_cases sheet) refused_read (record { verdict = Verdict.Accepted; path = value_of_path Form.Fields (fields_path sheet) })
+unfoldable pub read_fields : List ℕ → Result PathValue Refusal
+read_fields sheet = first_of (fields_cases sheet) Err (Ok (value_of_path Form.Fields (fields_path sheet)))
 
-unfoldable pub read_house : List ℕ → ReadSheet
-unfolding refused_read
-read_house sheet = first_of (house_cases sheet) refused_read (record { verdict = Verdict.Accepted; path = house_value (house_in (body_at sheet house_at house_format.width)) })
+unfoldable pub read_house : List ℕ → Result PathValue Refusal
+read_house sheet = first_of (house_cases sheet) Err (Ok (house_value (house_in (body_at sheet house_at house_format.width))))
 
 -- what reading answers
-unfoldable pub read_sheet : List ℕ → ReadSheet
-unfolding refused_read
-read_sheet sheet = first_of (sheet_cases sheet) refused_read (record { verdict = Verdict.Accepted; path = value_in sheet })
+unfoldable pub read_sheet : List ℕ → Result PathValue Refusal
+read_sheet sheet = first_of (sheet_cases sheet) Err (Ok (value_in sheet))
 
 unfoldable pub operator_fields : List LinkedOperator → List ℕ
 operator_fields [] = []
@@ -178,9 +182,9 @@ unfoldable pub write_cases : PathValue → List ℕ → List Case
 unfolding form_cases
 write_cases value lent = (not (eqb (length lent) 256) ⇒ Unusable) ∷ form_cases value.form value
 
--- what writing answers
-unfoldable pub write_answer : PathValue → List ℕ → Written
-write_answer value lent = first_of (write_cases value lent) Written.Refused (Written.Length (length (sheet_of_value value)))
+-- what writing answers: the sheet's length
+unfoldable pub write_answer : PathValue → List ℕ → Result ℕ Refusal
+write_answer value lent = first_of (write_cases value lent) Err (Ok (length (sheet_of_value value)))
 
 -- what the lent bytes hold then: the sheet, and behind it what they held; all that they held where it is refused
 unfoldable pub bytes_written : PathValue → List ℕ → List ℕ

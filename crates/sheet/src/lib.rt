@@ -2,48 +2,79 @@
 
 #![tactic(auto)]
 
-ghost use Rattle.std.specs.Prelude.{◌≡◌};
-ghost use Rattle.operator.specs.Operators.{number_in_range};
-ghost use Rattle.sheet.specs.Bodies.{operator_in_range};
+ghost use Rattle.std.specs.Prelude.{◌≡◌, ◌+◌, ◌*◌, ◌≤◌};
+ghost use Rattle.sheet.specs.Bodies.{operator_byte, operator_number, operator_in_range};
 ghost use Rattle.sheet.specs.House.{house_in_range};
-ghost use Rattle.sheet.specs.Paths.{no_linked_operator};
 ghost use Rattle.sheet.specs.Forms.{no_path};
 
 use flow::{Declaration, Kind};
 use operator::Operator;
-use quantity::{Hops, Interval, Link, Packet, Quota, Rate, WantedDelay};
+use quantity::{Hops, Interval, Link, Packet, Quantity, Quota, Rate, WantedDelay};
 
 mod profile;
 pub mod read;
 pub mod write;
 
-// Section 5: a field's first bytes are its tag and its body's length; where the first field begins, the tags and the bodies' lengths.
+// Section 5: a field's first bytes are its tag and its body's length.
 const HEADER: usize = 3;
 
+// A kind of field: its tag and its body's length.
+#[derive(Clone, Copy)]
+struct Format {
+    tag: u8,
+    width: usize,
+}
+
+// The declaration begins at the sheet's start, and so does a house profile.
 const DECLARATION_AT: usize = 0;
 
-const DECLARATION_TAG: u8 = 0x01;
+const HOUSE_AT: usize = 0;
 
-const DECLARATION_WIDTH: usize = 7;
+const DECLARATION: Format = Format {
+    tag: 0x01,
+    width: 7,
+};
 
 // Document 02, item 6: 05 stands in place of 01, with a body of so many bytes for each row.
 const ROWS_TAG: u8 = 0x05;
 
 const ROW_WIDTH: usize = 6;
 
-const WANTED_TAG: u8 = 0x02;
+const WANTED: Format = Format {
+    tag: 0x02,
+    width: 4,
+};
 
-const WANTED_WIDTH: usize = 4;
+const OPERATOR: Format = Format {
+    tag: 0x03,
+    width: 6,
+};
 
-const OPERATOR_TAG: u8 = 0x03;
+const HOUSE: Format = Format {
+    tag: 0x04,
+    width: 22,
+};
 
-const OPERATOR_WIDTH: usize = 6;
+impl Format {
+    // A field 05 of so many rows.
+    fn of_rows(count: usize) -> Format
+        requires { count ≤ 4 }
+        ensures { result ≡ record { tag = 0x05; width = count * 6 } }
+    {
+        Format {
+            tag: ROWS_TAG,
+            width: count * ROW_WIDTH,
+        }
+    }
 
-const HOUSE_AT: usize = 0;
-
-const HOUSE_TAG: u8 = 0x04;
-
-const HOUSE_WIDTH: usize = 22;
+    // Where a field that begins at a byte ends.
+    fn end(self, at: usize) -> usize
+        requires { at + self.width ≤ 256 }
+        ensures { result ≡ at + 3 + self.width }
+    {
+        at + HEADER + self.width
+    }
+}
 
 // An operator of a path and the link that it is on.
 #[derive(Clone, Copy)]
@@ -52,7 +83,15 @@ pub struct LinkedOperator {
     pub link: Link,
 }
 
-// A house profile (document 02, item 2): which it is, its hops, the delay wanted, m, Q, R, the own longest packet L, the longest packet of all X and the link rate C.
+impl LinkedOperator {
+    // What stands behind the last operator of a path value.
+    const NONE: LinkedOperator = LinkedOperator {
+        operator: Operator::Limiter(Rate(0)),
+        link: Link(0),
+    };
+}
+
+// A house profile (document 02, item 2): which it is, its hops, the delay wanted, m, Q, R, the own longest packet L, the longest packet of all X and the link rate C. `write` is asked of any number of a profile and refuses those above 2, so an enum of three would ask more of its callers.
 #[derive(Clone, Copy)]
 pub struct House {
     pub profile: u8,
@@ -88,61 +127,42 @@ pub struct PathValue {
     pub form: Form,
     pub declaration: Declaration,
     pub wanted: WantedDelay,
+    // No heap: an array with its count (document 01 names the form for rows).
     pub count: usize,
     pub operators: [LinkedOperator; 16],
 }
 
-// What stands behind the last operator of a path value.
-fn no_linked_operator() -> LinkedOperator
-    ensures { result ≡ no_linked_operator }
-{
-    LinkedOperator {
-        operator: Operator::Limiter(Rate(0)),
-        link: Link(0),
-    }
-}
-
-// The declaration of the empty path.
-fn no_declaration() -> Declaration
-    ensures { result ≡ no_path.declaration }
-{
-    Declaration::of_one_row(Kind::Smooth, Interval(0), Quota(0))
-}
-
-// The empty path, which is handed back beside a refusal.
+// The empty path. A value and no Option: it fills the places behind the last (no heap).
 pub fn no_path() -> PathValue
     ensures { result ≡ no_path }
 {
-    let declaration = no_declaration();
-    let linked = no_linked_operator();
-    let operators = [linked; 16];
     PathValue {
         form: Form::Fields,
-        declaration,
+        declaration: Declaration::of_one_row(Kind::Smooth, Interval(0), Quota(0)),
         wanted: WantedDelay(0),
         count: 0,
-        operators,
+        operators: [LinkedOperator::NONE; 16],
     }
 }
 
-// Whether the operator's number is in its range. The match stands here: an operator that is passed on alone is read as one word, and then split.
-fn number_in_range(linked: LinkedOperator) -> bool
-    ensures { result ≡ number_in_range linked.operator }
+// An operator's kind as a sheet numbers it, a limiter's is 0, and the operator's number.
+#[tactic(auto, unfolding(crate::specs::Bodies::operator_byte, crate::specs::Bodies::operator_number))]
+pub fn kind_and_number(operator: Operator) -> (u8, u32)
+    ensures { (result.0 ≡ operator_byte operator) × (result.1 ≡ operator_number operator) }
 {
-    let operator = linked.operator;
     match operator {
-        Operator::Limiter(rate) => rate.in_range(),
-        Operator::Compactor(interval) => interval.in_range(),
-        Operator::Expander(interval) => interval.in_range(),
-        Operator::Filter(rate) => rate.in_range(),
-        Operator::Delayer(delay) => delay.in_range(),
+        Operator::Limiter(rate) => (0, rate.0),
+        Operator::Compactor(interval) => (1, interval.0),
+        Operator::Expander(interval) => (2, interval.0),
+        Operator::Filter(rate) => (3, rate.0),
+        Operator::Delayer(delay) => (4, delay.0),
     }
 }
 
 // Whether the operator's number and the link are in their ranges.
+#[tactic(auto, unfolding(crate::specs::Bodies::operator_in_range))]
 fn operator_in_range(linked: LinkedOperator) -> bool
     ensures { result ≡ operator_in_range linked }
 {
-    let link = linked.link;
-    number_in_range(linked) && link.in_range()
+    linked.operator.number_in_range() && linked.link.in_range()
 }

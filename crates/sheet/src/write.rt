@@ -1,8 +1,9 @@
 // The writer of a sheet (document 01, sections 5 and 7).
+// Bytes and a place go together and not as a part of the bytes: sets says of the whole what a part would have to be brought back to.
 
-ghost use Rattle.std.specs.Prelude.{◌≡◌, true, ◌∷◌, ◌++◌, ◌+◌, ◌≤◌, length, take};
+ghost use Rattle.std.specs.Prelude.{◌≡◌, true, ◌∷◌, ◌++◌, ◌+◌, ◌≤◌, length};
+ghost use Rattle.std.specs.List.{list_all};
 ghost use Rattle.std.proofs.lemmas.List.Edits.{sets};
-ghost use Rattle.quantity.specs.Choice.{pick};
 ghost use Rattle.flow.specs.Declarations.{declaration_in_range};
 ghost use Rattle.sheet.specs.Numbers.{bytes_of};
 ghost use Rattle.sheet.specs.Bodies.{row_bodies, pair_body, declaration_tag, declaration_body, wanted_body, operator_body, operator_in_range};
@@ -11,77 +12,49 @@ ghost use Rattle.sheet.specs.Sheets.{declaration_at, operator_fields, operators_
 
 use crate::profile::{in_range, write_house};
 use crate::{
-    DECLARATION_AT, DECLARATION_TAG, DECLARATION_WIDTH, Form, HEADER, HOUSE_WIDTH, House,
-    LinkedOperator, OPERATOR_TAG, OPERATOR_WIDTH, PathValue, ROW_WIDTH, ROWS_TAG, WANTED_TAG,
-    WANTED_WIDTH,
+    DECLARATION, DECLARATION_AT, Form, Format, HEADER, HOUSE, HOUSE_AT, House, LinkedOperator,
+    OPERATOR, PathValue, ROW_WIDTH, WANTED, kind_and_number,
 };
 use flow::{Declaration, DeclaredRow, Kind};
-use operator::Operator;
-use quantity::WantedDelay;
 use quantity::refusal::Refusal;
+use quantity::{Quantity, WantedDelay};
 
-// What writing a sheet answers: the sheet's length.
-#[derive(Clone, Copy)]
-pub enum Written {
-    Length(usize),
-    Refused(Refusal),
-}
-
-// What writing the operators answers: where the last one ends.
-#[derive(Clone, Copy)]
-enum WrittenOperators {
-    End(usize),
-    OutOfRange,
-}
-
-// A number in `width` bytes from `at` on, the high byte first: written from the low byte, which is what is left of it modulo 256.
+// A number in `width` bytes from `at` on, the high byte first: the last of its four bytes.
 pub(crate) fn write_number(sheet: &mut [u8], at: usize, width: usize, value: u32)
-    requires { at + width ≤ length sheet.old }
+    requires { (width ≤ 4) × (at + width ≤ length sheet.old) }
     ensures { sheet.new ≡ sets sheet.old at (bytes_of width value) }
 {
-    let mut left = value;
-    let mut k = width;
-    while 0 < k {
-        k -= 1;
-        sheet[at + k] = (left % 256) as u8;
-        left = left / 256;
+    let bytes = value.to_be_bytes();
+    sheet[at..at + width].copy_from_slice(&bytes[4 - width..]);
+}
+
+impl Format {
+    pub(crate) fn write_header(self, sheet: &mut [u8], at: usize)
+        requires { (at + 3 ≤ length sheet.old) × (self.width ≤ 256) }
+        ensures { sheet.new ≡ sets sheet.old at (self.tag ∷ bytes_of 2 self.width) }
+    {
+        sheet[at] = self.tag;
+        write_number(sheet, at + 1, 2, self.width as u32);
     }
 }
 
-pub(crate) fn write_header(sheet: &mut [u8], at: usize, tag: u8, width: u32)
-    requires { at + 3 ≤ length sheet.old }
-    ensures { sheet.new ≡ sets sheet.old at (tag ∷ bytes_of 2 width) }
-{
-    sheet[at] = tag;
-    write_number(sheet, at + 1, 2, width);
-}
-
-// A field 01.
+// A field 01. The kinds are bytes of the sheet (section 5).
 fn write_one_row(sheet: &mut [u8], kind: u8, declaration: Declaration)
     requires { 10 ≤ length sheet.old }
     ensures { sheet.new ≡ sets sheet.old declaration_at (field_of 0x01 (pair_body kind declaration)) }
 {
-    write_header(
-        sheet,
-        DECLARATION_AT,
-        DECLARATION_TAG,
-        DECLARATION_WIDTH as u32,
-    );
-    let interval = declaration.interval;
-    let quota = declaration.quota;
+    DECLARATION.write_header(sheet, DECLARATION_AT);
     sheet[3] = kind;
-    write_number(sheet, 4, 2, interval.0);
-    write_number(sheet, 6, 4, quota.0);
+    write_number(sheet, 4, 2, declaration.interval.0);
+    write_number(sheet, 6, 4, declaration.quota.0);
 }
 
 fn write_row(sheet: &mut [u8], at: usize, row: DeclaredRow)
     requires { at + 6 ≤ length sheet.old }
     ensures { sheet.new ≡ sets sheet.old at (bytes_of 2 row.interval.0 ++ bytes_of 4 row.quota.0) }
 {
-    let interval = row.interval;
-    let quota = row.quota;
-    write_number(sheet, at, 2, interval.0);
-    write_number(sheet, at + 2, 4, quota.0);
+    write_number(sheet, at, 2, row.interval.0);
+    write_number(sheet, at + 2, 4, row.quota.0);
 }
 
 // A field 05.
@@ -90,15 +63,12 @@ fn write_rows(sheet: &mut [u8], declaration: Declaration)
     ensures { sheet.new ≡ sets sheet.old declaration_at (field_of 0x05 (row_bodies declaration declaration.count)) }
 {
     let count = declaration.count;
-    let rows = declaration.rows;
-    write_header(sheet, DECLARATION_AT, ROWS_TAG, (count * ROW_WIDTH) as u32);
+    Format::of_rows(count).write_header(sheet, DECLARATION_AT);
+    // The place is counted: the clause says of the whole sheet what is written (sets), and a part lent by chunks_mut has no clause of it.
     let mut at = DECLARATION_AT + HEADER;
-    let mut k = 0;
-    while k < count {
-        let row = rows[k];
-        write_row(sheet, at, row);
+    for row in &declaration.rows[..count] {
+        write_row(sheet, at, *row);
         at += ROW_WIDTH;
-        k += 1;
     }
 }
 
@@ -107,11 +77,9 @@ fn wanted_at(declaration: Declaration) -> usize
     requires { declaration_in_range declaration ≡ true }
     ensures { result ≡ length (field_of (declaration_tag declaration) (declaration_body declaration)) }
 {
-    let kind = declaration.kind;
-    match kind {
-        Kind::Smooth => HEADER + DECLARATION_WIDTH,
-        Kind::Uniform => HEADER + DECLARATION_WIDTH,
-        Kind::Rows => HEADER + declaration.count * ROW_WIDTH,
+    match declaration.kind {
+        Kind::Smooth | Kind::Uniform => DECLARATION.end(DECLARATION_AT),
+        Kind::Rows => Format::of_rows(declaration.count).end(DECLARATION_AT),
     }
 }
 
@@ -119,8 +87,7 @@ fn write_declaration(sheet: &mut [u8], declaration: Declaration)
     requires { (declaration_in_range declaration ≡ true) × (27 ≤ length sheet.old) }
     ensures { sheet.new ≡ sets sheet.old declaration_at (field_of (declaration_tag declaration) (declaration_body declaration)) }
 {
-    let kind = declaration.kind;
-    match kind {
+    match declaration.kind {
         Kind::Smooth => write_one_row(sheet, 0, declaration),
         Kind::Uniform => write_one_row(sheet, 1, declaration),
         Kind::Rows => write_rows(sheet, declaration),
@@ -131,114 +98,87 @@ fn write_wanted(sheet: &mut [u8], at: usize, wanted: WantedDelay)
     requires { at + 7 ≤ length sheet.old }
     ensures { sheet.new ≡ sets sheet.old at (field_of 0x02 (wanted_body wanted.0)) }
 {
-    write_header(sheet, at, WANTED_TAG, WANTED_WIDTH as u32);
-    write_number(sheet, at + HEADER, WANTED_WIDTH, wanted.0);
+    WANTED.write_header(sheet, at);
+    write_number(sheet, at + HEADER, WANTED.width, wanted.0);
 }
 
 // The number is written first, so that its bytes become one store.
-fn write_operator(sheet: &mut [u8], at: usize, kind: u8, link: u8, number: u32)
-    requires { at + 9 ≤ length sheet.old }
-    ensures { sheet.new ≡ sets sheet.old at (field_of 0x03 (kind ∷ link ∷ bytes_of 4 number)) }
-{
-    write_number(sheet, at + 5, 4, number);
-    write_header(sheet, at, OPERATOR_TAG, OPERATOR_WIDTH as u32);
-    sheet[at + 3] = kind;
-    sheet[at + 4] = link;
-}
-
 fn write_linked(sheet: &mut [u8], at: usize, linked: LinkedOperator)
     requires { (operator_in_range linked ≡ true) × (at + 9 ≤ length sheet.old) }
     ensures { sheet.new ≡ sets sheet.old at (field_of 0x03 (operator_body linked)) }
 {
-    let operator = linked.operator;
-    let link = linked.link.0 as u8;
-    match operator {
-        Operator::Limiter(rate) => write_operator(sheet, at, 0, link, rate.0),
-        Operator::Compactor(interval) => write_operator(sheet, at, 1, link, interval.0),
-        Operator::Expander(interval) => write_operator(sheet, at, 2, link, interval.0),
-        Operator::Filter(rate) => write_operator(sheet, at, 3, link, rate.0),
-        Operator::Delayer(delay) => write_operator(sheet, at, 4, link, delay.0),
-    }
+    let (kind, number) = kind_and_number(linked.operator);
+    write_number(sheet, at + 5, 4, number);
+    OPERATOR.write_header(sheet, at);
+    sheet[at + 3] = kind;
+    sheet[at + 4] = linked.link.0 as u8;
 }
 
-// The operators from a byte on, one behind the other, where all are in range. Both loops are here, since each function has its own copy of them.
-fn write_operators(
-    sheet: &mut [u8],
-    from: usize,
-    operators: [LinkedOperator; 16],
-    count: usize,
-) -> WrittenOperators
-    requires { (count ≤ 16) × (from ≤ 34) × (length sheet.old ≡ 256) }
-    ensures { (result ≡ pick (operators_in_range (take count operators)) (WrittenOperators.End (from + length (operator_fields (take count operators)))) WrittenOperators.OutOfRange) × (sheet.new ≡ pick (operators_in_range (take count operators)) (sets sheet.old from (operator_fields (take count operators))) sheet.old) }
+fn operators_in_range(operators: &[LinkedOperator]) -> bool
+    ensures { result ≡ list_all (λ linked. operator_in_range linked) operators.now }
 {
-    let mut k = 0;
-    while k < count {
-        let linked = operators[k];
-        if !crate::operator_in_range(linked) {
-            return WrittenOperators::OutOfRange;
-        }
-        k += 1;
-    }
+    operators
+        .iter()
+        .all(|linked| crate::operator_in_range(*linked))
+}
+
+// The operators from a byte on, one behind the other: where the last one ends.
+fn write_operators(sheet: &mut [u8; 256], from: usize, operators: &[LinkedOperator]) -> usize
+    requires { (operators_in_range operators.now ≡ true) × (length operators.now ≤ 16) × (from ≤ 34) }
+    ensures { (result ≡ from + length (operator_fields operators.now)) × (sheet.new ≡ sets sheet.old from (operator_fields operators.now)) }
+{
     let mut at = from;
-    let mut written = 0;
-    while written < count {
-        let linked = operators[written];
-        write_linked(sheet, at, linked);
-        at += HEADER + OPERATOR_WIDTH;
-        written += 1;
+    for linked in operators {
+        write_linked(sheet, at, *linked);
+        at += HEADER + OPERATOR.width;
     }
-    WrittenOperators::End(at)
+    at
 }
 
 // Fields 01 or 05, 02 and 03. All are tested before the first byte is written.
-fn write_fields(path: PathValue, sheet: &mut [u8]) -> Written
-    requires { (length sheet.old ≡ 256) × (path.form ≡ Form.Fields) }
+fn write_fields(path: PathValue, sheet: &mut [u8; 256]) -> Result<usize, Refusal>
+    requires { path.form ≡ Form.Fields }
     ensures { (result ≡ write_answer path sheet.old) × (sheet.new ≡ bytes_written path sheet.old) }
 {
     let count = path.count;
     if count == 0 || 16 < count {
-        return Written::Refused(Refusal::FieldUnexpected(0));
+        return Err(Refusal::FieldUnexpected(0));
     }
     let declaration = path.declaration;
-    let wanted = path.wanted;
-    let operators = path.operators;
+    let operators = &path.operators[..count];
     if !declaration.in_range() {
-        return Written::Refused(Refusal::OutOfRange(0));
+        return Err(Refusal::OutOfRange(0));
     }
     if !declaration.in_order() {
-        return Written::Refused(Refusal::RowsOutOfOrder(0));
+        return Err(Refusal::RowsOutOfOrder(0));
     }
-    if !wanted.in_range() {
-        return Written::Refused(Refusal::OutOfRange(0));
+    if !path.wanted.in_range() || !operators_in_range(operators) {
+        return Err(Refusal::OutOfRange(0));
     }
     let at = wanted_at(declaration);
-    let from = at + HEADER + WANTED_WIDTH;
-    let WrittenOperators::End(end) = write_operators(sheet, from, operators, count) else {
-        return Written::Refused(Refusal::OutOfRange(0));
-    };
+    let end = write_operators(sheet, WANTED.end(at), operators);
     write_declaration(sheet, declaration);
-    write_wanted(sheet, at, wanted);
-    Written::Length(end)
+    write_wanted(sheet, at, path.wanted);
+    Ok(end)
 }
 
 // One field 04.
-fn write_profile(sheet: &mut [u8], house: House) -> Written
-    requires { length sheet.old ≡ 256 }
+fn write_profile(sheet: &mut [u8; 256], house: House) -> Result<usize, Refusal>
     ensures { (path : PathValue) → path.form ≡ Form.House house → (result ≡ write_answer path sheet.old) × (sheet.new ≡ bytes_written path sheet.old) }
 {
     if !in_range(house) {
-        return Written::Refused(Refusal::OutOfRange(0));
+        return Err(Refusal::OutOfRange(0));
     }
     write_house(sheet, house);
-    Written::Length(HEADER + HOUSE_WIDTH)
+    Ok(HOUSE.end(HOUSE_AT))
 }
 
-pub fn write(path: PathValue, sheet: &mut [u8]) -> Written
+pub fn write(path: PathValue, sheet: &mut [u8]) -> Result<usize, Refusal>
     ensures { (result ≡ write_answer path sheet.old) × (sheet.new ≡ bytes_written path sheet.old) }
 {
-    if sheet.len() != 256 {
-        return Written::Refused(Refusal::Unusable);
-    }
+    let Some(sheet) = sheet.as_mut_array::<256>() else {
+        return Err(Refusal::Unusable);
+    };
     let form = path.form;
     match form {
         Form::Fields => write_fields(path, sheet),

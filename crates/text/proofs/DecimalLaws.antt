@@ -8,20 +8,13 @@ use native.Mathlib.Numerals.{add-one}
 use native.Mathlib.Omega.{arith}
 use lib.ListN.{length, get_or, drop, drop_of_length-le}
 use lib.Seq.{drop-cons}
-use lib.Dec.{leb, eqb}
-use borrow.Author.Tests.{leb-true, leb-false, le-leb, lt-leb, ne_eqb}
+use lib.Dec.{eqb}
+use borrow.Author.Tests.{le-leb, lt-leb, ne_eqb}
 use Rattle.quantity.specs.Limits.{largest64}
-use Rattle.quantity.specs.Choice.{pick}
-use Rattle.quantity.proofs.Laws.{pick_true, picked-true, picked-false}
-use Rattle.quantity.proofs.Sums.{both_true}
-use Rattle.text.specs.declared.decimal.Decimal.TheVariants.{Number, NoDigit, TooLarge}
-use Rattle.text.specs.declared.decimal.Extended.{Extended}
+use Rattle.std.specs.Prelude.{Ok, Err}
+use Rattle.text.specs.declared.decimal.NumberFault.TheVariants.{NoDigit, TooLarge}
 use Rattle.text.specs.Decimals.{is_digit, leading_digits, with_digit, with_digits, value_of, decimal_of, decimal_at}
 use Rattle.text.proofs.Elements.{fails-past, stands-within}
-
-pub digit-least : (byte : ℕ) → is_digit byte ≡ true → 48 ≤ byte
-unfolding is_digit
-digit-least byte e = leb-true 48 byte (both_true (leb 48 byte) (leb byte 57) e).0
 
 zero-no-digit : is_digit 0 ≡ false
 unfolding is_digit
@@ -81,7 +74,7 @@ module _ (text : List ℕ) (from value at : ℕ) (so_far : ReadDigits text from 
         ne_eqb (length (leading_digits (drop from text))) 0 (λ e. omega arith)
 
     -- no digit is left: the value is the number's
-    pub read-end : is_digit (get_or text at 0) ≡ false → Number value at ≡ decimal_at text from
+    pub read-end : is_digit (get_or text at 0) ≡ false → Ok (record { value = value; next = at }) ≡ decimal_at text from
     unfolding with_digits decimal_at decimal_of
     read-end other =
         let none = leading-none text at other in
@@ -90,24 +83,13 @@ module _ (text : List ℕ) (from value at : ℕ) (so_far : ReadDigits text from 
         rw (some-digits, ← number, le-leb value largest64 so_far.small, ← end)
 
     -- one digit more makes it too large, and so do all
-    pub read-large : is_digit (get_or text at 0) ≡ true → largest64 < with_digit value (get_or text at 0) → TooLarge ≡ decimal_at text from
+    pub read-large : is_digit (get_or text at 0) ≡ true → largest64 < with_digit value (get_or text at 0) → Err TooLarge ≡ decimal_at text from
     unfolding with_digits decimal_at decimal_of
     read-large digit large =
         let all : with_digits (with_digit value (get_or text at 0)) (leading_digits (drop (at + 1) text)) ≡ value_of (leading_digits (drop from text)) = sym (ap (with_digits value) (leading-more text at digit)) ∙ so_far.valued in
         let above : largest64 < value_of (leading_digits (drop from text)) = omega (arith, value_grows (with_digit value (get_or text at 0)) (leading_digits (drop (at + 1) text))) in
         rw (some-digits, lt-leb _ _ above)
 
-pub read_none : (text : List ℕ) (from : ℕ) → is_digit (get_or text from 0) ≡ false → NoDigit ≡ decimal_at text from
+pub read_none : (text : List ℕ) (from : ℕ) → is_digit (get_or text from 0) ≡ false → Err NoDigit ≡ decimal_at text from
 unfolding decimal_at decimal_of
 read_none text from other = rw (leading-none text from other)
-
--- what one digit more says of the number with it
-module _ (number : ℕ) {r : Extended} (answered : r ≡ pick (leb number largest64) (Extended.Number number) Extended.TooLarge) where
-  pub extended-small : (value : ℕ) → r ≡ Extended.Number value → (value ≡ number) × (number ≤ largest64)
-  extended-small value e =
-      let fits : leb number largest64 ≡ true = picked-true _ _ _ answered (λ other. let z : ◌≡◌ {A = ℕ} 0 1 = cc in omega arith) in
-      let same : r ≡ Extended.Number number = answered ∙ pick_true _ _ _ fits in
-      (cc, leb-true _ _ fits)
-
-  pub extended-large : r ≡ Extended.TooLarge → largest64 < number
-  extended-large e = leb-false _ _ (picked-false _ _ _ answered (λ other. let z : ◌≡◌ {A = ℕ} 0 1 = cc in omega arith))

@@ -1,30 +1,17 @@
 -- Hexadecimal digits, their values, and the byte of two.
-use mathlib.Core.Path.{◌≡◌, refl, ◌∙◌}
+use mathlib.Core.Path.{◌≡◌, refl}
 use mathlib.Core.Bool.{Bool, true, false}
 use mathlib.Core.List.{List}
 use Prim.Native.Nat.{ℕ, ◌+◌, ◌-◌, ◌≤◌, ◌<◌}
 use native.Mathlib.Omega.{arith}
 use lib.ListN.{length, get_or}
 use lib.Dec.{leb}
-use borrow.Author.Tests.{leb-true, le-leb, lt-leb}
+use borrow.Author.Tests.{leb-true}
 use Rattle.quantity.specs.Choice.{pick, both, either}
 use Rattle.quantity.proofs.Sums.{both_true}
-use Rattle.quantity.proofs.Laws.{pick_true, picked-true, picked-false}
-use Rattle.text.specs.declared.hexadecimal.Digit.{Digit}
-use Rattle.text.specs.declared.hexadecimal.TwoDigits.{TwoDigits}
 use Rattle.text.specs.Decimals.{is_digit}
-use Rattle.text.specs.Hexadecimals.{is_lower_case_digit, is_upper_case_digit, is_hexadecimal_digit, digit_value, byte_of}
+use Rattle.text.specs.Hexadecimals.{is_lower_case_digit, is_upper_case_digit, is_hexadecimal_digit, digit_value}
 use Rattle.text.proofs.Elements.{fails-past, stands-within}
-
--- a byte between two bounds, below them, or above them
-pub within-range : (least most byte : ℕ) → least ≤ byte → byte ≤ most → both (leb least byte) (leb byte most) ≡ true
-within-range least most byte low high = rw (le-leb least byte low, le-leb byte most high)
-
-pub below-range : (least most byte : ℕ) → byte < least → both (leb least byte) (leb byte most) ≡ false
-below-range least most byte low = rw (lt-leb least byte low)
-
-pub above-range : (least most byte : ℕ) → least ≤ byte → most < byte → both (leb least byte) (leb byte most) ≡ false
-above-range least most byte low high = rw (le-leb least byte low, lt-leb byte most high)
 
 zero-no-digit : is_hexadecimal_digit 0 ≡ false
 unfolding is_hexadecimal_digit is_digit is_lower_case_digit is_upper_case_digit
@@ -53,25 +40,3 @@ value-small byte = of (both (leb 48 byte) (leb byte 57)) refl (both (leb 97 byte
     of false d true s l f h = omega (arith, at_most 97 102 s)
     of false d false s true l h = omega (arith, at_most 65 70 l)
     of false d false s false l h = let z : ◌≡◌ {A = ℕ} 0 1 = cc in absurd (omega arith)
-
--- what reading a digit says of the byte
-module _ (byte : ℕ) {r : Digit} (answered : r ≡ pick (is_hexadecimal_digit byte) (Digit.Value (digit_value byte)) Digit.Other) where
-  pub digit-stands : (value : ℕ) → r ≡ Digit.Value value → (is_hexadecimal_digit byte ≡ true) × (value ≡ digit_value byte)
-  digit-stands value e =
-      let is-digit : is_hexadecimal_digit byte ≡ true = picked-true _ _ _ answered (λ other. let z : ◌≡◌ {A = ℕ} 0 1 = cc in omega arith) in
-      let same : r ≡ Digit.Value (digit_value byte) = answered ∙ pick_true _ _ _ is-digit in
-      (is-digit, cc)
-
-  pub digit-missing : r ≡ Digit.Other → is_hexadecimal_digit byte ≡ false
-  digit-missing e = picked-false _ _ _ answered (λ other. let z : ◌≡◌ {A = ℕ} 0 1 = cc in omega arith)
-
--- and reading two
-module _ (high low : ℕ) {r : TwoDigits} (answered : r ≡ pick (both (is_hexadecimal_digit high) (is_hexadecimal_digit low)) (TwoDigits.Byte (byte_of high low)) TwoDigits.Other) where
-  pub byte-stands : (value : ℕ) → r ≡ TwoDigits.Byte value → (both (is_hexadecimal_digit high) (is_hexadecimal_digit low) ≡ true) × (value ≡ byte_of high low)
-  byte-stands value e =
-      let are-digits : both (is_hexadecimal_digit high) (is_hexadecimal_digit low) ≡ true = picked-true _ _ _ answered (λ other. let z : ◌≡◌ {A = ℕ} 0 1 = cc in omega arith) in
-      let same : r ≡ TwoDigits.Byte (byte_of high low) = answered ∙ pick_true _ _ _ are-digits in
-      (are-digits, cc)
-
-  pub byte-missing : r ≡ TwoDigits.Other → both (is_hexadecimal_digit high) (is_hexadecimal_digit low) ≡ false
-  byte-missing e = picked-false _ _ _ answered (λ other. let z : ◌≡◌ {A = ℕ} 0 1 = cc in omega arith)

@@ -1,4 +1,5 @@
 pub mod Elements
+pub mod Picked
 pub mod LineLaws
 pub mod RowLaws
 pub mod DecimalLaws

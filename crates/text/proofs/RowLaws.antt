@@ -5,31 +5,32 @@ use mathlib.Core.List.{List, [], ◌∷◌, ◌++◌, append-nil}
 use Prim.Native.Nat.{ℕ, suc, ◌+◌, ◌≤◌, ◌<◌}
 use native.Mathlib.Numerals.{add-one}
 use native.Mathlib.Omega.{arith}
-use lib.ListN.{length, get_or, set, drop, length-append, length-drop}
+use lib.ListN.{length, get_or, set, drop, length-append}
 use lib.Seq.{append_snoc, set_at, drop-cons}
+use Rattle.std.specs.Prelude.{Ok, Err}
 use Rattle.quantity.specs.Choice.{pick}
-use Rattle.text.specs.Rows.{Row, numbers, fault, ahead, answer_of, stored_in}
+use Rattle.text.specs.Rows.{Row, ahead, answer_of, stored_in}
 
 module _ {A : Type 0} where
   -- numbers before a row
   abbrev pub onto : List ℕ → Row A → Row A
-  onto done (numbers ns) = numbers (done ++ ns)
-  onto done (fault why) = fault why
+  onto done (Ok ns) = Ok (done ++ ns)
+  onto done (Err why) = Err why
 
   onto-none : (row : Row A) → row ≡ onto [] row
-  onto-none (numbers ns) = refl
-  onto-none (fault why) = refl
+  onto-none (Ok ns) = refl
+  onto-none (Err why) = refl
 
   onto-ahead : (done : List ℕ) (n : ℕ) (row : Row A) → onto done (ahead n row) ≡ onto (done ++ (n ∷ [])) row
   unfolding ahead
-  onto-ahead done n (numbers ns) = ap numbers (sym (append_snoc done n ns))
-  onto-ahead done n (fault why) = refl
+  onto-ahead done n (Ok ns) = ap Ok (sym (append_snoc done n ns))
+  onto-ahead done n (Err why) = refl
 
   -- of a fault: it is answered, and lent memory is kept
-  module _ (row : Row A) (why : A) (is-fault : row ≡ fault why) where
-    pub fault-answered : (counted : ℕ → A) → why ≡ answer_of counted row
+  module _ (row : Row A) (why : A) (is-fault : row ≡ Err why) where
+    pub fault-answered : Err why ≡ answer_of row
     unfolding answer_of
-    fault-answered counted = sym (ap (answer_of counted) is-fault)
+    fault-answered = sym (ap answer_of is-fault)
 
     pub fault-keeps : (lent : List ℕ) → lent ≡ stored_in lent row
     unfolding stored_in
@@ -53,23 +54,23 @@ module _ {A : Type 0} where
           so_far = r.so_far ∙ onto-ahead r.done n rest;
         }
 
-    pub reached-fault : (why : A) → Reached whole count (fault why) → whole ≡ fault why
+    pub reached-fault : (why : A) → Reached whole count (Err why) → whole ≡ Err why
     reached-fault why r = r.so_far
 
     -- a fault is answered
-    pub answer-fault : (counted : ℕ → A) (why : A) → Reached whole count (fault why) → why ≡ answer_of counted whole
-    answer-fault counted why r = fault-answered whole why r.so_far counted
+    pub answer-fault : (why : A) → Reached whole count (Err why) → Err why ≡ answer_of whole
+    answer-fault why r = fault-answered whole why r.so_far
 
     -- or how many numbers there are
-    pub answer-count : (counted : ℕ → A) → Reached whole count (numbers []) → counted count ≡ answer_of counted whole
+    pub answer-count : Reached whole count (Ok []) → Ok count ≡ answer_of whole
     unfolding answer_of
-    answer-count counted r = ap counted (sym r.counted ∙ ap length (sym (append-nil r.done))) ∙ sym (ap (answer_of counted) r.so_far)
+    answer-count r = ap Ok (sym r.counted ∙ ap length (sym (append-nil r.done))) ∙ sym (ap answer_of r.so_far)
 
-    -- a row with no fault and no more numbers than there are places has a place for one that is left
-    pub reached-place : (places : ℕ) → ((why : A) → whole ≡ fault why → ⊥) → ((ns : List ℕ) → whole ≡ numbers ns → length ns ≤ places) → (n : ℕ) (rest : Row A) → Reached whole count (ahead n rest) → count < places
-    unfolding ahead
-    reached-place places no-fault few n (numbers ns) r = omega (arith, few (r.done ++ n ∷ ns) r.so_far, length-append r.done (n ∷ ns), r.counted)
-    reached-place places no-fault few n (fault why) r = absurd (no-fault why r.so_far)
+    -- where a row has no fault and no more numbers than there are places, none is left behind the last place
+    pub reached-full : (places : ℕ) → ((why : A) → whole ≡ Err why → ⊥) → ((ns : List ℕ) → whole ≡ Ok ns → length ns ≤ places) → places ≤ count → (rest : Row A) → Reached whole count rest → rest ≡ Ok []
+    reached-full places no-fault few full (Ok []) r = refl
+    reached-full places no-fault few full (Ok (n ∷ ns)) r = absurd (omega (arith, few (r.done ++ n ∷ ns) r.so_far, length-append r.done (n ∷ ns), r.counted))
+    reached-full places no-fault few full (Err why) r = absurd (no-fault why r.so_far)
 
   -- and they are stored
   pub record Storing (lent : List ℕ) (whole : Row A) (now : List ℕ) (count : ℕ) (rest : Row A) : Type 0 where
@@ -91,60 +92,59 @@ module _ {A : Type 0} where
               (set_at done (get_or lent count 0) (drop (suc count) lent) n count s.reached.counted ∙ sym (append_snoc done n (drop (suc count) lent)));
         }
 
-    pub storing-length : (rest : Row A) → count ≤ length lent → Storing lent whole now count rest → length now ≡ length lent
-    storing-length rest few s = rw (s.stored, length-append, s.reached.counted, length-drop) (omega arith)
-
     -- a row without a fault has none behind the numbers that are stored
-    pub storing-no-fault : (rest : Row A) → ((why : A) → whole ≡ fault why → ⊥) → Storing lent whole now count rest → (why : A) → rest ≡ fault why → ⊥
+    pub storing-no-fault : (rest : Row A) → ((why : A) → whole ≡ Err why → ⊥) → Storing lent whole now count rest → (why : A) → rest ≡ Err why → ⊥
     storing-no-fault rest no-fault s why e = no-fault why (reached-fault whole count why (rw e at s.reached))
 
-    pub storing-end : Storing lent whole now count (numbers []) → now ≡ stored_in lent whole
+    pub storing-end : Storing lent whole now count (Ok []) → now ≡ stored_in lent whole
     unfolding stored_in
     storing-end s =
         let done = s.reached.done in
         rw (s.stored, s.reached.so_far, append-nil, s.reached.counted)
 
-  -- no more numbers than so many, or a fault, and a fault is not answered as a count
-  abbrev pub AtMost : (ℕ → A) → ℕ → Row A → Type 0
-  AtMost counted k (numbers ns) = length ns ≤ k
-  AtMost counted k (fault why) = (n : ℕ) → why ≡ counted n → ⊥
+  -- no more numbers than so many, or a fault
+  abbrev pub AtMost : ℕ → Row A → Type 0
+  AtMost k (Ok ns) = length ns ≤ k
+  AtMost k (Err why) = Unit {0}
 
-  module _ (counted : ℕ → A) where
-    pub at-most-more : (k m : ℕ) → k ≤ m → (row : Row A) → AtMost counted k row → AtMost counted m row
-    at-most-more k m less (numbers ns) few = omega arith
-    at-most-more k m less (fault why) no-count = no-count
+  pub at-most-more : (k m : ℕ) → k ≤ m → (row : Row A) → AtMost k row → AtMost m row
+  at-most-more k m less (Ok ns) few = omega arith
+  at-most-more k m less (Err why) few = few
 
-    pub at-most-ahead : (k n : ℕ) (row : Row A) → AtMost counted k row → AtMost counted (suc k) (ahead n row)
-    unfolding ahead
-    at-most-ahead k n (numbers ns) few = omega arith
-    at-most-ahead k n (fault why) no-count = no-count
+  pub at-most-ahead : (k n : ℕ) (row : Row A) → AtMost k row → AtMost (suc k) (ahead n row)
+  unfolding ahead
+  at-most-ahead k n (Ok ns) few = omega arith
+  at-most-ahead k n (Err why) few = few
 
-    pub at-most-pick : (k : ℕ) (t : Bool) (a b : Row A) → AtMost counted k a → AtMost counted k b → AtMost counted k (pick t a b)
-    at-most-pick k true a b few other = few
-    at-most-pick k false a b few other = other
+  pub at-most-pick : (k : ℕ) (t : Bool) (a b : Row A) → AtMost k a → AtMost k b → AtMost k (pick t a b)
+  at-most-pick k true a b few other = few
+  at-most-pick k false a b few other = other
 
-    module _ (row : Row A) {r : A} (answered : r ≡ answer_of counted row) where
-      -- where a count is answered, there is no fault
-      module _ (k n : ℕ) (few : AtMost counted k row) (is-count : r ≡ counted n) where
-        pub counted-numbers : (ns : List ℕ) × (row ≡ numbers ns) × (counted (length ns) ≡ counted n) × (length ns ≤ k)
-        unfolding answer_of
-        counted-numbers = of row answered few
-          where
-            of : (row : Row A) → r ≡ answer_of counted row → AtMost counted k row → (ns : List ℕ) × (row ≡ numbers ns) × (counted (length ns) ≡ counted n) × (length ns ≤ k)
-            of (numbers ns) e h = (ns, refl, sym e ∙ is-count, h)
-            of (fault why) e h = absurd (h n (sym e ∙ is-count))
-
-        pub counted-no-fault : (why : A) → row ≡ fault why → ⊥
-        counted-no-fault why is-fault =
-            let (ns, same, size, short) = counted-numbers in
-            let z : ◌≡◌ {A = ℕ} 0 1 = cc in
-            omega arith
-
-      -- where none is, there is one
-      pub refused-fault : ((n : ℕ) → r ≡ counted n → ⊥) → row ≡ fault r
+  module _ (row : Row A) where
+    -- where a count is answered, there is no fault
+    module _ (n : ℕ) (is-count : Ok n ≡ answer_of row) where
+      pub counted-numbers : (ns : List ℕ) × (row ≡ Ok ns) × (length ns ≡ n)
       unfolding answer_of
-      refused-fault other = of row answered
+      counted-numbers = of row is-count
         where
-          of : (row : Row A) → r ≡ answer_of counted row → row ≡ fault r
-          of (numbers ns) e = absurd (other (length ns) e)
-          of (fault why) e = ap fault (sym e)
+          of : (row : Row A) → Ok n ≡ answer_of row → (ns : List ℕ) × (row ≡ Ok ns) × (length ns ≡ n)
+          of (Ok ns) e = (ns, refl, cc)
+          of (Err why) e = cc
+
+      pub counted-no-fault : (why : A) → row ≡ Err why → ⊥
+      counted-no-fault why is-fault = let (ns, same, size) = counted-numbers in cc
+
+      pub counted-at-most : (k : ℕ) → AtMost k row → n ≤ k
+      counted-at-most k few =
+          let (ns, same, size) = counted-numbers in
+          let short : length ns ≤ k = rw same at few in
+          omega arith
+
+    -- where a fault is answered, it is the row's
+    pub refused-fault : (why : A) → Err why ≡ answer_of row → row ≡ Err why
+    unfolding answer_of
+    refused-fault why = of row
+      where
+        of : (row : Row A) → Err why ≡ answer_of row → row ≡ Err why
+        of (Ok ns) e = cc
+        of (Err other) e = cc

@@ -1,9 +1,10 @@
 -- A decimal number in a text: its digits, their value, and what reading it answers.
-use Rattle.std.specs.Prelude.{ℕ, ◌+◌, ◌-◌, ◌*◌, Bool, List, [], ◌∷◌, length, drop, leb, eqb}
+use Rattle.std.specs.Prelude.{ℕ, ◌+◌, ◌-◌, ◌*◌, Bool, Result, Ok, Err, List, [], ◌∷◌, length, drop, leb, eqb}
 use Rattle.quantity.specs.Choice.{pick, both}
 use Rattle.quantity.specs.Limits.{largest64}
-use Rattle.text.specs.declared.decimal.Decimal.{Decimal}
-use Rattle.text.specs.declared.decimal.Decimal.TheVariants.{Number, NoDigit, TooLarge}
+use Rattle.text.specs.declared.decimal.Number.{Number}
+use Rattle.text.specs.declared.decimal.NumberFault.{NumberFault}
+use Rattle.text.specs.declared.decimal.NumberFault.TheVariants.{NoDigit, TooLarge}
 
 -- '0' to '9'
 unfoldable pub is_digit : ℕ → Bool
@@ -28,11 +29,11 @@ unfoldable pub value_of : List ℕ → ℕ
 value_of digits = with_digits 0 digits
 
 -- what is answered for the digits that stand from an index on
-unfoldable pub decimal_of : List ℕ → ℕ → Decimal
+unfoldable pub decimal_of : List ℕ → ℕ → Result Number NumberFault
 decimal_of digits from =
-    pick (eqb (length digits) 0) NoDigit
-    (pick (leb (value_of digits) largest64) (Number (value_of digits) (from + length digits)) TooLarge)
+    pick (eqb (length digits) 0) (Err NoDigit)
+    (pick (leb (value_of digits) largest64) (Ok (record { value = value_of digits; next = from + length digits })) (Err TooLarge))
 
 -- the number in a text from an index on
-unfoldable pub decimal_at : List ℕ → ℕ → Decimal
+unfoldable pub decimal_at : List ℕ → ℕ → Result Number NumberFault
 decimal_at text from = decimal_of (leading_digits (drop from text)) from

@@ -1,9 +1,9 @@
 -- Bytes in hexadecimal: two digits each, a single space allowed between two bytes, and nothing else.
-use Rattle.std.specs.Prelude.{ℕ, ◌+◌, ◌-◌, ◌*◌, Bool, List, [], ◌∷◌, length, drop, leb, eqb}
+use Rattle.std.specs.Prelude.{ℕ, ◌+◌, ◌-◌, ◌*◌, Bool, Result, Ok, Err, List, [], ◌∷◌, length, drop, leb, eqb}
 use Rattle.quantity.specs.Choice.{pick, both, either}
-use Rattle.text.specs.declared.hexadecimal.Hexadecimal.{Hexadecimal}
-use Rattle.text.specs.declared.hexadecimal.Hexadecimal.TheVariants.{Length, NotHexadecimal, TooLong}
-use Rattle.text.specs.Rows.{space, Row, numbers, fault, ahead, answer_of, stored_in}
+use Rattle.text.specs.declared.hexadecimal.HexadecimalFault.{HexadecimalFault}
+use Rattle.text.specs.declared.hexadecimal.HexadecimalFault.TheVariants.{NotHexadecimal, TooLong}
+use Rattle.text.specs.Rows.{space, Row, ahead, answer_of, stored_in}
 use Rattle.text.specs.Decimals.{is_digit}
 
 -- 'a' to 'f'
@@ -27,29 +27,29 @@ unfoldable pub byte_of : ℕ → ℕ → ℕ
 byte_of high low = 16 * digit_value high + digit_value low
 
 -- a byte's two digits and the rest; what is no digit is a fault
-unfoldable pub with_byte : ℕ → ℕ → Row Hexadecimal → Row Hexadecimal
-with_byte high low rest = pick (both (is_hexadecimal_digit high) (is_hexadecimal_digit low)) (ahead (byte_of high low) rest) (fault NotHexadecimal)
+unfoldable pub with_byte : ℕ → ℕ → Row HexadecimalFault → Row HexadecimalFault
+with_byte high low rest = pick (both (is_hexadecimal_digit high) (is_hexadecimal_digit low)) (ahead (byte_of high low) rest) (Err NotHexadecimal)
 
 -- a byte is due: two digits, and behind them the text's end, or a byte is due, or a space stands and then a byte is due
-unfoldable pub bytes_due : List ℕ → Row Hexadecimal
-bytes_due [] = fault NotHexadecimal
-bytes_due (high ∷ []) = fault NotHexadecimal
-bytes_due (high ∷ low ∷ []) = with_byte high low (numbers [])
+unfoldable pub bytes_due : List ℕ → Row HexadecimalFault
+bytes_due [] = Err NotHexadecimal
+bytes_due (high ∷ []) = Err NotHexadecimal
+bytes_due (high ∷ low ∷ []) = with_byte high low (Ok [])
 bytes_due (high ∷ low ∷ next ∷ text) = with_byte high low (pick (eqb next space) (bytes_due text) (bytes_due (next ∷ text)))
 
 -- the bytes of a text; no text at all is no bytes
-unfoldable pub bytes_in : List ℕ → Row Hexadecimal
-bytes_in [] = numbers []
+unfoldable pub bytes_in : List ℕ → Row HexadecimalFault
+bytes_in [] = Ok []
 bytes_in (byte ∷ text) = bytes_due (byte ∷ text)
 
 -- a row of more bytes than there are places is too long
-unfoldable pub fitted : ℕ → Row Hexadecimal → Row Hexadecimal
-fitted places (numbers ns) = pick (leb (length ns) places) (numbers ns) (fault TooLong)
-fitted places (fault why) = fault why
+unfoldable pub fitted : ℕ → Row HexadecimalFault → Row HexadecimalFault
+fitted places (Ok ns) = pick (leb (length ns) places) (Ok ns) (Err TooLong)
+fitted places (Err why) = Err why
 
 -- what is answered
-unfoldable pub hexadecimal_from : List ℕ → ℕ → ℕ → Hexadecimal
-hexadecimal_from text from places = answer_of Length (fitted places (bytes_in (drop from text)))
+unfoldable pub hexadecimal_from : List ℕ → ℕ → ℕ → Result ℕ HexadecimalFault
+hexadecimal_from text from places = answer_of (fitted places (bytes_in (drop from text)))
 
 -- what the lent bytes hold then; a refused call keeps them all
 unfoldable pub bytes_stored : List ℕ → ℕ → List ℕ → List ℕ

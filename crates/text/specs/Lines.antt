@@ -1,13 +1,11 @@
 -- A line that is gathered byte by byte, and how a text begins.
-use Rattle.std.specs.Prelude.{ℕ, ◌+◌, Bool, List, length, get_or, set, leb, ltb, eqb}
+use Rattle.std.specs.Prelude.{ℕ, ◌+◌, Bool, Option, Some, None, List, length, get_or, set, leb, ltb, eqb}
 use Rattle.quantity.specs.Choice.{pick, both}
 use Rattle.quantity.specs.Sums.{every}
-use Rattle.text.specs.declared.line.Gathered.{Gathered}
-use Rattle.text.specs.declared.line.Gathered.TheVariants.{To, Full}
 
 -- a line that has so many bytes gets one more where the lent memory has a place for it
-unfoldable pub gathered_of : List ℕ → ℕ → Gathered
-gathered_of line count = pick (ltb count (length line)) (To (count + 1)) Full
+unfoldable pub gathered_of : List ℕ → ℕ → Option ℕ
+gathered_of line count = pick (ltb count (length line)) (Some (count + 1)) None
 
 -- what the lent memory holds then: the byte behind the line's others, or all that it held
 unfoldable pub line_after : List ℕ → ℕ → ℕ → List ℕ

@@ -1,63 +1,52 @@
 // Bytes in hexadecimal.
 
-ghost use Rattle.std.specs.Prelude.{◌≡◌, ◌+◌, length, get_or, drop, eqb};
+ghost use Rattle.std.specs.Prelude.{◌≡◌, ◌+◌, Some, None, Err, length, get_or, drop, eqb};
 ghost use Rattle.quantity.specs.Choice.{pick, both};
-ghost use Rattle.text.specs.Rows.{space, fault, answer_of};
+ghost use Rattle.text.specs.Rows.{space, answer_of};
 ghost use Rattle.text.specs.Hexadecimals.{is_hexadecimal_digit, digit_value, byte_of, bytes_in, fitted, hexadecimal_from, bytes_stored};
 
 use crate::SPACE;
 
-// How many bytes a text is; that it is something else; that it is more bytes than there are places.
+// A text is something else than bytes; it is more bytes than there are places.
 #[derive(Clone, Copy)]
-pub enum Hexadecimal {
-    Length(usize),
+pub enum HexadecimalFault {
     NotHexadecimal,
     TooLong,
 }
 
-#[derive(Clone, Copy)]
-enum Digit {
-    Value(u8),
-    Other,
-}
-
-#[derive(Clone, Copy)]
-enum TwoDigits {
-    Byte(u8),
-    Other,
-}
-
-// The bytes of a text from an index on: put into `bytes` if the text is nothing else and each has a place.
-pub fn hexadecimal_from(text: &[u8], from: usize, bytes: &mut [u8]) -> Hexadecimal
+// The bytes of a text from an index on, and how many they are: put into `bytes` if the text is nothing else and each has a place.
+pub fn hexadecimal_from(
+    text: &[u8],
+    from: usize,
+    bytes: &mut [u8],
+) -> Result<usize, HexadecimalFault>
     ensures { (result ≡ hexadecimal_from text.now from (length bytes.old)) × (bytes.new ≡ bytes_stored text.now from bytes.old) }
 {
-    let answer = judge(text, from);
-    let Hexadecimal::Length(length) = answer else {
-        return answer;
-    };
+    let length = judge(text, from)?;
     if bytes.len() < length {
-        return Hexadecimal::TooLong;
+        return Err(HexadecimalFault::TooLong);
     }
     store(text, from, bytes);
-    answer
+    Ok(length)
 }
 
 // What is answered where each byte has a place; nothing is written yet.
-fn judge(text: &[u8], from: usize) -> Hexadecimal
-    ensures { result ≡ answer_of Hexadecimal.Length (bytes_in (drop from text.now)) }
+fn judge(text: &[u8], from: usize) -> Result<usize, HexadecimalFault>
+    ensures { result ≡ answer_of (bytes_in (drop from text.now)) }
 {
     if text.len() <= from {
-        return Hexadecimal::Length(0);
+        return Ok(0);
     }
     let mut at = from;
     let mut count = 0;
+    // A turn passes two bytes or three, so no range counts the turns.
     loop {
-        let TwoDigits::Byte(_) = byte_at(text, at) else {
-            return Hexadecimal::NotHexadecimal;
-        };
+        if byte_at(text, at).is_none() {
+            return Err(HexadecimalFault::NotHexadecimal);
+        }
         count += 1;
         if text.len() <= at + 2 {
-            return Hexadecimal::Length(count);
+            return Ok(count);
         }
         at = behind_space(text, at + 2);
     }
@@ -65,17 +54,15 @@ fn judge(text: &[u8], from: usize) -> Hexadecimal
 
 // The bytes of a text that has no fault.
 fn store(text: &[u8], from: usize, bytes: &mut [u8])
-    requires { (why : Hexadecimal) → fitted (length bytes.old) (bytes_in (drop from text.now)) ≡ fault why → ⊥ }
+    requires { (why : HexadecimalFault) → fitted (length bytes.old) (bytes_in (drop from text.now)) ≡ Err why → ⊥ }
     ensures { bytes.new ≡ bytes_stored text.now from bytes.old }
 {
     let mut at = from;
-    let mut count = 0;
-    while at < text.len() {
-        let TwoDigits::Byte(byte) = byte_at(text, at) else {
+    for place in bytes.iter_mut() {
+        let Some(byte) = byte_at(text, at) else {
             return;
         };
-        bytes[count] = byte;
-        count += 1;
+        *place = byte;
         at = behind_space(text, at + 2);
     }
 }
@@ -84,7 +71,7 @@ fn store(text: &[u8], from: usize, bytes: &mut [u8])
 fn behind_space(text: &[u8], at: usize) -> usize
     ensures { result ≡ pick (eqb (get_or text.now at 0) space) (at + 1) at }
 {
-    if at < text.len() && text[at] == SPACE {
+    if text.get(at) == Some(&SPACE) {
         at + 1
     } else {
         at
@@ -92,36 +79,30 @@ fn behind_space(text: &[u8], at: usize) -> usize
 }
 
 // The byte whose two digits stand at an index.
-fn byte_at(text: &[u8], at: usize) -> TwoDigits
-    ensures { result ≡ pick (both (is_hexadecimal_digit (get_or text.now at 0)) (is_hexadecimal_digit (get_or text.now (at + 1) 0))) (TwoDigits.Byte (byte_of (get_or text.now at 0) (get_or text.now (at + 1) 0))) TwoDigits.Other }
+fn byte_at(text: &[u8], at: usize) -> Option<u8>
+    ensures { result ≡ pick (both (is_hexadecimal_digit (get_or text.now at 0)) (is_hexadecimal_digit (get_or text.now (at + 1) 0))) (Some (byte_of (get_or text.now at 0) (get_or text.now (at + 1) 0))) None }
 {
-    let Digit::Value(high) = digit_at(text, at) else {
-        return TwoDigits::Other;
-    };
-    let Digit::Value(low) = digit_at(text, at + 1) else {
-        return TwoDigits::Other;
-    };
-    TwoDigits::Byte(16 * high + low)
+    let high = digit_at(text, at)?;
+    let low = digit_at(text, at + 1)?;
+    Some(16 * high + low)
 }
 
-// Past the end no digit stands.
-fn digit_at(text: &[u8], at: usize) -> Digit
-    ensures { result ≡ pick (is_hexadecimal_digit (get_or text.now at 0)) (Digit.Value (digit_value (get_or text.now at 0))) Digit.Other }
+// The value of the digit that stands at an index. Past the end none stands.
+fn digit_at(text: &[u8], at: usize) -> Option<u8>
+    ensures { result ≡ pick (is_hexadecimal_digit (get_or text.now at 0)) (Some (digit_value (get_or text.now at 0))) None }
 {
-    if at < text.len() {
-        digit_value(text[at])
-    } else {
-        Digit::Other
-    }
+    digit_value(*text.get(at)?)
 }
 
-fn digit_value(byte: u8) -> Digit
-    ensures { result ≡ pick (is_hexadecimal_digit byte) (Digit.Value (digit_value byte)) Digit.Other }
+// By ranges: to_digit answers 32 bits of a char, to be narrowed again.
+#[tactic(auto, unfolding(crate::specs::Decimals::is_digit, crate::specs::Hexadecimals::is_lower_case_digit, crate::specs::Hexadecimals::is_upper_case_digit, crate::specs::Hexadecimals::is_hexadecimal_digit, crate::specs::Hexadecimals::digit_value))]
+fn digit_value(byte: u8) -> Option<u8>
+    ensures { result ≡ pick (is_hexadecimal_digit byte) (Some (digit_value byte)) None }
 {
     match byte {
-        48..=57 => Digit::Value(byte - 48),
-        97..=102 => Digit::Value(10 + (byte - 97)),
-        65..=70 => Digit::Value(10 + (byte - 65)),
-        _ => Digit::Other,
+        b'0'..=b'9' => Some(byte - b'0'),
+        b'a'..=b'f' => Some(10 + (byte - b'a')),
+        b'A'..=b'F' => Some(10 + (byte - b'A')),
+        _ => None,
     }
 }

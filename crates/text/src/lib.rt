@@ -6,4 +6,4 @@ pub mod decimal;
 pub mod hexadecimal;
 pub mod line;
 
-const SPACE: u8 = 32;
+const SPACE: u8 = b' ';

@@ -3,38 +3,22 @@
 ghost use Rattle.std.specs.Prelude.{◌≡◌};
 ghost use Rattle.text.specs.Lines.{gathered_of, line_after, begins_with};
 
-// How many bytes the line has now; Full: there is no place for one more.
-#[derive(Clone, Copy)]
-pub enum Gathered {
-    To(usize),
-    Full,
-}
-
-// One more byte of a line that has `length` bytes so far.
-pub fn gather(line: &mut [u8], length: usize, byte: u8) -> Gathered
+// One more byte of a line that has `length` bytes so far. The answer is how many it has now; none, if there is no place for one more.
+// Not by get_mut: of what is written through it a proof knows no element.
+pub fn gather(line: &mut [u8], length: usize, byte: u8) -> Option<usize>
     ensures { (result ≡ gathered_of line.old length) × (line.new ≡ line_after line.old length byte) }
 {
     if length < line.len() {
         line[length] = byte;
-        Gathered::To(length + 1)
+        Some(length + 1)
     } else {
-        Gathered::Full
+        None
     }
 }
 
-// Whether a text begins with a word.
+// Whether a text begins with a word. Public (README): the library's starts_with, with a clause over our definition.
 pub fn starts_with(text: &[u8], word: &[u8]) -> bool
     ensures { result ≡ begins_with text.now word.now }
 {
-    if text.len() < word.len() {
-        return false;
-    }
-    let mut k = 0;
-    while k < word.len() {
-        if text[k] != word[k] {
-            return false;
-        }
-        k += 1;
-    }
-    true
+    text.starts_with(word)
 }

@@ -1,66 +1,35 @@
-// The lent words: an operator has the first 64, a meter has all.
+// The lent words of a unit.
 
-ghost use Rattle.std.specs.Prelude.{◌≤◌};
-
-use crate::command::Command;
-use console::numbers::narrow;
-use console::print::{end_line, error, labelled, text};
-use console::tables::row;
-use std::io;
+use console::fault::{Failure, Fault};
+use console::numbers::{narrow, numbers_of};
 use std::io::Write;
 
-pub(crate) fn clear(words: &mut [u32; 1024]) {
-    let mut j = 0;
-    while j < 1024 {
-        words[j] = 0;
-        j += 1;
-    }
-}
-
-// `set word J N`, of so many words.
+// `set word J N`
 pub(crate) fn set_word<W: Write>(
     out: &mut W,
-    lines: u64,
-    command: Command,
-    words: &mut [u32; 1024],
-    count: u64,
-) -> io::Result<()>
-    requires { count ≤ 1024 }
-{
-    let j = command.first;
-    if count <= j {
-        return error(out, lines, b"no such word");
+    text: &[u8],
+    words: &mut [u32],
+) -> Result<(), Failure> {
+    let [j, number] = numbers_of::<2>(text)?;
+    if words.len() as u64 <= j {
+        return Err(Failure::Wrong(Fault::NoSuchWord));
     }
-    let word = narrow(command.second);
+    let word = narrow(number);
     words[j as usize] = word;
-    let set = [j, word as u64];
-    row(out, b"set word | ", &set)
+    writeln!(out, "set word {j} {word}")?;
+    Ok(())
 }
 
-// `words N`, of so many words.
-pub(crate) fn list_words<W: Write>(
-    out: &mut W,
-    lines: u64,
-    wanted: u64,
-    words: &[u32; 1024],
-    count: u64,
-) -> io::Result<()> {
-    if count < wanted {
-        return error(out, lines, b"no such word");
+// `words N`
+pub(crate) fn list_words<W: Write>(out: &mut W, text: &[u8], words: &[u32]) -> Result<(), Failure> {
+    let [count] = numbers_of::<1>(text)?;
+    if (words.len() as u64) < count {
+        return Err(Failure::Wrong(Fault::NoSuchWord));
     }
-    list_first(out, words, wanted as usize)
-}
-
-fn list_first<W: Write>(out: &mut W, words: &[u32], count: usize) -> io::Result<()> {
-    text(out, b"words")?;
-    let mut j = 0;
-    while j < count && j < words.len() {
-        list_word(out, words[j])?;
-        j += 1;
+    write!(out, "words")?;
+    for word in &words[..count as usize] {
+        write!(out, " {word}")?;
     }
-    end_line(out)
-}
-
-fn list_word<W: Write>(out: &mut W, word: u32) -> io::Result<()> {
-    labelled(out, b" ", word as u64)
+    writeln!(out)?;
+    Ok(())
 }

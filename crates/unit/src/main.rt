@@ -12,18 +12,12 @@
 
 #![tactic(auto)]
 
-ghost use Rattle.std.specs.Prelude.{◌≤◌};
-
-use crate::command::{
-    BOUNDS, Command, ROOM, ROWS_METER, SET_BLOCK, SET_HELD, SET_SLOT, SMOOTH_METER, UNKNOWN,
-    command_in, with_numbers,
-};
-use crate::lent::clear;
-use console::input::{Input, advance, begin};
-use console::numbers::{narrow, pairs_of};
-use console::print::error;
+use crate::command::{WORDS, Word};
+use console::fault::{Failure, Fault, say};
+use console::input::each_line;
+use console::numbers::{narrow, numbers_of, pairs_of};
 use console::rows::rows_of;
-use console::tables::{Found, error_of};
+use console::tables::{Found, find};
 use flow::{Declaration, Kind};
 use meter::SourceMeter;
 use operator::{Operator, SingleOperator};
@@ -37,221 +31,104 @@ mod metering;
 mod setting;
 mod single;
 
-// Which unit there is.
+// The unit there is.
 #[derive(Clone, Copy)]
-enum Which {
+enum Unit {
     Missing,
-    Alone,
-    Metering,
-}
-
-// The unit there is. An enum cannot hold the array of a meter's rows, so both states stand here, and only that of the unit is looked at.
-#[derive(Clone, Copy)]
-struct Unit {
-    which: Which,
-    single: SingleOperator,
-    meter: SourceMeter,
+    Alone(SingleOperator),
+    Metering(SourceMeter),
 }
 
 fn main(rt: HostRuntime) -> io::Result<()> {
-    let mut stdin = rt.stdin();
     let mut out = rt.stdout();
     let mut words = [0u32; 1024];
-    let mut block = [0u8; 4096];
-    let mut line = [0u8; 1023];
-    let mut input = begin();
-    let mut unit = no_unit();
-    // A proved loop has to end, and nothing says that the input does, so the loop counts down from a number that no input uses up.
-    let mut turns = u64::MAX;
-    while turns > 0 && !input.ended {
-        input = advance(&mut stdin, input, &mut block, &mut line)?;
-        if input.whole {
-            unit = end_line(&mut out, unit, input, &line, &mut words)?;
-        }
-        turns -= 1;
-    }
+    let mut unit = Unit::Missing;
+    each_line(&mut rt.stdin(), |line| {
+        let answered = answer(&mut out, &mut unit, line.text(), &mut words);
+        say(&mut out, line.number, answered)?;
+        Ok(true)
+    })?;
     Ok(())
 }
 
-// A line is whole, and is answered.
-fn end_line<W: Write>(
+// Of the lent words an operator has the first 64, a meter has all.
+fn answer<W: Write>(
     out: &mut W,
-    unit: Unit,
-    input: Input,
-    line: &[u8; 1023],
+    unit: &mut Unit,
+    line: Option<&[u8]>,
     words: &mut [u32; 1024],
-) -> io::Result<Unit>
-    requires { input.length ≤ 1023 }
-{
-    let length = input.length;
-    if input.too_long {
-        error(out, input.lines, b"line too long")?;
-        return Ok(unit);
+) -> Result<(), Failure> {
+    let line = line.ok_or(Fault::LineTooLong)?;
+    let command = find(&WORDS, line);
+    if let Some(new) = new_unit(command)? {
+        words.fill(0);
+        *unit = new;
+        return Ok(());
     }
-    let whole = &line[..];
-    answer_line(out, unit, input.lines, &whole[0..length], words)
+    match unit {
+        Unit::Missing => Err(Failure::Wrong(Fault::NoUnit)),
+        Unit::Alone(state) => single::answer(out, state, command, &mut words[..64]),
+        Unit::Metering(state) => metering::answer(out, state, command, words),
+    }
 }
 
-fn answer_line<W: Write>(
-    out: &mut W,
-    unit: Unit,
-    lines: u64,
-    line: &[u8],
-    words: &mut [u32; 1024],
-) -> io::Result<Unit> {
-    let found = command_in(line);
-    if found.index == ROWS_METER {
-        return rows_meter(out, unit, lines, line, found.behind, words);
-    }
-    let which = unit.which;
-    let command = read_command(out, which, lines, line, found)?;
-    if command.index < SET_SLOT {
-        clear(words);
-        return Ok(new_unit(command));
-    }
-    command_unit(out, unit, lines, command, words)
+// The unit that a command makes, if it makes one.
+fn new_unit(command: Option<Found<Word>>) -> Result<Option<Unit>, Fault> {
+    let Some(
+        Found {
+            what,
+            behind: Some(text),
+        },
+    ) = command
+    else {
+        return Ok(None);
+    };
+    let unit = match what {
+        Word::Limiter => alone(Operator::Limiter(Rate(number_of(text)?))),
+        Word::Compactor => alone(Operator::Compactor(Interval(number_of(text)?))),
+        Word::Expander => alone(Operator::Expander(Interval(number_of(text)?))),
+        Word::Filter => alone(Operator::Filter(Rate(number_of(text)?))),
+        Word::Delayer => alone(Operator::Delayer(Delay(number_of(text)?))),
+        Word::SmoothMeter => metered(one_row(Kind::Smooth, text)?),
+        Word::UniformMeter => metered(one_row(Kind::Uniform, text)?),
+        Word::RowsMeter => metered(rows(text)?),
+        _ => return Ok(None),
+    };
+    Ok(Some(unit))
+}
+
+fn number_of(text: &[u8]) -> Result<u32, Fault> {
+    let [number] = numbers_of::<1>(text)?;
+    Ok(narrow(number))
+}
+
+// `meter smooth m Q` or `meter uniform m Q`
+fn one_row(kind: Kind, text: &[u8]) -> Result<Declaration, Fault> {
+    let [interval, quota] = numbers_of::<2>(text)?;
+    Ok(Declaration::of_one_row(kind, Interval(narrow(interval)), Quota(narrow(quota))))
 }
 
 // `meter rows m Q m Q ..`: how many rows there may be, and in which order, the meter tests.
-fn rows_meter<W: Write>(
-    out: &mut W,
-    unit: Unit,
-    lines: u64,
-    line: &[u8],
-    from: usize,
-    words: &mut [u32; 1024],
-) -> io::Result<Unit> {
-    let mut numbers = [0u64; 10];
-    let count = pairs_of(out, lines, line, from, &mut numbers)?;
-    if count == 0 {
-        return Ok(unit);
-    }
-    clear(words);
-    let declaration = Declaration::of_rows(count / 2, rows_of(&numbers));
-    Ok(unit_of(Which::Metering, Operator::Limiter(Rate(0)), declaration))
+fn rows(text: &[u8]) -> Result<Declaration, Fault> {
+    let mut numbers = [0; 10];
+    let count = pairs_of(text, &mut numbers)?;
+    Ok(Declaration::of_rows(count / 2, rows_of(&numbers)))
 }
 
-// What a line asks of the unit there is, or the unit that it makes; else the line is an error and the command unknown.
-fn read_command<W: Write>(
-    out: &mut W,
-    which: Which,
-    lines: u64,
-    line: &[u8],
-    found: Found,
-) -> io::Result<Command> {
-    let fault = fault_of(which, found.index);
-    if fault < 4 {
-        error_of(
-            out,
-            lines,
-            b"no unit|unknown command|not a meter|not an operator",
-            fault,
-        )?;
-        return Ok(Command {
-            index: UNKNOWN,
-            first: 0,
-            second: 0,
-        });
-    }
-    with_numbers(out, lines, line, found)
-}
-
-// Which error a command is to the unit there is; 4: none.
-fn fault_of(which: Which, command: usize) -> usize {
-    if command < SET_SLOT {
-        return 4;
-    }
-    match which {
-        Which::Missing => 0,
-        Which::Alone => match command {
-            UNKNOWN => 1,
-            SET_BLOCK..=ROOM => 2,
-            _ => 4,
-        },
-        Which::Metering => match command {
-            UNKNOWN => 1,
-            SET_HELD..=BOUNDS => 3,
-            _ => 4,
-        },
-    }
-}
-
-fn command_unit<W: Write>(
-    out: &mut W,
-    mut unit: Unit,
-    lines: u64,
-    command: Command,
-    words: &mut [u32; 1024],
-) -> io::Result<Unit> {
-    let which = unit.which;
-    match which {
-        Which::Missing => {}
-        Which::Alone => {
-            let after = single::answer(out, unit.single, lines, command, words)?;
-            unit.single = after;
-        }
-        Which::Metering => {
-            let after = metering::answer(out, unit.meter, lines, command, words)?;
-            unit.meter = after;
-        }
-    }
-    Ok(unit)
-}
-
-fn no_unit() -> Unit {
-    let declaration = Declaration::of_one_row(Kind::Smooth, Interval(0), Quota(0));
-    unit_of(Which::Missing, Operator::Limiter(Rate(0)), declaration)
-}
-
-fn new_unit(command: Command) -> Unit {
-    let index = command.index;
-    let first = narrow(command.first);
-    let quota = Quota(narrow(command.second));
-    let declaration = Declaration::of_one_row(kind_of(index), Interval(first), quota);
-    unit_of(which_of(index), operator_of(index, first), declaration)
-}
-
-// A unit in slot 0, with 0 in all else.
-fn unit_of(which: Which, operator: Operator, declaration: Declaration) -> Unit {
-    let single = SingleOperator {
+// A new unit is in slot 0, and all else is 0.
+fn alone(operator: Operator) -> Unit {
+    Unit::Alone(SingleOperator {
         operator,
         slot: Slots(0),
         held: Units(0),
         beside: Units(0),
-    };
-    let meter = SourceMeter {
+    })
+}
+
+fn metered(declaration: Declaration) -> Unit {
+    Unit::Metering(SourceMeter {
         declaration,
         slot: Slots(0),
         block: Units(0),
-    };
-    Unit {
-        which,
-        single,
-        meter,
-    }
-}
-
-fn which_of(command: usize) -> Which {
-    if command < SMOOTH_METER {
-        Which::Alone
-    } else {
-        Which::Metering
-    }
-}
-
-fn operator_of(command: usize, number: u32) -> Operator {
-    match command {
-        0 => Operator::Limiter(Rate(number)),
-        1 => Operator::Compactor(Interval(number)),
-        2 => Operator::Expander(Interval(number)),
-        3 => Operator::Filter(Rate(number)),
-        _ => Operator::Delayer(Delay(number)),
-    }
-}
-
-fn kind_of(command: usize) -> Kind {
-    match command {
-        SMOOTH_METER => Kind::Smooth,
-        _ => Kind::Uniform,
-    }
+    })
 }

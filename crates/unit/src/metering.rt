@@ -1,84 +1,65 @@
 // A meter's commands.
 
-use crate::command::{Command, ROOM, SET_BLOCK, SET_SLOT, SET_WORD, STATE, TAKE, WORDS};
+use crate::command::Word;
 use crate::lent::{list_words, set_word};
 use crate::setting::{set_slot, set_units};
-use console::print::refused;
-use console::tables::row;
-use meter::{Intake, Room, SourceMeter, room_left};
-use quantity::{Slots, Units};
-use std::io;
+use console::fault::{Failure, Fault};
+use console::numbers::numbers_of;
+use console::tables::Found;
+use meter::{SourceMeter, room_left};
+use quantity::Units;
 use std::io::Write;
 
-// The words of a meter.
-const COUNT: u64 = 1024;
-
+// A command with numbers goes on behind its words, one without ends with them.
 pub(crate) fn answer<W: Write>(
     out: &mut W,
-    mut state: SourceMeter,
-    lines: u64,
-    command: Command,
-    words: &mut [u32; 1024],
-) -> io::Result<SourceMeter> {
-    let index = command.index;
-    match index {
-        SET_SLOT => {
-            let slot = set_slot(out, command.first)?;
-            state.slot = slot;
+    state: &mut SourceMeter,
+    command: Option<Found<Word>>,
+    words: &mut [u32],
+) -> Result<(), Failure> {
+    let Found { what, behind } = command.ok_or(Fault::UnknownCommand)?;
+    match (what, behind) {
+        (Word::SetSlot, Some(text)) => state.slot = set_slot(out, text)?,
+        (Word::SetBlock, Some(text)) => state.block = set_units(out, "block", text)?,
+        (Word::SetWord, Some(text)) => set_word(out, text, words)?,
+        (Word::Take, Some(text)) => take(out, state, text, words)?,
+        (Word::Room, None) => ask_room(out, state, words)?,
+        (Word::State, None) => show(out, state)?,
+        (Word::Words, Some(text)) => list_words(out, text, words)?,
+        (Word::SetHeld | Word::SetBeside | Word::Step | Word::Bounds, Some(_)) => {
+            return Err(Failure::Wrong(Fault::NotAnOperator));
         }
-        SET_BLOCK => {
-            let block = set_units(out, b"block ", command.first)?;
-            state.block = block;
-        }
-        TAKE => return take(out, state, command.first, words),
-        ROOM => ask_room(out, state, words)?,
-        STATE => show(out, state)?,
-        SET_WORD => set_word(out, lines, command, words, COUNT)?,
-        WORDS => list_words(out, lines, command.first, words, COUNT)?,
-        _ => {}
-    }
-    Ok(state)
-}
-
-// `take INPUT`: where it is refused, the state that is handed back is the one that was given.
-fn take<W: Write>(
-    out: &mut W,
-    state: SourceMeter,
-    input: u64,
-    words: &mut [u32; 1024],
-) -> io::Result<SourceMeter> {
-    let room = room_left(state, words);
-    let metered = meter::take(state, words, Units(input));
-    let intake = metered.intake;
-    match intake {
-        Intake::Refused(why) => refused(out, why)?,
-        Intake::Taken => taken(out, state.slot, room, input)?,
-    }
-    Ok(metered.state)
-}
-
-// An input that is taken has room.
-fn taken<W: Write>(out: &mut W, slot: Slots, room: Room, input: u64) -> io::Result<()> {
-    if let Room::AtMost(most) = room {
-        let numbers = [slot.0 as u64, most.0, input];
-        return row(out, b"slot | room | taken ", &numbers);
+        _ => return Err(Failure::Wrong(Fault::UnknownCommand)),
     }
     Ok(())
 }
 
+// `take INPUT`
+fn take<W: Write>(
+    out: &mut W,
+    state: &mut SourceMeter,
+    text: &[u8],
+    words: &mut [u32],
+) -> Result<(), Failure> {
+    let [input] = numbers_of::<1>(text)?;
+    let room = room_left(*state, words);
+    let next = meter::take(*state, words, Units(input))?;
+    // An input that is taken has room.
+    let most = room?;
+    writeln!(out, "slot {} room {} taken {input}", state.slot.0, most.0)?;
+    *state = next;
+    Ok(())
+}
+
 // `room`
-fn ask_room<W: Write>(out: &mut W, state: SourceMeter, words: &[u32; 1024]) -> io::Result<()> {
-    match room_left(state, words) {
-        Room::Refused(why) => refused(out, why),
-        Room::AtMost(most) => {
-            let numbers = [state.slot.0 as u64, most.0];
-            row(out, b"slot | room ", &numbers)
-        }
-    }
+fn ask_room<W: Write>(out: &mut W, state: &SourceMeter, words: &[u32]) -> Result<(), Failure> {
+    let most = room_left(*state, words)?;
+    writeln!(out, "slot {} room {}", state.slot.0, most.0)?;
+    Ok(())
 }
 
 // `state`
-fn show<W: Write>(out: &mut W, state: SourceMeter) -> io::Result<()> {
-    let numbers = [state.slot.0 as u64, state.block.0];
-    row(out, b"slot | block ", &numbers)
+fn show<W: Write>(out: &mut W, state: &SourceMeter) -> Result<(), Failure> {
+    writeln!(out, "slot {} block {}", state.slot.0, state.block.0)?;
+    Ok(())
 }

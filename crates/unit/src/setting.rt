@@ -1,24 +1,21 @@
-// What is set to a number of a command: `set`, what it is, and the number.
+// What is set to a number of a command.
 
-use console::numbers::narrow;
-use console::print::{end_line, labelled, text};
+use console::fault::Failure;
+use console::numbers::{narrow, numbers_of};
 use quantity::{Slots, Units};
-use std::io;
 use std::io::Write;
 
-pub(crate) fn set_slot<W: Write>(out: &mut W, number: u64) -> io::Result<Slots> {
+// `set slot N`
+pub(crate) fn set_slot<W: Write>(out: &mut W, text: &[u8]) -> Result<Slots, Failure> {
+    let [number] = numbers_of::<1>(text)?;
     let slot = narrow(number);
-    is_set(out, b"slot ", slot as u64)?;
+    writeln!(out, "set slot {slot}")?;
     Ok(Slots(slot))
 }
 
-pub(crate) fn set_units<W: Write>(out: &mut W, what: &[u8], number: u64) -> io::Result<Units> {
-    is_set(out, what, number)?;
+// `set held N`, and so for the other amounts
+pub(crate) fn set_units<W: Write>(out: &mut W, what: &str, text: &[u8]) -> Result<Units, Failure> {
+    let [number] = numbers_of::<1>(text)?;
+    writeln!(out, "set {what} {number}")?;
     Ok(Units(number))
-}
-
-fn is_set<W: Write>(out: &mut W, what: &[u8], number: u64) -> io::Result<()> {
-    text(out, b"set ")?;
-    labelled(out, what, number)?;
-    end_line(out)
 }

@@ -1,132 +1,96 @@
 // A single operator's commands.
 
-ghost use Rattle.std.specs.Prelude.{◌≤◌, length};
-
-use crate::command::{
-    BOUNDS, Command, SET_BESIDE, SET_HELD, SET_SLOT, SET_WORD, STATE, STEP, WORDS,
-};
+use crate::command::Word;
 use crate::lent::{list_words, set_word};
 use crate::setting::{set_slot, set_units};
-use console::print::refused;
-use console::tables::row;
+use console::fault::{Failure, Fault};
+use console::numbers::numbers_of;
+use console::tables::Found;
 use operator::SingleOperator;
-use operator::parts::{Stored, stored_in};
-use operator::single::{Bounds, Stepped, bounds_alone, step_alone};
+use operator::parts::stored_in;
+use operator::single::{Outputs, Sent, bounds_alone, step_alone};
 use quantity::{Slots, Units};
-use std::io;
 use std::io::Write;
 
-// The words of an operator.
-const COUNT: u64 = 64;
-
+// A command with numbers goes on behind its words, one without ends with them.
 pub(crate) fn answer<W: Write>(
     out: &mut W,
-    mut state: SingleOperator,
-    lines: u64,
-    command: Command,
-    words: &mut [u32; 1024],
-) -> io::Result<SingleOperator> {
-    let index = command.index;
-    match index {
-        SET_SLOT => {
-            let slot = set_slot(out, command.first)?;
-            state.slot = slot;
+    state: &mut SingleOperator,
+    command: Option<Found<Word>>,
+    words: &mut [u32],
+) -> Result<(), Failure> {
+    let Found { what, behind } = command.ok_or(Fault::UnknownCommand)?;
+    match (what, behind) {
+        (Word::SetSlot, Some(text)) => state.slot = set_slot(out, text)?,
+        (Word::SetHeld, Some(text)) => state.held = set_units(out, "held", text)?,
+        (Word::SetBeside, Some(text)) => state.beside = set_units(out, "beside", text)?,
+        (Word::SetWord, Some(text)) => set_word(out, text, words)?,
+        (Word::Step, Some(text)) => step(out, state, text, words)?,
+        (Word::Bounds, Some(text)) => ask_bounds(out, state, text, words)?,
+        (Word::State, None) => show(out, state)?,
+        (Word::Words, Some(text)) => list_words(out, text, words)?,
+        (Word::SetBlock | Word::Take, Some(_)) | (Word::Room, None) => {
+            return Err(Failure::Wrong(Fault::NotAMeter));
         }
-        SET_HELD => {
-            let held = set_units(out, b"held ", command.first)?;
-            state.held = held;
-        }
-        SET_BESIDE => {
-            let beside = set_units(out, b"beside ", command.first)?;
-            state.beside = beside;
-        }
-        STEP => return step(out, state, command.first, command.second, words),
-        BOUNDS => ask_bounds(out, state, command.first, words)?,
-        STATE => show(out, state)?,
-        SET_WORD => set_word(out, lines, command, words, COUNT)?,
-        WORDS => list_words(out, lines, command.first, words, COUNT)?,
-        _ => {}
+        _ => return Err(Failure::Wrong(Fault::UnknownCommand)),
     }
-    Ok(state)
+    Ok(())
 }
 
-// `step INPUT CHOICE`: a refused step leaves the state as it was.
+// `step INPUT CHOICE`
 fn step<W: Write>(
     out: &mut W,
-    state: SingleOperator,
-    input: u64,
-    choice: u64,
-    words: &mut [u32; 1024],
-) -> io::Result<SingleOperator> {
-    let bounds = bounds_in(state, words, Units(input));
-    match step_in(state, words, Units(input), Units(choice)) {
-        Stepped::Refused(why) => {
-            refused(out, why)?;
-            Ok(state)
-        }
-        Stepped::Sent { output, next } => {
-            sent(out, state.slot, bounds, output, held_in(next, words))?;
-            Ok(next)
-        }
-    }
-}
-
-// A step that is sent has bounds.
-fn sent<W: Write>(
-    out: &mut W,
-    slot: Slots,
-    bounds: Bounds,
-    output: Units,
-    held: u64,
-) -> io::Result<()> {
-    if let Bounds::Outputs { least, greatest } = bounds {
-        let numbers = [slot.0 as u64, least.0, greatest.0, output.0, held];
-        return row(out, b"slot | least | greatest | output | held ", &numbers);
-    }
+    state: &mut SingleOperator,
+    text: &[u8],
+    words: &mut [u32],
+) -> Result<(), Failure> {
+    let [input, choice] = numbers_of::<2>(text)?;
+    let bounds = bounds_alone(*state, words, Units(input));
+    let Sent { output, next } = step_alone(*state, words, Units(input), Units(choice))?;
+    // A step that is sent has bounds.
+    let Outputs { least, greatest } = bounds?;
+    writeln!(
+        out,
+        "slot {} least {} greatest {} output {} held {}",
+        state.slot.0,
+        least.0,
+        greatest.0,
+        output.0,
+        held_in(next, words)
+    )?;
+    *state = next;
     Ok(())
 }
 
 // `bounds INPUT`
 fn ask_bounds<W: Write>(
     out: &mut W,
-    state: SingleOperator,
-    input: u64,
-    words: &[u32; 1024],
-) -> io::Result<()> {
-    match bounds_in(state, words, Units(input)) {
-        Bounds::Refused(why) => refused(out, why),
-        Bounds::Outputs { least, greatest } => {
-            let numbers = [state.slot.0 as u64, least.0, greatest.0];
-            row(out, b"slot | least | greatest ", &numbers)
-        }
-    }
-}
-
-// The library's calls on the operator's words.
-fn bounds_in(state: SingleOperator, words: &[u32; 1024], input: Units) -> Bounds {
-    let all = &words[..];
-    bounds_alone(state, &all[0..64], input)
-}
-
-fn step_in(state: SingleOperator, words: &mut [u32], input: Units, choice: Units) -> Stepped
-    requires { 64 ≤ length words.old }
-{
-    step_alone(state, &mut words[0..64], input, choice)
+    state: &SingleOperator,
+    text: &[u8],
+    words: &[u32],
+) -> Result<(), Failure> {
+    let [input] = numbers_of::<1>(text)?;
+    let Outputs { least, greatest } = bounds_alone(*state, words, Units(input))?;
+    writeln!(
+        out,
+        "slot {} least {} greatest {}",
+        state.slot.0, least.0, greatest.0
+    )?;
+    Ok(())
 }
 
 // Section 3's b. It does not depend on the slot, and is asked for as in slot 0: behind the last slot the call refuses.
-fn held_in(mut state: SingleOperator, words: &[u32; 1024]) -> u64 {
-    let slot = Slots(0);
-    state.slot = slot;
-    let all = &words[..];
-    match stored_in(state, &all[0..64]) {
-        Stored::Holds(held) => held.0,
-        Stored::Unusable => 0,
-    }
+fn held_in(mut state: SingleOperator, words: &[u32]) -> u64 {
+    state.slot = Slots(0);
+    stored_in(state, words).map_or(0, |held| held.0)
 }
 
 // `state`
-fn show<W: Write>(out: &mut W, state: SingleOperator) -> io::Result<()> {
-    let numbers = [state.slot.0 as u64, state.held.0, state.beside.0];
-    row(out, b"slot | held | beside ", &numbers)
+fn show<W: Write>(out: &mut W, state: &SingleOperator) -> Result<(), Failure> {
+    writeln!(
+        out,
+        "slot {} held {} beside {}",
+        state.slot.0, state.held.0, state.beside.0
+    )?;
+    Ok(())
 }

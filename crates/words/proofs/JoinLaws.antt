@@ -1,10 +1,11 @@
 -- Words joined by "or": the join is at most 2^k − 1 if and only if each word is, and 0 if and only if each is 0.
 -- So the join tells when the low 32 bits of the words' sum are all of it.
-use Rattle.std.proofs.Common.{◌≡◌, ℕ, zero, suc, ◌+◌, ◌*◌, ◌/◌, ◌%◌, ◌^◌, ◌<◌, ◌≤◌, max, Bool, eqb, leb, List, length, sym, refl, ap, ◌∙◌, ap₂, add-zero, add-suc, mod-eq_of_lt, lt_of_not-le, add-one, arith, ne_eqb, le-leb, leb-true}
+use Rattle.std.proofs.Common.{◌≡◌, ℕ, zero, suc, ◌+◌, ◌*◌, ◌/◌, ◌%◌, ◌^◌, ◌<◌, ◌≤◌, max, Bool, eqb, leb, List, [], ◌∷◌, length, sym, refl, ap, ◌∙◌, ap₂, mod-eq_of_lt, lt_of_not-le, add-one, arith, ne_eqb, le-leb, leb-true}
 use native.Mathlib.Decide.{dec_le}
 use lib.Arith.{bin_ind}
 use lib.Bits.{bit_or, or_step, or_zero_r, or_lt, or_add_and, and_le_l, and_le_r}
 use borrow.Author.Tests.{lt-leb}
+use Rattle.std.specs.List.{fold}
 use Rattle.quantity.specs.Choice.{both}
 use Rattle.quantity.specs.Sums.{total, every}
 use Rattle.quantity.proofs.Sums.{total-zero, total-suc, every-at, every-same}
@@ -20,11 +21,6 @@ pub joined-next : (f : ℕ → ℕ) (n : ℕ) → joined f (n + 1) ≡ bit_or (j
 unfolding joined
 joined-next f n = rw add-one
 
-pub joined_same : (f g : ℕ → ℕ) (n : ℕ) → ((k : ℕ) → k < n → f k ≡ g k) → joined f n ≡ joined g n
-unfolding joined
-joined_same f g zero same = refl
-joined_same f g (suc n) same = ap₂ bit_or (joined_same f g n (λ k less. same k (omega arith))) (same n (omega arith))
-
 -- the last binary digits are joined apart from those before them
 or-half : (a b : ℕ) → bit_or a b / 2 ≡ bit_or (a / 2) (b / 2)
 or-half a b = omega (arith, or_step a b)
@@ -32,7 +28,7 @@ or-half a b = omega (arith, or_step a b)
 or-last : (a b : ℕ) → bit_or a b % 2 ≡ max (a % 2) (b % 2)
 or-last a b = omega (arith, or_step a b)
 
-or_assoc : (a b c : ℕ) → bit_or (bit_or a b) c ≡ bit_or a (bit_or b c)
+pub or_assoc : (a b c : ℕ) → bit_or (bit_or a b) c ≡ bit_or a (bit_or b c)
 or_assoc a =
     bin_ind (λ (n : ℕ). (b c : ℕ) → bit_or (bit_or n b) c ≡ bit_or n (bit_or b c)) (λ b c. refl)
     (λ n halves b c.
@@ -40,12 +36,20 @@ or_assoc a =
     omega (arith, or_step (bit_or n b) c, or_step n (bit_or b c), or-last n b, or-last b c))
     a
 
--- a join in two parts
-pub joined-parts : (f : ℕ → ℕ) (n k : ℕ) → joined f (n + k) ≡ bit_or (joined f n) (joined (λ j. f (n + j)) k)
+-- the first apart
+joined_first : (f : ℕ → ℕ) (n : ℕ) → joined f (suc n) ≡ bit_or (f 0) (joined (λ k. f (suc k)) n)
 unfolding joined
-joined-parts f n zero = ap (joined f) (add-zero n) ∙ sym (or_zero_r (joined f n))
-joined-parts f n (suc k) =
-    ap (joined f) (add-suc n k) ∙ ap (λ (t : ℕ). bit_or t (f (n + k))) (joined-parts f n k) ∙ or_assoc (joined f n) (joined (λ j. f (n + j)) k) (f (n + k))
+joined_first f zero = sym (or_zero_r (f 0))
+joined_first f (suc n) = ap (λ (t : ℕ). bit_or t (f (suc n))) (joined_first f n) ∙ or_assoc (f 0) (joined (λ k. f (suc k)) n) (f (suc n))
+
+-- words joined one after the other
+pub joined_on : (words : List ℕ) (a : ℕ) → fold bit_or a words ≡ bit_or a (joined (word_at words) (length words))
+unfolding joined
+joined_on [] a = sym (or_zero_r a)
+joined_on (word ∷ words) a = joined_on words (bit_or a word) ∙ or_assoc a word _ ∙ ap (bit_or a) (sym (joined_first (word_at (word ∷ words)) (length words)))
+
+pub fold-joined : (words : List ℕ) → fold bit_or 0 words ≡ joined (word_at words) (length words)
+fold-joined words = joined_on words 0
 
 -- the join of two is at least each of them
 pub le_or_l : (a b : ℕ) → a ≤ bit_or a b

@@ -1,12 +1,11 @@
--- A part of the words, from one on to before another: its words are theirs, so its join and its sum go on those of the words before it.
+-- A part of the words, from one on to before another: its words are theirs, so its sum goes on that of the words before it, and its join is small only where each is.
 use Rattle.std.proofs.Common.{◌≡◌, ℕ, zero, suc, ◌+◌, ◌-◌, ◌%◌, ◌^◌, ◌<◌, ◌≤◌, true, List, length, take, drop, sym, ap, ◌∙◌, add-zero, add-suc, arith, length-drop, length-take-le, get_or-drop, get_or-take, eqb-true}
-use lib.Bits.{bit_or}
 use Rattle.quantity.specs.Sums.{total, every}
 use Rattle.quantity.proofs.Sums.{total-zero, total-suc, total-same, every-at}
 use Rattle.words.specs.Stored.{word_at, clear_at}
 use Rattle.words.specs.Gathering.{joined, most_exact, gathered_of}
 use Rattle.words.specs.declared.Gathered.{Gathered}
-use Rattle.words.proofs.JoinLaws.{joined-parts, joined_same, joined_small}
+use Rattle.words.proofs.JoinLaws.{joined_small}
 
 -- a sum in two parts
 total-parts : (f : ℕ → ℕ) (n k : ℕ) → total f (n + k) ≡ total f n + total (λ j. f (n + j)) k
@@ -22,22 +21,16 @@ pub record PartGathered (words : List ℕ) (from end : ℕ) (part : Gathered) : 
   pub small : part.join ≤ most_exact → (j : ℕ) → from ≤ j → j < end → word_at words j ≤ most_exact
 
 module _ (words : List ℕ) (from end : ℕ) (behind : from ≤ end) (inside : end ≤ length words) where
-  pub part_length : length (part_of words from end) ≡ end - from
+  part_length : length (part_of words from end) ≡ end - from
   part_length = length-take-le (end - from) (drop from words) (omega (arith, length-drop from words))
 
-  pub part-word : (j : ℕ) → j < end - from → word_at (part_of words from end) j ≡ word_at words (from + j)
+  part-word : (j : ℕ) → j < end - from → word_at (part_of words from end) j ≡ word_at words (from + j)
   part-word j less = get_or-take (end - from) (drop from words) j 0 less ∙ get_or-drop from words j 0
 
   whole : from + (end - from) ≡ end
   whole = omega arith
 
-  pub part-joined : bit_or (joined (word_at words) from) (joined (word_at (part_of words from end)) (length (part_of words from end))) ≡ joined (word_at words) end
-  part-joined =
-      ap (bit_or (joined (word_at words) from)) (ap (joined (word_at (part_of words from end))) part_length ∙ joined_same _ _ (end - from) part-word)
-      ∙ sym (joined-parts (word_at words) from (end - from))
-      ∙ ap (joined (word_at words)) whole
-
-  pub part-total : total (word_at words) from + total (word_at (part_of words from end)) (length (part_of words from end)) ≡ total (word_at words) end
+  part-total : total (word_at words) from + total (word_at (part_of words from end)) (length (part_of words from end)) ≡ total (word_at words) end
   part-total =
       ap (λ (n : ℕ). total (word_at words) from + n) (ap (total (word_at (part_of words from end))) part_length ∙ total-same _ _ (end - from) part-word)
       ∙ sym (total-parts (word_at words) from (end - from))

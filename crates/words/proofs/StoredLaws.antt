@@ -1,6 +1,6 @@
 -- Stored amounts that fit are at most the limit, and 0 where they are not used; so the sum of words is that of the used ones.
 -- And refusal 1 of numbers, in plain facts; and as many words are left where one is noted.
-use Rattle.std.proofs.Common.{◌≡◌, ℕ, ◌<◌, ◌≤◌, Bool, true, false, not, eqb, ltb, List, [], ◌∷◌, ◌++◌, length, set, sym, refl, ap, ◌∙◌, lt_of_not-le, arith, length-set, ltb-false, le-ltb, lt-ltb, eq-eqb, ne_eqb, eqb-true, leb-true}
+use Rattle.std.proofs.Common.{◌≡◌, ℕ, ◌+◌, ◌≤◌, Bool, true, false, not, eqb, ltb, List, [], ◌∷◌, ◌++◌, length, set, sym, refl, ap, ◌∙◌, lt_of_not-le, arith, length-set, ltb-false, le-ltb, eq-eqb, eqb-true, leb-true}
 use native.Mathlib.Nat.{le_dest}
 use native.Mathlib.Decide.{dec_le}
 use lib.ListN.{get_or-eq_default}
@@ -8,9 +8,18 @@ use borrow.Author.Tests.{not-false}
 use Rattle.quantity.specs.Choice.{pick, either, any_of}
 use Rattle.quantity.specs.Limits.{largest_amount, last_slot}
 use Rattle.quantity.specs.Sums.{total, every}
-use Rattle.quantity.proofs.Laws.{either-false, either_first, either_second}
-use Rattle.quantity.proofs.Sums.{every-at, total-rest}
+use Rattle.quantity.proofs.Laws.{either-false}
+use Rattle.std.specs.List.{fold, sum}
+use Rattle.quantity.proofs.Sums.{total-zero, total_first, every-at, total-rest}
 use Rattle.words.specs.Stored.{word_at, stored_fits, word_fits, word_noted}
+
+-- words added one after the other
+total_on : (words : List ℕ) (a : ℕ) → fold (λ a w. a + w) a words ≡ a + total (word_at words) (length words)
+total_on [] a = omega (arith, total-zero (word_at []))
+total_on (word ∷ words) a = omega (arith, total_on words (a + word), total_first (word_at (word ∷ words)) (length words))
+
+pub sum-total : (words : List ℕ) → sum words ≡ total (word_at words) (length words)
+sum-total words = omega (arith, total_on words 0)
 
 pub stored-le : (used : Bool) (amount : ℕ) → stored_fits used amount ≡ true → amount ≤ largest_amount
 unfolding stored_fits
@@ -23,10 +32,6 @@ stored-none true amount unused fits = let never : ◌≡◌ {A = ℕ} 0 1 = cc i
 stored-none false amount unused fits = eqb-true amount 0 fits
 
 module _ (used : ℕ) (words : List ℕ) (fit : every (word_fits used words) (length words) ≡ true) where
-  pub word-le : (j : ℕ) → j < length words → word_at words j ≤ largest_amount
-  unfolding word_fits
-  word-le j less = stored-le (ltb j used) (word_at words j) (every-at (word_fits used words) (length words) fit j less)
-
   -- a word that is not used is 0, and so is what is read past the end
   pub word_none : (j : ℕ) → used ≤ j → word_at words j ≡ 0
   unfolding word_fits
@@ -72,24 +77,11 @@ module _ (lent count slot first second : ℕ) where
         second_le = ltb-false largest_amount second second-test;
       }
 
-  -- the first test that stands decides
-  pub unfit-length : (lent ≡ count → ⊥) → true ≡ any_of (unfit_tests lent count slot first second)
-  unfit-length other = sym (either_first (not (eqb lent count)) _ (ap not (ne_eqb lent count other)))
-
-  pub unfit-slot : last_slot < slot → true ≡ any_of (unfit_tests lent count slot first second)
-  unfit-slot past = sym (either_second (not (eqb lent count)) _ (either_first (ltb last_slot slot) _ (lt-ltb last_slot slot past)))
-
-  pub unfit-first : largest_amount < first → true ≡ any_of (unfit_tests lent count slot first second)
-  unfit-first above =
-      sym
-      (either_second (not (eqb lent count)) _
-      (either_second (ltb last_slot slot) _ (either_first (ltb largest_amount first) _ (lt-ltb largest_amount first above))))
-
   -- where the words and the slot fit, the amounts alone are tested
   pub amounts-tested : lent ≡ count → slot ≤ last_slot → any_of (unfit_tests lent count slot first second) ≡ either (ltb largest_amount first) (ltb largest_amount second)
   amounts-tested sized slot-left = rw (eq-eqb lent count sized, le-ltb last_slot slot slot-left) (ap (either (ltb largest_amount first)) (either-last (ltb largest_amount second)))
 
-  pub unfit-second : lent ≡ count → slot ≤ last_slot → first ≤ largest_amount → ltb largest_amount second ≡ any_of (unfit_tests lent count slot first second)
+  unfit-second : lent ≡ count → slot ≤ last_slot → first ≤ largest_amount → ltb largest_amount second ≡ any_of (unfit_tests lent count slot first second)
   unfit-second sized slot-left first-le =
       sym (amounts-tested sized slot-left ∙ ap (λ (t : Bool). either t (ltb largest_amount second)) (le-ltb largest_amount first first-le))
 

@@ -2,23 +2,15 @@
 
 #![tactic(auto)]
 
-ghost use Rattle.std.specs.Prelude.{◌≡◌, ◌<◌, ◌≤◌, true, not, [], ◌∷◌, length, ◌==◌, nat_lt};
-ghost use Rattle.quantity.specs.Choice.{both, any_of};
+ghost use Rattle.std.specs.Prelude.{◌≡◌, ◌≤◌, not, [], ◌∷◌, length, ◌==◌, nat_lt};
+ghost use Rattle.quantity.specs.Choice.{any_of};
 ghost use Rattle.quantity.specs.Sums.{total, every};
 ghost use Rattle.quantity.specs.Limits.{largest_amount, last_slot};
-ghost use Rattle.words.specs.Stored.{word_at, clear_at, stored_fits, word_fits, word_noted};
-ghost use Rattle.words.specs.Scanning.{none_scanned, scanned_of};
-ghost use Rattle.words.specs.Gathering.{joined, gathered_of};
+ghost use Rattle.words.specs.Stored.{word_at, clear_at, stored_fits, word_noted};
+ghost use Rattle.words.specs.Scanning.{scanned_of};
+ghost use Rattle.words.specs.Gathering.{joined, gathered_of, gathered_with};
 
 use quantity::{Slots, Units};
-use std::num::wrapping_add_u32;
-
-// Whether there are at most 1,024 words and each fits, of which the first so many are used; and then their sum, else 0.
-#[derive(Clone, Copy)]
-pub struct Scanned {
-    pub fits: bool,
-    pub units: u64,
-}
 
 // What one pass over words gathers: the words joined by "or", and the low 32 bits of their sum.
 #[derive(Clone, Copy)]
@@ -27,62 +19,39 @@ pub struct Gathered {
     pub low: u32,
 }
 
+impl Gathered {
+    // What is gathered of two parts.
+    pub fn with(self, other: Gathered) -> Gathered
+        ensures { result ≡ gathered_with self other }
+    {
+        Gathered {
+            join: self.join | other.join,
+            low: self.low.wrapping_add(other.low),
+        }
+    }
+}
+
 // The most words that are scanned at once, so that their sum fits.
 const MOST_SCANNED: usize = 1024;
 
 // The largest word of which so many sum to less than 2^32: 2^22 − 1.
 pub const MOST_EXACT: u32 = 4_194_303;
 
-// Every lent word tested once, and the words added.
-pub fn scan(words: &[u32], used: usize) -> Scanned
+// The sum of at most 1,024 words of which the first so many are used, where each fits. Every lent word is tested once.
+// The used words are joined and added in one pass, those behind them only joined. Where all fit, those are 0 and add nothing; where none is used, no sum is needed.
+pub fn scan(words: &[u32], used: usize) -> Option<u64>
     ensures { result ≡ scanned_of used words.now }
 {
     if MOST_SCANNED < words.len() {
-        return misfit();
+        return None;
     }
-    let scanned = scan_few(words, used);
-    if !scanned.fits {
-        return misfit();
-    }
-    scanned
-}
-
-fn misfit() -> Scanned
-    ensures { result ≡ none_scanned }
-{
-    Scanned {
-        fits: false,
-        units: 0,
-    }
-}
-
-// The used words are joined and added in one pass, those behind them only joined. Where all fit, those are 0 and add nothing; where none is used, no sum is needed.
-fn scan_few(words: &[u32], used: usize) -> Scanned
-    requires { length words.now ≤ 1024 }
-    ensures { (result.fits ≡ every (word_fits used words.now) (length words.now)) × (result.fits ≡ true → result.units ≡ total (word_at words.now) (length words.now)) }
-{
     if used == 0 {
-        return Scanned {
-            fits: all_clear(words),
-            units: 0,
-        };
+        return all_clear(words).then_some(0);
     }
-    let end = at_most(used, words.len());
-    let first = &words[0..end];
-    let rest = &words[end..words.len()];
+    let (first, rest) = words.split_at(used.min(words.len()));
     let gathered = gather(first);
-    let small = gathered.join as u64 <= Units::LARGEST;
-    Scanned {
-        fits: and(small, all_clear(rest)),
-        units: exact_sum(first, gathered),
-    }
-}
-
-// A count, or the most that it may be.
-fn at_most(count: usize, most: usize) -> usize
-    ensures { (result ≤ count) × (result ≤ most) × (result < count → result ≡ most) }
-{
-    if count < most { count } else { most }
+    let fits = (u64::from(gathered.join) <= Units::LARGEST) & all_clear(rest);
+    fits.then_some(exact_sum(first, gathered))
 }
 
 // The words of a row, which is joined without a loop.
@@ -96,18 +65,8 @@ pub fn all_clear(words: &[u32]) -> bool
     if words.len() < ROW {
         return row_clear(words);
     }
-    if !row_clear(&words[0..ROW]) {
-        return false;
-    }
-    let mut j = (words.len() - 1) % ROW + 1;
-    while j < words.len() {
-        let end = j + ROW;
-        if !row_clear(&words[j..end]) {
-            return false;
-        }
-        j = end;
-    }
-    true
+    let from = (words.len() - 1) % ROW + 1;
+    row_clear(&words[..ROW]) && words[from..].chunks_exact(ROW).all(row_clear)
 }
 
 // The same of few words, in one row.
@@ -121,48 +80,31 @@ pub fn row_clear(words: &[u32]) -> bool
 fn join(words: &[u32]) -> u32
     ensures { result ≡ joined (word_at words.now) (length words.now) }
 {
-    let mut join: u32 = 0;
-    let mut j = 0;
-    while j < words.len() {
-        join = join | words[j];
-        j = j + 1;
-    }
-    join
+    words.iter().fold(0, |join, word| join | word)
 }
 
 // The same join, and the sum of the words modulo 2^32: row by row, and then those that are left.
 pub fn gather(words: &[u32]) -> Gathered
     ensures { result ≡ gathered_of words.now }
 {
-    let mut join: u32 = 0;
-    let mut low: u32 = 0;
-    let mut j = 0;
-    while ROW <= words.len() - j {
-        let end = j + ROW;
-        let row = gather_row(&words[j..end]);
-        join = join | row.join;
-        low = wrapping_add_u32(low, row.low);
-        j = end;
+    let rows = words.chunks_exact(ROW);
+    let rest = rows.remainder();
+    let mut gathered = Gathered { join: 0, low: 0 };
+    for row in rows {
+        gathered = gathered.with(gather_row(row));
     }
-    let rest = gather_row(&words[j..]);
-    Gathered {
-        join: join | rest.join,
-        low: wrapping_add_u32(low, rest.low),
-    }
+    gathered.with(gather_row(rest))
 }
 
 // The same of few words, in one row.
 fn gather_row(words: &[u32]) -> Gathered
     ensures { result ≡ gathered_of words.now }
 {
-    let mut join: u32 = 0;
+    let mut join = 0;
     let mut low: u32 = 0;
-    let mut j = 0;
-    while j < words.len() {
-        let word = words[j];
-        join = join | word;
-        low = wrapping_add_u32(low, word);
-        j = j + 1;
+    for word in words {
+        join |= *word;
+        low = low.wrapping_add(*word);
     }
     Gathered { join, low }
 }
@@ -173,7 +115,7 @@ fn exact_sum(words: &[u32], gathered: Gathered) -> u64
     ensures { result ≡ total (word_at words.now) (length words.now) }
 {
     if gathered.join <= MOST_EXACT {
-        return gathered.low as u64;
+        return u64::from(gathered.low);
     }
     sum(words)
 }
@@ -183,35 +125,14 @@ fn sum(words: &[u32]) -> u64
     requires { length words.now ≤ 1024 }
     ensures { result ≡ total (word_at words.now) (length words.now) }
 {
-    let mut units: u64 = 0;
-    let mut j = 0;
-    while j < words.len() {
-        units = units + words[j] as u64;
-        j = j + 1;
-    }
-    units
-}
-
-fn and(a: bool, b: bool) -> bool
-    ensures { result ≡ both a b }
-{
-    if a { b } else { false }
+    words.iter().map(|word| u64::from(*word)).sum()
 }
 
 // Refusal 1, of numbers: not so many words are lent as there should be, no slot number is left, or one of two amounts is above the limit.
 pub fn unfit(lent: usize, count: usize, slot: u32, first: u64, second: u64) -> bool
     ensures { result ≡ any_of (not (lent == count) ∷ nat_lt last_slot slot ∷ nat_lt largest_amount first ∷ nat_lt largest_amount second ∷ []) }
 {
-    if lent != count {
-        return true;
-    }
-    if Slots::LAST < slot {
-        return true;
-    }
-    if Units::LARGEST < first {
-        return true;
-    }
-    Units::LARGEST < second
+    lent != count || Slots::LAST < slot || Units::LARGEST < first || Units::LARGEST < second
 }
 
 // A stored amount is at most the limit; where it is not used it is 0.
@@ -222,7 +143,7 @@ pub fn stored_fits(used: bool, amount: u64) -> bool
     amount <= most
 }
 
-// A word noted at a place. Where there is no such word, none is written.
+// A word noted at a place. Where there is no such word, none is written. Not by get_mut: of what is written through it a proof knows no element.
 pub fn note(words: &mut [u32], at: usize, word: u32)
     ensures { words.new ≡ word_noted words.old at word }
 {

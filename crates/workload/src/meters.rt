@@ -1,14 +1,9 @@
 // Inputs of a meter alone.
 
-ghost use Rattle.std.specs.Prelude.{◌≡◌, ◌≤◌, length};
-
-use crate::{after, input_at, mix, mix_refusal};
+use crate::{mix, mix_refusal};
 use flow::{Declaration, DeclaredRow, Kind};
-use meter::{Intake, SourceMeter, take};
+use meter::{SourceMeter, take};
 use quantity::{Interval, Quota, Slots, Units};
-
-// The numbers of a declaration: its kind (0 smooth, 1 uniform, else rows), how many rows it has, and four rows, of which smooth and uniform have the first.
-const NUMBERS: usize = 10;
 
 // From a slot on, takes an input in each turn by the meter of a declaration.
 #[unsafe(no_mangle)]
@@ -17,12 +12,12 @@ pub extern "C" fn workload_metering(
     slot: u32,
     words: &mut [u32],
     inputs: &[u64],
-    mut turns: u64,
+    turns: u64,
 ) -> u64 {
-    if declared.len() != NUMBERS {
+    let Some(declared) = declared.as_array::<10>() else {
         return 0;
-    }
-    if inputs.len() == 0 {
+    };
+    if inputs.is_empty() {
         return 0;
     }
     let mut state = SourceMeter {
@@ -31,51 +26,32 @@ pub extern "C" fn workload_metering(
         block: Units(0),
     };
     let mut sum = 0;
-    let mut t = 0;
-    while 0 < turns {
-        let answer = take(state, words, input_at(inputs, t));
-        let intake = answer.intake;
-        state = answer.state;
-        sum = mix_intake(sum, intake);
-        t = after(t, 1, inputs.len());
-        turns -= 1;
-    }
-    mix(mix(sum, state.slot.0 as u64), state.block.0)
-}
-
-fn declaration_of(numbers: &[u32]) -> Declaration
-    requires { length numbers.now ≡ 10 }
-{
-    let kind = numbers[0];
-    let first = row_of(numbers, 2);
-    match kind {
-        0 => Declaration::of_one_row(Kind::Smooth, first.interval, first.quota),
-        1 => Declaration::of_one_row(Kind::Uniform, first.interval, first.quota),
-        _ => {
-            let second = row_of(numbers, 4);
-            let third = row_of(numbers, 6);
-            let fourth = row_of(numbers, 8);
-            Declaration::of_rows(size(numbers[1]), [first, second, third, fourth])
+    for (_, input) in (0..turns).zip(inputs.iter().cycle()) {
+        match take(state, words, Units(*input)) {
+            Ok(next) => {
+                state = next;
+                sum = mix(sum, 0);
+            }
+            Err(why) => sum = mix_refusal(sum, why),
         }
     }
+    mix(mix(sum, u64::from(state.slot.0)), state.block.0)
 }
 
-fn size(number: u32) -> usize {
-    number as usize
-}
-
-fn row_of(numbers: &[u32], at: usize) -> DeclaredRow
-    requires { (at ≤ 8) × (length numbers.now ≡ 10) }
-{
-    DeclaredRow {
-        interval: Interval(numbers[at]),
-        quota: Quota(numbers[at + 1]),
-    }
-}
-
-fn mix_intake(sum: u64, intake: Intake) -> u64 {
-    match intake {
-        Intake::Taken => mix(sum, 0),
-        Intake::Refused(why) => mix_refusal(sum, why),
+// The numbers of a declaration: its kind (0 smooth, 1 uniform, else rows), how many rows it has, and four rows, of which smooth and uniform have the first.
+fn declaration_of(numbers: &[u32; 10]) -> Declaration {
+    let [kind, count, m, q, m2, q2, m3, q3, m4, q4] = *numbers;
+    match kind {
+        0 => Declaration::of_one_row(Kind::Smooth, Interval(m), Quota(q)),
+        1 => Declaration::of_one_row(Kind::Uniform, Interval(m), Quota(q)),
+        _ => Declaration::of_rows(
+            count as usize,
+            [
+                DeclaredRow::of(m, q),
+                DeclaredRow::of(m2, q2),
+                DeclaredRow::of(m3, q3),
+                DeclaredRow::of(m4, q4),
+            ],
+        ),
     }
 }

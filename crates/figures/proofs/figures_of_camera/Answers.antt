@@ -7,7 +7,5 @@ use Rattle.figures.proofs.figures_of_camera.Goals as goal
 pub figures_read-requires : goal.figures_read-requires
 unfolding table
 figures_read-requires c =
-    readable c.args.answer.verdict c.args.answer.path _ c.requires.0 (λ within inside. camera-lent c.args.answer.path.declaration _ (slots-few within) c.requires.1 c.requires.2)
-
-pub returns : goal.returns
-returns c = c.figures_read.ensures
+    let value = c.args.path.now in
+    (readable value _ c.requires.0 (λ inside. camera-lent value.declaration _ (slots-few c.requires.0) c.requires.1 c.requires.2), c.requires.3)

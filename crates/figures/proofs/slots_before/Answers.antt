@@ -1,36 +1,47 @@
 use mathlib.Core.Path.{◌≡◌, sym, ap, ◌∙◌}
 use Prim.Native.Nat.{◌-◌, ◌≤◌}
 use native.Mathlib.Omega.{arith}
+use lib.ListN.{length, take}
+use lib.Seq.{length-take-le, get_or-take}
 use Rattle.quantity.specs.Sums.{total}
 use Rattle.quantity.proofs.Sums.{total-zero, total-next}
+use Rattle.sheet.specs.Paths.{no_linked_operator}
+use Rattle.sheet.specs.declared.LinkedOperator.{LinkedOperator}
+use Rattle.operator.specs.Single.{words_used}
 use Rattle.figures.specs.Carried.{slots_before}
+use Rattle.figures.proofs.EachOperator.{operator-slots}
 use Rattle.figures.proofs.slots_before.Goals as goal
+use Rattle.figures.proofs.slots_before.Goals.{At-loop-linked, After-words_used-slots}
 use Rattle.figures.proofs.slots_before.Invariants.{slots_at}
-use Rattle.figures.proofs.slots_before.Goals.{After-slots_of}
 
-pub loop-k-init : goal.loop-k-init
-loop-k-init c = (omega arith, sym (total-zero _), omega arith)
+pub loop-linked-init : goal.loop-linked-init
+loop-linked-init c = (sym (total-zero _), omega arith)
 
--- one operator's slots
-few : (c : After-slots_of) → c.slots_of.result ≤ 64
-few c = omega (arith, c.slots_of.ensures, c.requires.1 c.loop-k.k (omega arith))
+-- as many operators are passed as there are before the last
+size : (c : At-loop-linked) → length (take c.saturating_sub.result c.args.path.now.operators) ≡ c.saturating_sub.result
+size c = length-take-le c.saturating_sub.result c.args.path.now.operators (omega (arith, c.saturating_sub.ensures, c.requires.few, c.requires.full))
 
-pub overflow_cast-slots : goal.overflow_cast-slots
-overflow_cast-slots c = omega (arith, few (goal.at.overflow_cast-slots c).After-slots_of)
+-- and the operator at hand is the path's, and has 64 slots at the most
+at-hand : (c : After-words_used-slots) → c.words_used-slots.result ≡ slots_at c.args.path.now c.loop-linked.linked-index
+at-hand c =
+    c.words_used-slots.ensures
+    ∙ ap (λ (linked : LinkedOperator). words_used linked.operator) (get_or-take c.saturating_sub.result c.args.path.now.operators c.loop-linked.linked-index no_linked_operator (omega (arith, size (goal.at.After-words_used-slots c).At-loop-linked)))
 
-pub overflow_add-slots : goal.overflow_add-slots
-overflow_add-slots c = omega (arith, few (goal.at.overflow_add-slots c).After-slots_of)
+few : (c : After-words_used-slots) → c.words_used-slots.result ≤ 64
+few c = rw (at-hand c) (operator-slots c.requires c.loop-linked.linked-index (omega (arith, size (goal.at.After-words_used-slots c).At-loop-linked, c.saturating_sub.ensures)))
 
-pub loop-k-preserved : goal.loop-k-preserved
-loop-k-preserved c =
-    let at = c.loop-k in
-    let path = c.args.path in
-    (omega arith, omega (arith, at.invariant.1, c.slots_of.ensures, total-next (slots_at path) at.k), omega (arith, few (goal.at.loop-k-preserved c).After-slots_of))
+pub loop-linked-preserved : goal.loop-linked-preserved
+loop-linked-preserved c =
+    let inside = (goal.at.loop-linked-preserved c).After-words_used-slots in
+    (omega (arith, at-hand inside, total-next (slots_at c.args.path.now) c.loop-linked.linked-index), omega (arith, few inside))
 
 pub returns : goal.returns
 unfolding slots_before
 returns c =
-    let at = c.loop-k in
-    let path = c.args.path in
-    let all : at.k ≡ path.count - 1 = omega arith in
-    (at.invariant.1 ∙ ap (total (slots_at path)) all, omega arith)
+    let all : c.loop-linked.linked-index ≡ c.args.path.now.count - 1 = omega (arith, size (goal.at.returns c).At-loop-linked, c.saturating_sub.ensures) in
+    (c.loop-linked.invariant.0 ∙ ap (total (slots_at c.args.path.now)) all, omega (arith, all, c.requires.few))
+
+pub overflow_add-slots : goal.overflow_add-slots
+overflow_add-slots c =
+    let inside = (goal.at.overflow_add-slots c).After-words_used-slots in
+    omega (arith, few inside, c.loop-linked.invariant.1, size (goal.at.After-words_used-slots inside).At-loop-linked, c.saturating_sub.ensures, c.requires.few)

@@ -1,50 +1,18 @@
-use Rattle.std.proofs.Common.{◌≡◌, ◌+◌, ◌-◌, ◌%◌, ◌≤◌, length, sym, refl, ap, ◌∙◌, arith}
-use Rattle.quantity.specs.Sums.{every}
-use Rattle.quantity.proofs.Sums.{every-at, every_holds}
-use Rattle.words.specs.Stored.{clear_at}
-use Rattle.words.proofs.ScanLaws.{row-clear, row-unclear}
+use Rattle.std.proofs.Common.{rules, ◌≡◌, ℕ, ◌+◌, ◌-◌, ◌%◌, length, take, drop, length-drop, sym, ap, ◌∙◌, arith}
+use Rattle.std.specs.Slice.Iter.{chunks_exact_rest}
+use Rattle.std.proofs.Math.Seq.{take-length}
+use Rattle.words.proofs.AppendLaws.{clear, rows-clear, first-clear, first-unclear}
 use Rattle.words.proofs.all_clear.Goals as goal
 
-pub returns-then-not-row_clear : goal.returns-then-not-row_clear
-unfolding every
-returns-then-not-row_clear c =
+pub returns-then-row_clear : goal.returns-then-row_clear
+returns-then-row_clear c =
     let words = c.args.words.now in
-    row-unclear words 0 256 refl (omega arith) c.if-words-lt-ROW.false (sym c.row_clear-2.ensures ∙ c.if-not-row_clear.true)
+    let from = (length words - 1) % 256 + 1 in
+    let rest = c.chunks_exact.ensures.rest ∙ ap (λ (n : ℕ). take n (drop from words)) (sym (length-drop from words)) ∙ take-length (drop from words) in
+    let left : length (chunks_exact_rest c.chunks_exact.result) % 256 ≡ 0 = omega (arith, ap length rest, length-drop from words, c.if-words-lt-ROW.false) in
+    let (rows, o, q, ran, same, ended) = c.all.ensures.ran in
+    rows-clear _ _ (λ row r q call. search rules) rows _ _ o q c.all.result c.chunks_exact.ensures.size left ran same ended
+    ∙ ap clear rest ∙ first-clear words from 256 (omega arith) (sym c.row_clear-2.ensures ∙ c.if-row_clear.true)
 
-pub loop-j-init : goal.loop-j-init
-unfolding every
-loop-j-init c =
-    let words = c.args.words.now in
-    let whole = c.if-words-lt-ROW.false in
-    let first = sym (row-clear words 0 256 refl (omega arith) whole) ∙ sym c.row_clear-2.ensures ∙ c.if-not-row_clear.false in (
-      omega (arith, whole),
-      omega (arith, whole),
-      every_holds (clear_at words) ((length words - 1) % 256 + 1) (λ k below. every-at (clear_at words) 256 first k (omega (arith, below))),
-    )
-
-pub slice_bounds-row_clear-end-in-loop-j : goal.slice_bounds-row_clear-end-in-loop-j
-slice_bounds-row_clear-end-in-loop-j c = omega (arith, c.loop-j.invariant.1, c.loop-j-test.true)
-
-pub returns-then-not-row_clear-2 : goal.returns-then-not-row_clear-2
-returns-then-not-row_clear-2 c =
-    let words = c.args.words.now in
-    let inside : c.loop-j.j + 256 ≤ length words = omega (arith, c.loop-j.invariant.1, c.loop-j-test.true) in
-    row-unclear words c.loop-j.j (c.loop-j.j + 256) c.loop-j.invariant.2 (omega arith) inside (sym c.row_clear-in-loop-j.ensures ∙ c.if-not-row_clear-2.true)
-
-pub loop-j-smaller : goal.loop-j-smaller
-loop-j-smaller c = omega (arith, c.loop-j-test.true)
-
-pub loop-j-preserved : goal.loop-j-preserved
-loop-j-preserved c =
-    let words = c.args.words.now in
-    let inside : c.loop-j.j + 256 ≤ length words = omega (arith, c.loop-j.invariant.1, c.loop-j-test.true) in (
-      inside,
-      omega (arith, c.loop-j.invariant.1),
-      sym (row-clear words c.loop-j.j (c.loop-j.j + 256) c.loop-j.invariant.2 (omega arith) inside) ∙ sym c.row_clear-in-loop-j.ensures ∙ c.if-not-row_clear-2.false,
-    )
-
-pub returns : goal.returns
-returns c =
-    let words = c.args.words.now in
-    let all : c.loop-j.j ≡ length words = omega (arith, c.loop-j.invariant.0, c.loop-j-test.false) in
-    sym c.loop-j.invariant.2 ∙ ap (every (clear_at words)) all
+pub returns-else-row_clear : goal.returns-else-row_clear
+returns-else-row_clear c = c.if-row_clear.false ∙ first-unclear c.args.words.now 256 (sym c.row_clear-2.ensures ∙ c.if-row_clear.false)

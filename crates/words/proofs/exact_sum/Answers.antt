@@ -7,4 +7,4 @@ use Rattle.words.proofs.exact_sum.Goals as goal
 pub returns-then-gathered-le-MOST_EXACT : goal.returns-then-gathered-le-MOST_EXACT
 returns-then-gathered-le-MOST_EXACT c =
     let (few, gathered) = c.requires in
-    ap (λ (g : Gathered). g.low) gathered ∙ low-exact c.args.words.now few (rw gathered at c.if-gathered-le-MOST_EXACT.true)
+    c.from.ensures ∙ ap (λ (g : Gathered). g.low) gathered ∙ low-exact c.args.words.now few (rw gathered at c.if-gathered-le-MOST_EXACT.true)

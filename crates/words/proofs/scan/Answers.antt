@@ -1,26 +1,27 @@
--- Of words that are not too many the two parts' answer is the definition's.
-use Rattle.std.proofs.Common.{◌≡◌, ℕ, Bool, true, sym, ap, ◌∙◌}
-use borrow.Author.Tests.{not-true, not-false}
-use Rattle.words.specs.declared.Scanned.{Scanned}
-use Rattle.words.proofs.ScanLaws.{too_many, misfit, all-fit}
+-- The words in two parts, those used and the rest.
+use Rattle.std.proofs.Common.{leb, sym, ap, ◌∙◌, ap₂}
+use Rattle.quantity.specs.Choice.{both}
+use Rattle.quantity.specs.Limits.{largest_amount}
+use Rattle.words.specs.declared.Gathered.{Gathered}
+use Rattle.words.proofs.ScanLaws.{unused-fits, unused-units, and-both, answered, scanned, too_many, scan_few}
 use Rattle.words.proofs.scan.Goals as goal
 
--- an answer by its parts
-answer : (r : Scanned) (units : ℕ) → r.fits ≡ true → r.units ≡ units → r ≡ record { fits = true; units = units }
-answer r units fits sum = ap (λ (fits : Bool). record { fits = fits; units = r.units }) fits ∙ ap (λ (n : ℕ). record { fits = true; units = n }) sum
-
 pub returns-then-words-gt-MOST_SCANNED : goal.returns-then-words-gt-MOST_SCANNED
-returns-then-words-gt-MOST_SCANNED c = c.misfit.ensures ∙ too_many _ _ c.if-words-gt-MOST_SCANNED.true
+returns-then-words-gt-MOST_SCANNED c = too_many _ _ c.if-words-gt-MOST_SCANNED.true
 
-pub returns-then-not-scanned : goal.returns-then-not-scanned
-returns-then-not-scanned c =
-    c.misfit-then-not-scanned.ensures
-    ∙ misfit c.args.used c.args.words.now c.if-words-gt-MOST_SCANNED.false
-    (sym c.scan_few-scanned.ensures.0 ∙ not-true _ c.if-not-scanned.true)
+pub returns-then-used-eq0 : goal.returns-then-used-eq0
+returns-then-used-eq0 c =
+    let words = c.args.words.now in
+    rw c.if-used-eq0.true
+    (c.then_some.ensures ∙ answered (c.all_clear.ensures ∙ unused-fits words) (unused-units words) ∙ sym (scan_few 0 words c.if-words-gt-MOST_SCANNED.false))
 
 pub returns : goal.returns
 returns c =
-    let scanned = c.scan_few-scanned in
-    let fits = not-false _ c.if-not-scanned.false in
-    answer _ _ fits (scanned.ensures.1 fits)
-    ∙ all-fit c.args.used c.args.words.now c.if-words-gt-MOST_SCANNED.false (sym scanned.ensures.0 ∙ fits)
+    let words = c.args.words.now in
+    let used = c.args.used in
+    let end = c.min.result in
+    let (first, rest) = c.split_at.result in
+    let small = c.from.ensures ∙ ap (λ (gathered : Gathered). gathered.join) c.gather-gathered.ensures in
+    let tested = and-both (leb c.from.result largest_amount) c.all_clear-2.result ∙ ap₂ both (ap (λ (join : _). leb join largest_amount) small) c.all_clear-2.ensures in
+    let (fits, units) = scanned words first.now rest.now used end c.min.ensures c.split_at.ensures.front c.split_at.ensures.back in
+    c.then_some-2.ensures ∙ answered (tested ∙ fits) (λ fit. c.exact_sum.ensures ∙ units fit) ∙ sym (scan_few used words c.if-words-gt-MOST_SCANNED.false)

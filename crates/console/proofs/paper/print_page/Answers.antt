@@ -4,7 +4,7 @@ use Rattle.page.proofs.Promise.{page-room}
 use Rattle.console.proofs.paper.print_page.Goals as goal
 
 pub slice_bounds-lent-end : goal.slice_bounds-lent-end
-slice_bounds-lent-end g c = omega (arith, page-room _ _ c.in-Length.length (sym c.in-Length.ensures.0))
+slice_bounds-lent-end g c = omega (arith, page-room _ _ c.in-Ok.length (sym c.in-Ok.ensures.0))
 
 pub slice_bounds-text-end : goal.slice_bounds-text-end
-slice_bounds-text-end g c = sym (length-take-le _ _ (omega (arith, page-room _ _ c.in-Length.length (sym c.in-Length.ensures.0))))
+slice_bounds-text-end g c = sym (length-take-le _ _ (omega (arith, page-room _ _ c.in-Ok.length (sym c.in-Ok.ensures.0))))

@@ -5,4 +5,4 @@ use Rattle.figures.proofs.carried.start.Goals as goal
 
 pub returns : goal.returns
 unfolding class_of
-returns c = rw (c.framed.ensures, c.wide.ensures) (refl, refl, refl)
+returns c = rw (c.framed.ensures, c.from.ensures) (refl, refl, refl)

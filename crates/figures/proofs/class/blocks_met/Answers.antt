@@ -13,7 +13,7 @@ returns c =
     let m = c.args.m.0 in
     let n = c.args.n.0 in
     let g = c.gcd-g in
-    (c.wide.ensures ∙ ap (λ (d : ℕ). (m - d + n - 1) / m + 1) g.ensures, omega (arith, c.wide.ensures, div-le_self (m - g.result + n - 1) m, c.requires))
+    (c.from.ensures ∙ ap (λ (d : ℕ). (m - d + n - 1) / m + 1) g.ensures, omega (arith, c.from.ensures, div-le_self (m - g.result + n - 1) m, c.requires))
 
 pub overflow_sub-m : goal.overflow_sub-m
 overflow_sub-m c = omega (arith, c.gcd-g.ensures, gcd-le c.args.m.0 c.args.n.0 c.requires.0)

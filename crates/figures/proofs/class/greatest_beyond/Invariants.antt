@@ -9,9 +9,6 @@ use Rattle.figures.proofs.class.greatest_beyond.Given as goal
 abbrev pub above : List ℕ → ℕ → ℕ → ℕ
 above bound rate n = get_or (0 ∷ bound) n 0 - n * rate
 
-abbrev pub invariant-loop-n : goal.invariant-loop-n
-invariant-loop-n l =
-    (l.n ≤ l.slots) × (l.left + l.n * l.rate ≡ 67_107_840) × (l.greatest ≡ 67_107_840 + greatest_of (above l.bound l.rate) l.n) × (l.greatest ≤ 134_215_680)
-
-abbrev pub decreases-loop-n : goal.decreases-loop-n
-decreases-loop-n l = l.slots - l.n
+abbrev pub invariant-loop-most : goal.invariant-loop-most
+invariant-loop-most l =
+    (l.left + l.most-index * l.rate ≡ 67_107_840) × (l.greatest ≡ 67_107_840 + greatest_of (above l.bound l.rate) l.most-index) × (l.greatest ≤ 134_215_680)

@@ -6,4 +6,4 @@ use Rattle.figures.proofs.class.row_carried.Goals as goal
 
 pub returns : goal.returns
 unfolding row_carried
-returns c = rw (c.over.ensures, units-over, c.wide.ensures, mul_comm c.args.rate.0 _)
+returns c = rw (c.over.ensures, units-over, c.from.ensures, mul_comm c.args.rate.0 _)

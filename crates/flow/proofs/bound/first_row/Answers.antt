@@ -4,11 +4,10 @@ use mathlib.Core.List.{List}
 use Prim.Native.Nat.{ℕ}
 use native.Mathlib.Omega.{arith}
 use lib.ListN.{length, set, length-set}
-use lib.Seq.{get_or-set_same}
 use Rattle.quantity.specs.Sums.{list_of}
 use Rattle.flow.specs.Rows.{Row, rows_most}
 use Rattle.flow.specs.Bounds.{pair_at, RowInside}
-use Rattle.flow.proofs.BoundTable.{sized_same, first-table}
+use Rattle.flow.proofs.BoundTable.{first-table}
 use Rattle.flow.proofs.bound.first_row.Goals as goal
 use Rattle.flow.proofs.bound.first_row.Goals.{Start}
 
@@ -24,16 +23,6 @@ module _ (start : Start) where
 
   inside : RowInside (rows 0)
   inside = start.requires.1 0 (omega arith)
-
-pub overflow_cast-interval : goal.overflow_cast-interval
-overflow_cast-interval c = omega (arith, (inside (goal.at.overflow_cast-interval c).Start).short)
-
-pub row_alone-requires : goal.row_alone-requires
-row_alone-requires c =
-    (sized_same (given (goal.at.row_alone-requires c).Start) _ (same (goal.at.row_alone-requires c).Start) c.requires.0, (inside (goal.at.row_alone-requires c).Start).large, (inside (goal.at.row_alone-requires c).Start).short, (inside (goal.at.row_alone-requires c).Start).few, get_or-set_same (given (goal.at.row_alone-requires c).Start) 0 0 0 (omega (arith, c.requires.0.long)))
-
-pub shape_of-table : goal.shape_of-table
-shape_of-table c = c.row_alone.auto.table ∙ same (goal.at.shape_of-table c).Start
 
 pub returns : goal.returns
 returns c =

@@ -26,12 +26,9 @@ module _ (start : Start) where
   table : Table given
   table = rows-table rows last start.requires.1 (length given) given start.requires.4 start.requires.0 (λ i less. start.requires.3 i (omega arith))
 
-pub overflow_cast-interval : goal.overflow_cast-interval
-overflow_cast-interval c = omega (arith, (inside (goal.at.overflow_cast-interval c).Start).short)
-
 pub with_row-requires : goal.with_row-requires
 with_row-requires c =
-    (table (goal.at.with_row-requires c).Start, (inside (goal.at.with_row-requires c).Start).large, (inside (goal.at.with_row-requires c).Start).short, (inside (goal.at.with_row-requires c).Start).few)
+    (table (goal.at.with_row-requires c).Start, ((inside (goal.at.with_row-requires c).Start).large, (inside (goal.at.with_row-requires c).Start).short, (inside (goal.at.with_row-requires c).Start).few))
 
 pub returns : goal.returns
 returns c =

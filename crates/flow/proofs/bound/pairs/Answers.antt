@@ -1,12 +1,7 @@
 -- Each of the four rows is handed over as it stands.
-use mathlib.Core.Path.{refl}
-use Prim.Native.Nat.{zero, suc}
-use native.Mathlib.Omega.{arith}
+use Rattle.std.proofs.Common.{rules, ◌≡◌, [], ◌∷◌, get_or}
+use Rattle.flow.specs.Declarations.{empty_row}
 use Rattle.flow.proofs.bound.pairs.Goals as goal
 
 pub returns : goal.returns
-returns c zero less = refl
-returns c (suc zero) less = refl
-returns c (suc (suc zero)) less = refl
-returns c (suc (suc (suc zero))) less = refl
-returns c (suc (suc (suc (suc i)))) less = absurd (omega arith)
+returns c i less = let made : get_or c.map.result i [] ≡ (get_or c.args.rows i empty_row).interval.0 ∷ (get_or c.args.rows i empty_row).quota.0 ∷ [] = let at = c.map.ensures.items.at i empty_row [] less in search rules in rw made

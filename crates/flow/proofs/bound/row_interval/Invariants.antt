@@ -8,8 +8,5 @@ use Rattle.flow.proofs.bound.row_interval.Given as goal
 
 abbrev pub invariant-loop-k : goal.invariant-loop-k
 invariant-loop-k l =
-    (l.k ≤ l.interval) × (length l.table ≡ length l.initial.table) × Remade l.initial.table l.table l.from (l.from + l.k) (λ j. min (entry l.initial.table j) (l.quota + entry l.initial.last (j - l.from)))
+    (length l.table ≡ length l.initial.table) × Remade l.initial.table l.table l.from (l.from + l.k) (λ j. min (entry l.initial.table j) (l.quota + entry l.initial.last (j - l.from)))
     × ((i : ℕ) → i < l.k → entry l.last i ≡ entry l.table (l.from + i)) × ((i : ℕ) → l.k ≤ i → entry l.last i ≡ entry l.initial.last i) × (length l.last ≡ 15)
-
-abbrev pub decreases-loop-k : goal.decreases-loop-k
-decreases-loop-k l = l.interval - l.k

@@ -1,61 +1,51 @@
--- Each way out by the test of the number, by that of the ledger and by the verdict on the sheet's figures.
-use Rattle.std.proofs.Common.{◌≡◌, ℕ, true, false, List, sym, ap, ◌∙◌}
-use Rattle.quantity.specs.Ranges.{in_range, path_number_range}
+-- Each way out by the test of the number, by that of the ledger and by the sheet's figures.
+use Rattle.std.proofs.Common.{◌≡◌, ℕ, is_some, Option, Ok, refl, sym, ap, ◌∙◌}
+use Rattle.std.proofs.lemmas.Result.{err_from_is_err_and}
+use Rattle.quantity.specs.Ranges.{path_number_range}
+use Rattle.quantity.proofs.Laws.{checked-told}
 use Rattle.sheet.specs.Sheets.{path_in}
-use Rattle.sheet.specs.declared.read.Verdict.{Verdict}
 use Rattle.figures.specs.Answers.{figures_of}
-use Rattle.figures.specs.declared.PathFigures.{PathFigures}
-use Rattle.ledger.specs.declared.Record.{Record}
-use Rattle.ledger.specs.Ledgers.{ledger_unusable}
-use Rattle.ledger.specs.Steps.{tested_of}
-use Rattle.ledger.proofs.Deciding.{number-inside, number-outside, tested-refuses}
-use Rattle.ledger.proofs.DecidingHold.{accepted-inside, accepted-path, accepted-delay, accepted-decidable, standing, holding-outside, holding-unusable, holding-refused, holding-standing}
+use Rattle.ledger.specs.declared.test.Standing.{Standing}
+use Rattle.ledger.specs.Steps.{appending_of}
+use Rattle.ledger.proofs.Deciding.{number-told}
+use Rattle.ledger.proofs.DecidingHold.{accepted-inside, accepted-path, accepted-delay, accepted-decidable, holding-outside, holding-unusable, holding-refused, holding-standing}
+use Rattle.ledger.proofs.Testing.{tested-err, tested-ok, found-some}
 use Rattle.ledger.proofs.holding.decide.Goals as goal
-use Rattle.ledger.proofs.holding.decide.Goals.{After-figures-answer, Else-not-tested, In-InRange}
 
--- the number that was checked
-checked : (c : In-InRange) → (in_range path_number_range c.args.number ≡ true) × (c.in-InRange.number.0 ≡ c.args.number)
-checked c = number-inside c.args.number c.checked.ensures c.in-InRange.is
+pub returns-in_default : goal.returns-in_default
+returns-in_default c = holding-outside c.args.ledger c.args.records.now c.args.number c.args.sheet.now ((checked-told path_number_range _ refl c.checked.ensures).outside c.in_default.is)
 
--- the ledger can be used
-usable : (c : Else-not-tested) (records : List Record) → c.args.tested ≡ tested_of c.args.ledger records c.args.number → ledger_unusable c.args.ledger records ≡ false
-usable c records of = sym (tested-refuses c.args.ledger records c.args.number of) ∙ c.if-not-tested.false
-
--- the verdict that was matched is that on the sheet's figures
-judged : (c : After-figures-answer) {verdict : Verdict} → c.figures-answer.result.verdict ≡ verdict → (figures_of c.args.sheet.now).verdict ≡ verdict
-judged c told = sym (ap (λ (answer : PathFigures). answer.verdict) c.figures-answer.ensures) ∙ told
-
-pub returns-then-not-tested : goal.returns-then-not-tested
-returns-then-not-tested c records of =
+pub returns-in_err-standing : goal.returns-in_err-standing
+returns-in_err-standing c =
     let args = c.args in
-    c.refused-then-not-tested.ensures
-    ∙ holding-unusable args.ledger records args.number args.sheet.now (checked (goal.at.returns-then-not-tested c).In-InRange).0 (sym (tested-refuses args.ledger records args.number of) ∙ c.if-not-tested.true)
+    let p = err_from_is_err_and c.from_residual.result c.from_residual.ensures.1 in
+    let (inside, same) = number-told c.args.number c.checked.ensures c.in-Some.is in
+    let (unusable, why) = tested-err args.ledger args.records.now c.in-Some.number.0 c.test.ensures c.in_err-standing.was in
+    rw (p.1, p.2, why) (holding-unusable args.ledger args.records.now c.in-Some.number.0 args.sheet.now inside unusable ∙ ap (λ (number : ℕ). appending_of args.ledger args.records.now number args.sheet.now) same)
+
+pub returns-in_err-planned : goal.returns-in_err-planned
+returns-in_err-planned c =
+    let args = c.args in
+    let p = err_from_is_err_and c.from_residual-in_err-planned.result c.from_residual-in_err-planned.ensures.1 in
+    let (inside, same) = number-told c.args.number c.checked.ensures c.in-Some.is in
+    let (usable, is) = tested-ok args.ledger args.records.now c.in-Some.number.0 c.test.ensures c.in_ok-standing.was in
+    rw (p.1, p.2)
+    (holding-refused args.ledger args.records.now c.in-Some.number.0 args.sheet.now inside usable (sym c.figures.ensures ∙ c.in_err-planned.was)
+    ∙ ap (λ (number : ℕ). appending_of args.ledger args.records.now number args.sheet.now) same)
 
 pub decide_standing-requires : goal.decide_standing-requires
 decide_standing-requires c =
-    let (records, of) = c.requires in
-    let accepted = judged (goal.at.decide_standing-requires c).After-figures-answer c.in-Accepted.is in
-    accepted-decidable c.args.sheet.now accepted c.figures-answer.ensures c.args.ledger records (usable (goal.at.decide_standing-requires c).Else-not-tested records of)
+    let (usable, is) = tested-ok c.args.ledger c.args.records.now c.in-Some.number.0 c.test.ensures c.in_ok-standing.was in
+    accepted-decidable c.args.sheet.now (sym c.figures.ensures ∙ c.in_ok-planned.was) c.args.ledger c.args.records.now usable
 
-pub returns-in-OutOfRange : goal.returns-in-OutOfRange
-returns-in-OutOfRange c records of =
+pub returns : goal.returns
+returns c =
     let args = c.args in
-    c.refused.ensures
-    ∙ holding-outside args.ledger records args.number args.sheet.now (number-outside args.number c.checked.ensures c.in-OutOfRange.is)
-
-pub returns-in-Refused : goal.returns-in-Refused
-returns-in-Refused c records of =
-    let args = c.args in
-    c.refused-in-Refused.ensures
-    ∙ holding-refused args.ledger records args.number args.sheet.now (checked (goal.at.returns-in-Refused c).In-InRange).0 (usable (goal.at.returns-in-Refused c).Else-not-tested records of) (judged (goal.at.returns-in-Refused c).After-figures-answer c.in-Refused.is)
-
-pub returns-in-Accepted : goal.returns-in-Accepted
-returns-in-Accepted c records of =
-    let args = c.args in
-    let (inside, same) = checked (goal.at.returns-in-Accepted c).In-InRange in
+    let (inside, same) = number-told c.args.number c.checked.ensures c.in-Some.is in
+    let (usable, is) = tested-ok args.ledger args.records.now c.in-Some.number.0 c.test.ensures c.in_ok-standing.was in
     let sheet = args.sheet.now in
-    let accepted = judged (goal.at.returns-in-Accepted c).After-figures-answer c.in-Accepted.is in
-    let answered = c.figures-answer.ensures in
-    c.decide_standing.ensures records (path_in sheet) (usable (goal.at.returns-in-Accepted c).Else-not-tested records of) (of ∙ ap (tested_of args.ledger records) (sym same)) (accepted-inside sheet accepted answered) (accepted-path sheet accepted answered) (accepted-delay sheet accepted answered)
-    ∙ ap (λ (number : ℕ). standing args.ledger records number (path_in sheet)) same
-    ∙ holding-standing args.ledger records args.number sheet inside (usable (goal.at.returns-in-Accepted c).Else-not-tested records of) accepted
+    let accepted : figures_of sheet ≡ Ok c.in_ok-planned.planned = sym c.figures.ensures ∙ c.in_ok-planned.was in
+    let known = c.is_some.ensures ∙ ap (λ (o : Option Standing). is_some o) is ∙ found-some args.ledger args.records.now c.in-Some.number.0 in
+    c.decide_standing.ensures args.records.now (path_in sheet) usable known (accepted-inside sheet accepted) (accepted-path sheet accepted) (accepted-delay sheet accepted)
+    ∙ holding-standing args.ledger args.records.now c.in-Some.number.0 sheet inside usable accepted
+    ∙ ap (λ (number : ℕ). appending_of args.ledger args.records.now number sheet) same

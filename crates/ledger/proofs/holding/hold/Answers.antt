@@ -1,19 +1,22 @@
--- What is decided is of what the test found. A place is given only where 64 records are lent, and with what is appended there the answer and the records are the call's.
-use Rattle.std.proofs.Common.{◌∙◌}
-use Rattle.ledger.proofs.Lent.{Appends, holds}
+-- What is decided is refused, or appended behind the records that stand.
+use Rattle.std.proofs.Common.{arith}
+use Rattle.std.proofs.lemmas.Result.{err_from_is_err_and}
+use Rattle.ledger.proofs.Lent.{hold-refused, hold-inside, hold-accepted}
 use Rattle.ledger.proofs.holding.hold.Goals as goal
-use Rattle.ledger.proofs.holding.hold.Goals.{After-decide-appending}
 
-decided : (c : After-decide-appending) → Appends c.args.ledger c.args.records.now c.args.number c.args.sheet.now c.decide-appending.result
-decided c = holds c.args.ledger c.args.records.now c.args.number c.args.sheet.now c.decide-appending.result (c.decide-appending.ensures c.args.records.now c.test-tested.ensures)
-
-pub decide-appending-requires : goal.decide-appending-requires
-decide-appending-requires c = (c.args.records.now, c.test-tested.ensures)
+pub returns-in_err-appending : goal.returns-in_err-appending
+returns-in_err-appending c =
+    let args = c.args in
+    let p = err_from_is_err_and c.from_residual.result c.from_residual.ensures.1 in
+    rw (p.1, p.2) (hold-refused args.ledger args.records.now args.number args.sheet.now c.decide.ensures c.in_err-appending.was)
 
 pub append-requires : goal.append-requires
-append-requires c = (decided (goal.at.append-requires c).After-decide-appending).1.0
+append-requires c =
+    let args = c.args in
+    let (sized, room) = hold-inside args.ledger args.records.now args.number args.sheet.now c.decide.ensures c.in_ok-appending.was in
+    (omega (arith, sized, room), room)
 
 pub returns : goal.returns
 returns c =
-    let (answer, rest) = decided (goal.at.returns c).After-decide-appending in
-    (answer, c.append.ensures ∙ rest.1)
+    let args = c.args in
+    rw c.append.ensures (hold-accepted args.ledger args.records.now args.number args.sheet.now c.decide.ensures c.in_ok-appending.was)

@@ -1,6 +1,7 @@
--- The quotient is ⌈Q/m⌉ as it is defined, of an interval of 1 or more and a quota that leaves room for the sum.
-use Rattle.std.proofs.Common.{sym, ap, subst, arith}
+-- The quotient is ⌈Q/m⌉ as it is defined, of an interval of 1 or more.
+use Rattle.std.proofs.Common.{sym, ap, ◌∙◌, subst, arith}
 use Rattle.quantity.specs.Rounding.{round_up}
+use Rattle.quantity.proofs.Rounding.{div-ceil}
 use Rattle.flow.specs.Rows.{Row}
 use Rattle.flow.specs.Bounds.{RowInside}
 use Rattle.flow.specs.Declarations.{row_of}
@@ -12,15 +13,11 @@ use Rattle.ledger.proofs.holding.reserved_by.Goals.{After-last_row-row}
 inside : (c : After-last_row-row) → RowInside (row_of c.last_row-row.result)
 inside c = subst RowInside (sym c.last_row-row.ensures) (last-inside _ c.requires)
 
-pub overflow_sub-result : goal.overflow_sub-result
-overflow_sub-result c = let row = inside (goal.at.overflow_sub-result c).After-last_row-row in omega (arith, row.large)
-
-pub overflow_add-result : goal.overflow_add-result
-overflow_add-result c = let row = inside (goal.at.overflow_add-result c).After-last_row-row in omega (arith, row.short, row.few)
-
-pub nonzero_div-result : goal.nonzero_div-result
-nonzero_div-result c = let row = inside (goal.at.nonzero_div-result c).After-last_row-row in omega (arith, row.large)
+pub div_ceil-requires : goal.div_ceil-requires
+div_ceil-requires c = let row = inside (goal.at.div_ceil-requires c).After-last_row-row in omega (arith, row.large)
 
 pub returns : goal.returns
-unfolding round_up
-returns c = let row = c.last_row-row.ensures in ap (λ (r : Row). round_up r.quota r.interval) row
+returns c =
+    let row = c.last_row-row.result in
+    let known = inside (goal.at.returns c).After-last_row-row in
+    c.div_ceil.ensures ∙ div-ceil row.quota.0 row.interval.0 known.large ∙ ap (λ (r : Row). round_up r.quota r.interval) c.last_row-row.ensures

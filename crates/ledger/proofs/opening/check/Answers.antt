@@ -1,6 +1,4 @@
-use Rattle.std.proofs.Common.{◌≡◌, false, ap, ◌∙◌, arith}
-use Rattle.ledger.specs.declared.Ledger.{Ledger}
-use Rattle.ledger.specs.declared.opening.Checked.{Checked}
+use Rattle.std.proofs.Common.{◌≡◌, arith}
 use Rattle.ledger.specs.Ledgers.{link_count}
 use Rattle.ledger.proofs.Deciding.{passed_first, passed-next, passed_none, passed-all}
 use Rattle.ledger.proofs.opening.check.Goals as goal
@@ -8,14 +6,12 @@ use Rattle.ledger.proofs.opening.check.Goals as goal
 pub loop-link-init : goal.loop-link-init
 loop-link-init c = passed_first c.args.capacities c.no_ledger-ledger.ensures
 
-pub returns-in-OutOfRange : goal.returns-in-OutOfRange
-returns-in-OutOfRange c =
-    ap {B = Checked} (λ (ledger : Ledger). record { fit = false; ledger = ledger }) c.no_ledger.ensures
-    ∙ passed_none c.args.capacities c.loop-link.invariant c.loop-link-test.true c.checked.ensures c.in-OutOfRange.is
+pub returns-in_err-capacity : goal.returns-in_err-capacity
+returns-in_err-capacity c = rw c.from_residual.ensures (passed_none c.args.capacities c.loop-link.invariant c.loop-link-test.true c.checked.ensures c.in_err-capacity.was)
 
 pub loop-link-preserved : goal.loop-link-preserved
 loop-link-preserved c =
-    passed-next c.args.capacities c.loop-link.invariant c.loop-link-test.true c.checked.ensures c.in-InRange.is
+    passed-next c.args.capacities c.loop-link.invariant c.loop-link-test.true c.checked.ensures c.in_ok-capacity.was
 
 pub returns : goal.returns
 returns c =

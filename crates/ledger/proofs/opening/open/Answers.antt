@@ -1,16 +1,22 @@
--- No more records are cleared than are lent, and with these cleared the answer and the records are the call's.
-use Rattle.std.proofs.Common.{refl, ◌∙◌}
-use Rattle.ledger.proofs.Lent.{Opens, opened}
+-- Each way out by the test of the records' number, and by that of the capacities; past both the records are cleared.
+use Rattle.std.proofs.Common.{ℕ, replicate, ◌∙◌, ap₂}
+use Rattle.std.proofs.lemmas.Result.{err_from_is_err_and}
+use Rattle.quantity.specs.declared.refusal.Refusal.TheVariants.{OutOfRange}
+use Rattle.ledger.specs.declared.Record.{Record}
+use Rattle.ledger.proofs.Answering.{ok_or-err, ok_or-ok}
+use Rattle.ledger.proofs.Lent.{open-unsized, open-outside, open-fit}
 use Rattle.ledger.proofs.opening.open.Goals as goal
-use Rattle.ledger.proofs.opening.open.Goals.{After-decide-clearing}
 
-decided : (c : After-decide-clearing) → Opens c.args.capacities c.args.records.now c.decide-clearing.result
-decided c = opened c.args.capacities c.args.records.now c.decide-clearing.result (c.decide-clearing.ensures c.args.records.now refl)
+pub returns-then-records-ne-RECORDS : goal.returns-then-records-ne-RECORDS
+returns-then-records-ne-RECORDS c = open-unsized c.args.capacities c.args.records.now c.if-records-ne-RECORDS.true
 
-pub fill-requires : goal.fill-requires
-fill-requires c = (decided (goal.at.fill-requires c).After-decide-clearing).1.0
+pub returns-in_err-ledger : goal.returns-in_err-ledger
+returns-in_err-ledger c =
+    let p = err_from_is_err_and c.from_residual.result c.from_residual.ensures.1 in
+    let (none, same) = ok_or-err (OutOfRange 0) c.check.result c.ok_or.ensures.value c.in_err-ledger.was in
+    rw (p.1, p.2, same) (open-outside c.args.capacities c.args.records.now c.if-records-ne-RECORDS.false c.check.ensures none)
 
 pub returns : goal.returns
 returns c =
-    let (answer, rest) = decided (goal.at.returns c).After-decide-clearing in
-    (answer, c.fill.ensures ∙ rest.1)
+    let (answer, cleared) = open-fit c.args.capacities c.args.records.now c.if-records-ne-RECORDS.false c.check.ensures (ok_or-ok (OutOfRange 0) c.check.result c.ok_or.ensures.value c.in_ok-ledger.was) in
+    (answer, c.fill.ensures.after (λ y same. same) ∙ ap₂ (λ (n : ℕ) (r : Record). replicate n r) c.if-records-ne-RECORDS.false c.no_record.ensures ∙ cleared)

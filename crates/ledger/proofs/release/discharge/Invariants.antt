@@ -1,7 +1,6 @@
 -- The totals of the links passed are without the record's share.
 use Rattle.std.proofs.Common.{◌-◌}
 use Rattle.quantity.specs.declared.Rate.{Rate}
-use Rattle.ledger.specs.Ledgers.{link_count}
 use Rattle.ledger.proofs.Reserving.{Charging}
 use Rattle.ledger.proofs.release.discharge.Given as goal
 
@@ -10,7 +9,4 @@ abbrev pub lessened : Rate → Rate → Rate
 lessened a b = record { 0 = a.0 - b.0 }
 
 abbrev pub invariant-loop-link : goal.invariant-loop-link
-invariant-loop-link l = Charging lessened l.initial.left l.gone l.left l.link
-
-abbrev pub decreases-loop-link : goal.decreases-loop-link
-decreases-loop-link l = link_count - l.link
+invariant-loop-link l = Charging lessened l.initial.total-items l.gone l.total-items l.link

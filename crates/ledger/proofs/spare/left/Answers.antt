@@ -5,6 +5,4 @@ use Rattle.ledger.proofs.Sparing.{left-wraps}
 use Rattle.ledger.proofs.spare.left.Goals as goal
 
 pub returns : goal.returns
-returns c =
-    let args = c.args in
-    ap {B = Rate} (λ (n : ℕ). record { 0 = n }) (left-wraps args.capacity.0 args.total.0 (omega arith) (omega arith) c.wrapping_sub_u32.ensures.value)
+returns c = ap {B = Rate} (λ (n : ℕ). record { 0 = n }) (left-wraps c.args.capacity.0 c.args.total.0 (omega arith) (omega arith))

@@ -1,39 +1,33 @@
 -- Each way out by the test of the links, and by that of the one asked about.
-use Rattle.std.proofs.Common.{◌≡◌, true, false, not, sym, ap, ◌∙◌, arith}
+use Rattle.std.proofs.Common.{◌≡◌, true, refl, ap, ◌∙◌, arith}
 use Rattle.quantity.specs.Ranges.{in_range, link_range}
-use Rattle.quantity.proofs.Laws.{le-largest}
-use Rattle.ledger.specs.Spare.{links_unusable, spare_of}
-use Rattle.ledger.proofs.Deciding.{link-inside, link-outside}
-use Rattle.ledger.proofs.Sparing.{spares-refuse, spare-unusable, spare-outside, spare-found}
+use Rattle.quantity.specs.declared.Link.{Link}
+use Rattle.quantity.proofs.Laws.{checked-told, le-largest}
+use Rattle.ledger.specs.Spare.{spare_of}
+use Rattle.ledger.proofs.Sparing.{spares-none, spares-some, spare-unusable, spare-outside, spare-found}
 use Rattle.ledger.proofs.spare.spare_rate.Goals as goal
-use Rattle.ledger.proofs.spare.spare_rate.Goals.{Else-not-spares, In-InRange}
+use Rattle.ledger.proofs.spare.spare_rate.Goals.{In-Some-checked}
 
--- the links were found to be usable
-usable : (c : Else-not-spares) → links_unusable c.args.ledger ≡ false
-usable c = sym (spares-refuse c.args.ledger c.spare_rates-spares.ensures) ∙ ap not c.if-not-spares.false
+-- the link that was checked
+checked : (c : In-Some-checked) → (in_range link_range c.in-Some-checked.link.0 ≡ true) × (c.in-Some-checked.link.0 ≡ c.args.link)
+checked c =
+    let (inside, same) = (checked-told link_range _ refl c.checked.ensures).within c.in-Some-checked.is in
+    let link = ap (λ (l : Link). l.0) same in
+    (ap (in_range link_range) link ∙ inside, link)
 
--- and the link in its range
-checked : (c : In-InRange) → (in_range link_range c.args.link ≡ true) × (c.in-InRange.link.0 ≡ c.args.link)
-checked c = link-inside c.args.link c.checked.ensures c.in-InRange.is
+pub returns-in_default : goal.returns-in_default
+returns-in_default c = spare-unusable c.args.ledger c.args.link (spares-none c.args.ledger c.spare_rates.ensures c.in_default.is)
 
-inside : (c : In-InRange) → in_range link_range c.in-InRange.link.0 ≡ true
-inside c = ap (in_range link_range) (checked c).1 ∙ (checked c).0
-
-pub returns-then-not-spares : goal.returns-then-not-spares
-returns-then-not-spares c =
-    let args = c.args in
-    c.refused.ensures ∙ spare-unusable args.ledger args.link (sym (spares-refuse args.ledger c.spare_rates-spares.ensures) ∙ ap not c.if-not-spares.true)
+pub returns-in_default-checked : goal.returns-in_default-checked
+returns-in_default-checked c =
+    let (usable, same) = spares-some c.args.ledger c.spare_rates.ensures c.in-Some.is in
+    spare-outside c.args.ledger c.args.link usable ((checked-told link_range _ refl c.checked.ensures).outside c.in_default-checked.is)
 
 pub bounds-spares-link : goal.bounds-spares-link
-bounds-spares-link c = omega (arith, le-largest link_range _ (inside (goal.at.bounds-spares-link c).In-InRange))
+bounds-spares-link c = omega (arith, le-largest link_range _ (checked (goal.at.bounds-spares-link c).In-Some-checked).0)
 
-pub returns-in-OutOfRange : goal.returns-in-OutOfRange
-returns-in-OutOfRange c =
-    let args = c.args in
-    c.refused-in-OutOfRange.ensures
-    ∙ spare-outside args.ledger args.link (usable (goal.at.returns-in-OutOfRange c).Else-not-spares) (link-outside args.link c.checked.ensures c.in-OutOfRange.is)
-
-pub returns-in-InRange : goal.returns-in-InRange
-returns-in-InRange c =
-    spare-found c.args.ledger _ (usable (goal.at.returns-in-InRange c).Else-not-spares) (inside (goal.at.returns-in-InRange c).In-InRange) c.spare_rates-spares.ensures
-    ∙ ap (spare_of c.args.ledger) (checked (goal.at.returns-in-InRange c).In-InRange).1
+pub returns : goal.returns
+returns c =
+    let (inside, link) = checked (goal.at.returns c).In-Some-checked in
+    let (usable, same) = spares-some c.args.ledger c.spare_rates.ensures c.in-Some.is in
+    spare-found c.args.ledger _ usable inside same ∙ ap (spare_of c.args.ledger) link

@@ -1,10 +1,7 @@
 -- The records passed are read, and the place is how many these are.
-use Rattle.std.proofs.Common.{◌≡◌, ◌-◌}
+use Rattle.std.proofs.Common.{◌≡◌}
 use Rattle.ledger.proofs.Reading.{Reading}
 use Rattle.ledger.proofs.test.test.Given as goal
 
 abbrev pub invariant-loop-j : goal.invariant-loop-j
-invariant-loop-j l = (l.place ≡ l.j) × Reading l.count l.records l.excess l.numbers l.rates l.links l.marks l.j
-
-abbrev pub decreases-loop-j : goal.decreases-loop-j
-decreases-loop-j l = 64 - l.j
+invariant-loop-j l = (l.place ≡ l.j) × Reading l.count l.records l.fit l.fields l.j

@@ -1,13 +1,14 @@
 -- By whether the input has a word.
-use Rattle.std.proofs.Common.{sym, ◌∙◌, le-ltb, lt-ltb}
+use Rattle.std.proofs.Common.{sym, ◌∙◌, ap}
+use Rattle.std.specs.Option.{is_some}
 use Rattle.quantity.proofs.Laws.{pick_true, pick-false}
 use Rattle.meter.specs.Parts.{block_behind}
 use Rattle.meter.proofs.parts.block_behind.Goals as goal
 
-pub returns-then-awaited-lt-WORDS : goal.returns-then-awaited-lt-WORDS
+pub returns-in-Some : goal.returns-in-Some
 unfolding block_behind
-returns-then-awaited-lt-WORDS c = sym (pick_true _ _ _ (lt-ltb _ _ c.if-awaited-lt-WORDS.true))
+returns-in-Some c = sym (pick_true _ _ _ (ap is_some c.in-Some.is))
 
-pub returns : goal.returns
+pub returns-in-None : goal.returns-in-None
 unfolding block_behind
-returns c = c.plus.ensures ∙ sym (pick-false _ _ _ (le-ltb _ _ c.if-awaited-lt-WORDS.false))
+returns-in-None c = c.plus.ensures ∙ sym (pick-false _ _ _ (ap is_some c.in-None.is))

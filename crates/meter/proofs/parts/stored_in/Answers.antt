@@ -1,60 +1,42 @@
--- Each test that fails makes the meter unusable; where all pass, it is usable, and the sum is the scan's.
-use Rattle.std.proofs.Common.{◌≡◌, ℕ, true, sym, ap, ◌∙◌, ap₂, arith, eq-eqb, ne_eqb}
-use borrow.Author.Tests.{not-true, not-false}
+-- Each test that fails makes the meter unusable; where all pass, the words decide, and the sum is the scan's.
+use Rattle.std.proofs.Common.{◌≡◌, ℕ, Bool, true, false, Some, None, not, refl, sym, ap, ◌∙◌, arith, eq-eqb, ne_eqb}
+use Rattle.quantity.specs.Choice.{pick}
 use Rattle.quantity.specs.Sums.{total, every}
-use Rattle.quantity.proofs.Laws.{pick_true, pick-false}
+use Rattle.quantity.proofs.Laws.{pick_true}
 use Rattle.words.specs.Stored.{word_at, word_fits}
+use Rattle.words.specs.Scanning.{scanned_of}
+use Rattle.words.proofs.ScanLaws.{scan_few}
 use Rattle.meter.specs.Meter.{meter_word_count, ring_length}
-use Rattle.words.specs.declared.Scanned.{Scanned}
-use Rattle.meter.specs.declared.parts.Stored.{Stored}
-use Rattle.words.proofs.ScanLaws.{scan-fits, scan-units}
-use Rattle.meter.proofs.UsableMeter.{meter-usable, wrong-length, no-slot-left, unused-set, block-misfit, word-misfit, block-unused}
+use Rattle.meter.proofs.UsableMeter.{wrong-length, no-slot-left, unused-set, block-misfit, block-unused, words-decide}
 use Rattle.meter.proofs.parts.stored_in.Goals as goal
-use Rattle.meter.proofs.parts.stored_in.Goals.{After-scan-scanned}
+use Rattle.meter.proofs.parts.stored_in.Goals.{then-words-ne-WORDS-via-then-words-ne-WORDS, then-words-ne-WORDS-via-else-words-ne-WORDS+then-state-gt-LAST, then-words-ne-WORDS-via-else-words-ne-WORDS+else-state-gt-LAST+then-not-unused_clear, then-words-ne-WORDS-via-else-words-ne-WORDS+else-state-gt-LAST+else-not-unused_clear+then-state-ne0}
 
--- what the scan answers, of the state and the words that came in
-words-tested : (c : After-scan-scanned) →
-    every (word_fits (ring_length c.args.state.declaration) c.args.words.now) meter_word_count ≡ c.scan-scanned.result.fits
-words-tested c =
-    let words = c.args.words.now in
-    let sized = c.if-words-ne-WORDS.false in
-    sym (ap (λ (r : Scanned). r.fits) c.scan-scanned.ensures ∙ scan-fits _ words (omega (arith, sized)) ∙ ap₂ (λ (used count : ℕ). every (word_fits used words) count) c.ring_length.ensures sized)
-
-words-summed : (c : After-scan-scanned) →
-    let words = c.args.words.now in
-    c.scan-scanned.result.fits ≡ true → c.scan-scanned.result.units ≡ total (word_at words) meter_word_count
-words-summed c fits =
-    let words = c.args.words.now in
-    let sized = c.if-words-ne-WORDS.false in
-    ap (λ (r : Scanned). r.units) c.scan-scanned.ensures
-    ∙ scan-units _ words (omega (arith, sized)) (sym (ap (λ (r : Scanned). r.fits) c.scan-scanned.ensures) ∙ fits)
-    ∙ ap (total (word_at words)) sized
+pick-not : {A : Type 0} (t : Bool) (a b : A) → pick t a b ≡ pick (not t) b a
+pick-not true a b = refl
+pick-not false a b = refl
 
 pub returns-then-words-ne-WORDS : goal.returns-then-words-ne-WORDS
-returns-then-words-ne-WORDS c = sym (pick_true _ _ _ (wrong-length _ _ c.if-words-ne-WORDS.true))
+returns-then-words-ne-WORDS c =
+    elim c.then-words-ne-WORDS.branch [
+      | then-words-ne-WORDS-via-then-words-ne-WORDS w ↦ sym (pick_true _ _ _ (wrong-length _ _ w.if-words-ne-WORDS.true))
+      | then-words-ne-WORDS-via-else-words-ne-WORDS+then-state-gt-LAST w ↦ sym (pick_true _ _ _ (no-slot-left _ _ w.if-state-gt-LAST.true))
+      | then-words-ne-WORDS-via-else-words-ne-WORDS+else-state-gt-LAST+then-not-unused_clear w ↦
+          sym (pick_true _ _ _ (unused-set _ _ (sym w.unused_clear.ensures ∙ w.if-not-unused_clear.true)))
+      | then-words-ne-WORDS-via-else-words-ne-WORDS+else-state-gt-LAST+else-not-unused_clear+then-state-ne0 w ↦
+          sym (pick_true _ _ _ (block-misfit _ _ (block-unused _ c.requires _ ∙ ne_eqb _ _ w.if-state-ne0.true)))
+    ]
 
-pub returns-then-state-gt-LAST : goal.returns-then-state-gt-LAST
-returns-then-state-gt-LAST c = sym (pick_true _ _ _ (no-slot-left _ _ c.if-state-gt-LAST.true))
-
-pub returns-then-not-unused_clear : goal.returns-then-not-unused_clear
-returns-then-not-unused_clear c = sym (pick_true _ _ _ (unused-set _ _ (sym c.unused_clear.ensures ∙ c.if-not-unused_clear.true)))
-
-pub returns-then-state-ne0 : goal.returns-then-state-ne0
-returns-then-state-ne0 c = sym (pick_true _ _ _ (block-misfit _ _ (block-unused _ c.requires _ ∙ ne_eqb _ _ c.if-state-ne0.true)))
-
-pub returns-then-not-scanned : goal.returns-then-not-scanned
-returns-then-not-scanned c = sym (pick_true _ _ _ (word-misfit _ _ (words-tested (goal.at.returns-then-not-scanned c).After-scan-scanned ∙ not-true _ c.if-not-scanned.true)))
-
+-- the scan's answer, of so many words
 pub returns : goal.returns
 returns c =
-    ap Stored.Words (words-summed (goal.at.returns c).After-scan-scanned (not-false _ c.if-not-scanned.false))
-    ∙ sym
-    (pick-false _ _ _
-    (meter-usable _ _
-    record {
-      sized = c.if-words-ne-WORDS.false;
-      slot_left = c.if-state-gt-LAST.false;
-      clear = sym c.unused_clear.ensures ∙ c.if-not-unused_clear.false;
-      block_fits = block-unused _ c.requires _ ∙ eq-eqb _ _ c.if-state-ne0.false;
-      words_fit = words-tested (goal.at.returns c).After-scan-scanned ∙ not-false _ c.if-not-scanned.false;
-    }))
+    let state = c.args.state in
+    let words = c.args.words.now in
+    let sized = c.if-words-ne-WORDS.false in
+    let ring = ring_length state.declaration in
+    let decide = words-decide state words sized c.if-state-gt-LAST.false (sym c.unused_clear.ensures ∙ c.if-not-unused_clear.false) (block-unused _ c.requires _ ∙ eq-eqb _ _ c.if-state-ne0.false) in
+    c.scan.ensures
+    ∙ ap (λ (used : ℕ). scanned_of used words) c.ring_length.ensures
+    ∙ scan_few ring words (omega (arith, sized))
+    ∙ ap (λ (n : ℕ). pick (every (word_fits ring words) n) (Some (total (word_at words) n)) None) sized
+    ∙ pick-not (every (word_fits ring words) meter_word_count) (Some (total (word_at words) meter_word_count)) None
+    ∙ ap (λ (t : Bool). pick t None (Some (total (word_at words) meter_word_count))) (sym decide)

@@ -1,4 +1,6 @@
--- Each variant in turn.
+-- A filter's h, and that no other operator has one.
+use Rattle.std.proofs.Common.{arith}
+use Rattle.std.proofs.lemmas.Grind.{common_steps}
 use Rattle.operator.specs.Held.{keeps}
 use Rattle.operator.specs.Limiter.{limiter_after}
 use Rattle.operator.specs.Compactor.{compactor_after}
@@ -9,21 +11,9 @@ use Rattle.operator.specs.Operators.{held_after}
 use Rattle.operator.proofs.parts.beside_after.Goals as goal
 
 pub returns-in-Filter : goal.returns-in-Filter
-unfolding held_after limiter_after compactor_after expander_after filter_after delayer_after beside_after keeps
+unfolding held_after filter_after beside_after
 returns-in-Filter c x same s = rw (c.in-Filter.is, same) c.limited.ensures
 
-pub returns-in-Limiter : goal.returns-in-Limiter
-unfolding held_after limiter_after compactor_after expander_after filter_after delayer_after beside_after keeps
-returns-in-Limiter c x same s = rw c.in-Limiter.is
-
-pub returns-in-Compactor : goal.returns-in-Compactor
-unfolding held_after limiter_after compactor_after expander_after filter_after delayer_after beside_after keeps
-returns-in-Compactor c x same s = rw c.in-Compactor.is
-
-pub returns-in-Expander : goal.returns-in-Expander
-unfolding held_after limiter_after compactor_after expander_after filter_after delayer_after beside_after keeps
-returns-in-Expander c x same s = rw c.in-Expander.is
-
-pub returns-in-Delayer : goal.returns-in-Delayer
-unfolding held_after limiter_after compactor_after expander_after filter_after delayer_after beside_after keeps
-returns-in-Delayer c x same s = rw c.in-Delayer.is
+pub returns-in_default : goal.returns-in_default
+unfolding held_after limiter_after compactor_after expander_after delayer_after keeps
+returns-in_default c x same s = grind (arith, common_steps)

@@ -32,13 +32,10 @@ pub least-low-requires : goal.least-low-requires
 least-low-requires c =
     let known = tested (goal.at.least-low-requires c).Else-undecidable in record { operates = (inside (goal.at.least-low-requires c).Else-not-number_in_range, known.fits.sized, known.fits.slot_left); amounts_within = (known.fits.first_le, known.fits.second_le, known.input_le) }
 
-pub returns-then-less-choice : goal.returns-then-less-choice
-returns-then-less-choice c =
+pub returns-then-saturating_sub-choice : goal.returns-then-saturating_sub-choice
+returns-then-saturating_sub-choice c =
     let low = c.least-low.ensures.value in
-    decided-above _ _ _ _ _ (passed (goal.at.returns-then-less-choice c).Else-undecidable) (inside (goal.at.returns-then-less-choice c).Else-not-number_in_range) _ _ low (c.greatest.ensures _ _ _ low refl) (omega (arith, c.less.ensures))
-
-pub overflow_add-output : goal.overflow_add-output
-overflow_add-output c = omega (arith, c.least-low.ensures.upper_bound, tested (goal.at.overflow_add-output c).Else-undecidable)
+    decided-above _ _ _ _ _ (passed (goal.at.returns-then-saturating_sub-choice c).Else-undecidable) (inside (goal.at.returns-then-saturating_sub-choice c).Else-not-number_in_range) _ _ low (c.greatest.ensures _ _ _ low refl) (omega (arith, c.saturating_sub.ensures))
 
 pub beside_after-requires : goal.beside_after-requires
 beside_after-requires c = let known = tested (goal.at.beside_after-requires c).Else-undecidable in (known.fits.second_le, known.input_le)
@@ -47,4 +44,4 @@ pub returns : goal.returns
 returns c =
     let low = c.least-low.ensures.value in
     decided-sends _ _ _ _ _ (passed (goal.at.returns c).Else-undecidable) (inside (goal.at.returns c).Else-not-number_in_range) _ _ low (c.greatest.ensures _ _ _ low refl)
-    (omega (arith, c.less.ensures, c.if-less-choice.false)) _ _ c.less-2.ensures (c.beside_after.ensures _ refl)
+    (omega (arith, c.saturating_sub.ensures, c.if-saturating_sub-choice.false)) _ _ c.saturating_sub-2.ensures (c.beside_after.ensures _ refl)

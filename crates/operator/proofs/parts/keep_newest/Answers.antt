@@ -1,51 +1,59 @@
-use Rattle.std.proofs.Common.{◌≡◌, ℕ, ◌-◌, min, set, sym, refl, ◌∙◌, ap₂, add-one, arith, length-set, get_or-set_other, get_or-set_same, below_none, below_more}
+-- A word at a time: what stays of it is what the younger ones leave room for. The words behind are those of the slice's rest.
+use Rattle.std.proofs.Common.{◌≡◌, ℕ, ◌+◌, ◌-◌, ◌<◌, ◌≤◌, zero, suc, min, List, length, take, drop, set, sym, refl, ap, ◌∙◌, ap₂, add-one, arith, length-take-le, get_or-take, get_or-drop, get_or-set_other, get_or-set_same, below_none, below_more}
+use Rattle.std.proofs.lemmas.List.{get_or_append_left, get_or-append_right}
 use Rattle.quantity.specs.Sums.{total}
 use Rattle.quantity.proofs.Sums.{total-zero, total-next, total-same}
 use Rattle.operator.specs.Held.{Held}
 use Rattle.operator.specs.Delayer.{of_age}
 use Rattle.words.specs.Stored.{word_at}
-use Rattle.operator.proofs.SingleLaws.{of-age-same}
 use Rattle.operator.proofs.parts.keep_newest.Goals as goal
 use Rattle.operator.proofs.parts.keep_newest.Invariants.{aged}
 
-pub loop-age-init : goal.loop-age-init
+-- the ages of the first words are those of all
+aged-same : (x : Held) (words : List ℕ) (count input a : ℕ) → x.past ≡ word_at words → a ≤ count → of_age x input a ≡ aged (take count words) input a
 unfolding of_age
-loop-age-init c =
-    let start = c.args in
-    (refl, omega arith, below_none _, λ k h. refl, refl, omega (arith, total-zero (aged start.words.now start.input)))
+aged-same x words count input zero same within = refl
+aged-same x words count input (suc j) same within = ap (λ (past : ℕ → ℕ). past j) same ∙ sym (get_or-take count words j 0 (omega arith))
 
-pub overflow_cast-old : goal.overflow_cast-old
-overflow_cast-old c = omega (arith, c.slice_known-in-loop-age-1.given c.loop-age.age)
-
-pub loop-age-preserved : goal.loop-age-preserved
+pub loop-word-init : goal.loop-word-init
 unfolding of_age
-loop-age-preserved c =
-    let turn = c.loop-age in
+loop-word-init c = record {
+  kept_below = below_none _;
+  same_behind = λ k h. refl;
+  arriving = refl;
+  room = omega (arith, total-zero (aged (take c.args.count c.args.words.now) c.args.input));
+}
+
+pub loop-word-preserved : goal.loop-word-preserved
+unfolding of_age
+loop-word-preserved c =
+    let turn = c.loop-word in
     let inv = turn.invariant in
-    let start = c.args in
-    let stays = c.smaller-stays.result in (
-      simp length-set inv.0,
-      omega arith,
-      below_more (λ (k : ℕ). word_at (set turn.words turn.age stays) k ≡ min (aged start.words.now start.input k) (start.kept - total (aged start.words.now start.input) k)) turn.age
-          (λ k less. get_or-set_other turn.words turn.age k stays 0 (λ e. omega arith) ∙ inv.2 k less)
-          (get_or-set_same turn.words turn.age stays 0 (omega arith) ∙ c.smaller-stays.ensures ∙ ap₂ min inv.4 inv.5),
-      (λ k more. get_or-set_other turn.words turn.age k stays 0 (λ e. omega arith) ∙ inv.3 k (omega arith)),
-      rw add-one (inv.3 turn.age (omega arith)),
-      omega (arith, total-next (aged start.words.now start.input) turn.age, c.smaller-stays.ensures),
-    )
-
-pub shape_of-words : goal.shape_of-words
-shape_of-words c = c.loop-age.invariant.0
+    let now = turn.word-items in
+    let at = turn.word-index in
+    let first = take c.args.count c.args.words.now in
+    let stays = c.min-stays.result in
+    let inside : at < length now = omega arith in
+    record {
+      kept_below = below_more (λ (k : ℕ). word_at (set now at stays) k ≡ min (aged first c.args.input k) (c.args.kept - total (aged first c.args.input) k)) at
+          (λ k less. get_or-set_other now at k stays 0 (λ e. omega arith) ∙ inv.kept_below k less)
+          (get_or-set_same now at stays 0 inside ∙ c.min-stays.ensures ∙ ap₂ min inv.arriving inv.room);
+      same_behind = λ k more. get_or-set_other now at k stays 0 (λ e. omega arith) ∙ inv.same_behind k (omega arith);
+      arriving = c.from-old.ensures ∙ rw add-one (inv.same_behind at (omega arith));
+      room = omega (arith, inv.room, inv.arriving, total-next (aged first c.args.input) at, c.min-stays.ensures);
+    }
 
 pub returns : goal.returns
 returns c =
-    let inv = c.loop-age.invariant in
-    let start = c.args in
-    let same : (x : Held) → x.past ≡ word_at start.words.now → (a : ℕ) → of_age x start.input a ≡ aged start.words.now start.input a = λ x e a.
-    of-age-same x _ start.input a e
-    in record {
-      kept_below = (λ x e a less.
-          inv.2 a (omega arith)
-          ∙ sym (ap₂ (λ (n t : ℕ). min n (start.kept - t)) (same x e a) (total-same _ _ a (λ k h. same x e k))));
-      same_behind = λ a more. inv.3 a (omega arith);
+    let a = c.args in
+    let inv = c.loop-word.invariant in
+    let now = c.loop-word.word-items in
+    let rest = drop a.count a.words.now in
+    let size : length now ≡ a.count = omega (arith, length-take-le a.count a.words.now c.requires.0) in
+    record {
+      kept_below = λ x past k less.
+          get_or_append_left now rest 0 k (omega arith)
+          ∙ inv.kept_below k (omega arith)
+          ∙ sym (ap₂ (λ (n t : ℕ). min n (a.kept - t)) (aged-same x a.words.now a.count a.input k past (omega arith)) (total-same _ _ k (λ j below. aged-same x a.words.now a.count a.input j past (omega arith))));
+      same_behind = λ k more. get_or-append_right now rest a.count k 0 size more ∙ get_or-drop a.count a.words.now (k - a.count) 0 ∙ ap (word_at a.words.now) (let e : a.count + (k - a.count) ≡ k = omega arith in e);
     }

@@ -1,5 +1,5 @@
 -- Each variant in turn; an interval and a delay are 1 or more, and a delay is at most the 64 words.
-use Rattle.std.proofs.Common.{◌-◌, sym, ap, ◌∙◌, arith}
+use Rattle.std.proofs.Common.{◌-◌, min, sym, ap, ◌∙◌, arith}
 use Rattle.quantity.specs.Ranges.{interval_range, delay_range}
 use Rattle.quantity.proofs.Laws.{least-le, le-largest}
 use Rattle.operator.specs.Limiter.{limiter_least}
@@ -30,12 +30,9 @@ bounds-words-oldest c =
     let inside = sym (ap number_in_range c.in-Delayer.is) ∙ c.requires.operates.0 in
     omega (arith, least-le delay_range _ inside, le-largest delay_range _ inside)
 
-pub overflow_cast-result : goal.overflow_cast-result
-overflow_cast-result c = omega (arith, c.shared_slice_known-in-Delayer-1.given (c.in-Delayer.delay.0 - 1))
-
 pub returns-in-Limiter : goal.returns-in-Limiter
 unfolding least_output limiter_least compactor_least expander_least filter_least beside_after delayer_least
-returns-in-Limiter c = record { value = rw c.in-Limiter.is c.limiter_sends.ensures; upper_bound = omega (arith, c.limiter_sends.ensures) }
+returns-in-Limiter c = record { value = rw c.in-Limiter.is (c.min.ensures ∙ ap (min _) c.from.ensures); upper_bound = omega (arith, c.min.ensures) }
 
 pub returns-in-Compactor : goal.returns-in-Compactor
 unfolding least_output limiter_least compactor_least expander_least filter_least beside_after delayer_least
@@ -47,9 +44,9 @@ returns-in-Expander c = record { value = rw c.in-Expander.is c.expander_least.en
 
 pub returns-in-Filter : goal.returns-in-Filter
 unfolding least_output limiter_least compactor_least expander_least filter_least beside_after delayer_least
-returns-in-Filter c = record { value = rw c.in-Filter.is (omega (arith, c.less.ensures, c.limited.ensures)); upper_bound = omega (arith, c.less.ensures) }
+returns-in-Filter c = record { value = rw c.in-Filter.is (omega (arith, c.saturating_sub.ensures, c.limited.ensures)); upper_bound = omega (arith, c.saturating_sub.ensures) }
 
 pub returns-in-Delayer : goal.returns-in-Delayer
 unfolding least_output limiter_least compactor_least expander_least filter_least beside_after delayer_least number_in_range
 returns-in-Delayer c =
-    let inside = sym (ap number_in_range c.in-Delayer.is) ∙ c.requires.operates.0 in record { value = rw c.in-Delayer.is (sym (of-age-past _ _ _ (least-le delay_range _ inside))); upper_bound = omega (arith, c.shared_slice_known-in-Delayer-1.given (c.in-Delayer.delay.0 - 1)) }
+    let inside = sym (ap number_in_range c.in-Delayer.is) ∙ c.requires.operates.0 in record { value = rw c.in-Delayer.is (c.from-in-Delayer.ensures ∙ sym (of-age-past _ _ _ (least-le delay_range _ inside))); upper_bound = omega (arith, c.from-in-Delayer.ensures, c.type_inv.words (c.in-Delayer.delay.0 - 1)) }

@@ -1,5 +1,5 @@
 -- The tests in turn, and then section 3's interval of a delayer, by its totals.
-use Rattle.std.proofs.Common.{◌≡◌, ℕ, ◌+◌, ◌-◌, ◌%◌, ◌≤◌, Bool, true, false, List, sym, ap, ◌∙◌, ap₂, mod-lt, arith}
+use Rattle.std.proofs.Common.{◌≡◌, ℕ, ◌+◌, ◌-◌, ◌%◌, ◌≤◌, Bool, true, false, List, sym, ap, ◌∙◌, ap₂, mod-lt, arith, Ok}
 use borrow.Author.Tests.{not-true, not-false}
 use Rattle.quantity.specs.Limits.{largest_amount}
 use Rattle.quantity.specs.Ranges.{in_range, delay_range}
@@ -11,10 +11,9 @@ use Rattle.operator.specs.Single.{words_used, uses_held}
 use Rattle.operator.specs.Ring.{ring_held, ring_recent, path_holds, path_least, path_greatest, path_unusable, storable, path_advanced, path_unready}
 use Rattle.operator.specs.declared.Operator.{Operator}
 use Rattle.operator.specs.declared.ring.PathOperator.{PathOperator}
-use Rattle.operator.specs.declared.ring.Advanced.{Advanced}
 use Rattle.operator.proofs.RingLaws.{place-ring, ring-held-le, unready-unusable, unready-outside, is-ready, advanced-unready, least-ring, there-ring, advanced-above, advanced-sends, advanced-ring}
 use Rattle.operator.proofs.ring.advance_delayer.Goals as goal
-use Rattle.operator.proofs.ring.advance_delayer.Goals.{After-less-low, After-total_less-held, Else-not-delayer_fits, Else-not-in_range}
+use Rattle.operator.proofs.ring.advance_delayer.Goals.{After-from-held, After-saturating_sub-low, Else-not-delayer_fits, Else-not-in_range}
 
 -- of an operator that is a delayer
 ring : {op : Operator} {delay : Delay} → op ≡ Operator.Delayer delay → uses_held op ≡ false
@@ -43,35 +42,35 @@ usable c = not-true _ (sym c.delayer_fits.ensures ∙ c.if-not-delayer_fits.fals
 ready : (c : Else-not-delayer_fits) → let a = c.args in path_unready a.state a.words.now a.input ≡ false
 unfolding number_in_range
 ready c =
-    is-ready _ _ _ (usable c) (ap number_in_range c.requires.3 ∙ (sym c.in_range.ensures ∙ c.if-not-in_range.false)) c.requires.2
+    is-ready _ _ _ (usable c) (ap number_in_range c.requires.2 ∙ (sym c.in_range.ensures ∙ c.if-not-in_range.false)) c.requires.1
 
 -- what it holds, by its totals
-held_same : (c : After-total_less-held) → c.total_less-held.result ≡ ring_held c.args.state
+held_same : (c : After-from-held) → c.from-held.result ≡ ring_held c.args.state
 unfolding ring_held
-held_same c = c.total_less-held.ensures
+held_same c = c.from-held.ensures ∙ c.total_less.ensures
 
-held-le : (c : After-total_less-held) → c.total_less-held.result ≤ largest_amount
-held-le c = omega (arith, held_same c, ring-held-le _ _ (ring c.requires.3) ((not-true _ (sym c.delayer_fits.ensures ∙ c.if-not-delayer_fits.false))))
+held-le : (c : After-from-held) → c.from-held.result ≤ largest_amount
+held-le c = omega (arith, held_same c, ring-held-le _ _ (ring c.requires.2) ((not-true _ (sym c.delayer_fits.ensures ∙ c.if-not-delayer_fits.false))))
 
-low_same : (c : After-less-low) → let a = c.args in c.less-low.result ≡ path_least a.state a.words.now a.input
+low_same : (c : After-saturating_sub-low) → let a = c.args in c.saturating_sub-low.result ≡ path_least a.state a.words.now a.input
 unfolding ring_recent ring_held
 low_same c =
-    let named = c.requires.3 in
-    c.less-low.ensures
-    ∙ ap₂ (λ (b n : ℕ). b - n) c.total_less-held.ensures c.recent.ensures
+    let named = c.requires.2 in
+    c.saturating_sub-low.ensures
+    ∙ ap₂ (λ (b n : ℕ). b - n) (c.from-held.ensures ∙ c.total_less.ensures) (c.from-recent.ensures ∙ c.total_less-2.ensures)
     ∙ least-ring _ _ _ (ring named) _ (used named)
 
-there-same : (c : After-total_less-held) → let a = c.args in c.total_less-held.result + a.input ≡ ring_held a.state + a.input
+there-same : (c : After-from-held) → let a = c.args in c.from-held.result + a.input ≡ ring_held a.state + a.input
 there-same c = ap (λ (b : ℕ). b + c.args.input) (held_same c)
 
 pub returns-then-not-in_range : goal.returns-then-not-in_range
 unfolding number_in_range
 returns-then-not-in_range c =
-    advanced-unready _ _ _ _ (unready-outside _ _ _ (ap number_in_range c.requires.3 ∙ sym c.in_range.ensures ∙ c.if-not-in_range.true))
+    advanced-unready _ _ _ _ (unready-outside _ _ _ (ap number_in_range c.requires.2 ∙ sym c.in_range.ensures ∙ c.if-not-in_range.true))
 
 pub delayer_fits-requires : goal.delayer_fits-requires
 delayer_fits-requires c =
-    (c.requires.0, c.requires.1, ring c.requires.3, used c.requires.3)
+    (c.requires.0, ring c.requires.2, used c.requires.2)
 
 pub returns-then-not-delayer_fits : goal.returns-then-not-delayer_fits
 returns-then-not-delayer_fits c = advanced-unready _ _ _ _ (unready-unusable _ _ _ (not-false _ (sym c.delayer_fits.ensures ∙ c.if-not-delayer_fits.true)))
@@ -79,35 +78,26 @@ returns-then-not-delayer_fits c = advanced-unready _ _ _ _ (unready-unusable _ _
 pub nonzero_rem-at : goal.nonzero_rem-at
 nonzero_rem-at c = omega (arith, least-le delay_range _ (inside (goal.at.nonzero_rem-at c).Else-not-in_range))
 
-pub recent-requires : goal.recent-requires
-recent-requires c =
-    let within = inside (goal.at.recent-requires c).Else-not-in_range in
-    omega (arith, mod-lt c.args.state.slot.0 (least-le delay_range _ within), le-largest delay_range _ within, c.requires.0)
-
-pub overflow_sub-there : goal.overflow_sub-there
-overflow_sub-there c = omega (arith, c.less-low.ensures)
+pub bounds-words-at : goal.bounds-words-at
+bounds-words-at c =
+    let within = inside (goal.at.bounds-words-at c).Else-not-in_range in
+    omega (arith, mod-lt c.args.state.slot.0 (least-le delay_range _ within), le-largest delay_range _ within, c.told-words)
 
 pub returns-then-there-low : goal.returns-then-there-low
 returns-then-there-low c =
-    advanced-above _ _ _ _ (ready (goal.at.returns-then-there-low c).Else-not-delayer_fits) _ _ (low_same (goal.at.returns-then-there-low c).After-less-low) (there-same (goal.at.returns-then-there-low c).After-total_less-held ∙ high_same _ _ _ c.requires.3) c.if-there-low.true
-
-pub overflow_add-output : goal.overflow_add-output
-overflow_add-output c = omega (arith, c.if-there-low.false, c.less-low.ensures, held-le (goal.at.overflow_add-output c).After-total_less-held)
-
-pub overflow_sub-there-2 : goal.overflow_sub-there-2
-overflow_sub-there-2 c = omega (arith, c.if-there-low.false, c.less-low.ensures)
+    advanced-above _ _ _ _ (ready (goal.at.returns-then-there-low c).Else-not-delayer_fits) _ _ (low_same (goal.at.returns-then-there-low c).After-saturating_sub-low) (there-same (goal.at.returns-then-there-low c).After-from-held ∙ high_same _ _ _ c.requires.2) c.if-there-low.true
 
 pub returns : goal.returns
 returns c =
     let a = c.args in
-    let there = c.total_less-held.result + a.input in
-    let output = c.less-low.result + a.choice in
-    let named = c.requires.3 in
+    let there = c.from-held.result + a.input in
+    let output = c.saturating_sub-low.result + a.choice in
+    let named = c.requires.2 in
     let at = a.state.slot.0 % a.delay.0 in
     let next : ◌≡◌ {A = PathOperator} (record { operator = a.state.operator; slot = a.state.slot; held = record { 0 = 0 }; beside = record { 0 = 0 }; entered = c.total_more.result; left = c.total_more-2.result }) (path_advanced a.state a.input output (there - output) 0) =
     rw (c.total_more.ensures, c.total_more-2.ensures) (advanced-ring a.state a.input output (there - output) 0 (ring named))
     in
-    ap₂ (λ (fits : Bool) (next : PathOperator). Advanced.Sends (record { 0 = output }) fits next at) c.within.ensures next
-    ∙ ap (λ (at : ℕ). Advanced.Sends (record { 0 = output }) (storable (there - output) 0) (path_advanced a.state a.input output (there - output) 0) at) (place-ring a.state (ring named) a.delay.0 (used named))
-    ∙ advanced-sends _ _ _ _ (ready (goal.at.returns c).Else-not-delayer_fits) _ _ (low_same (goal.at.returns c).After-less-low) (there-same (goal.at.returns c).After-total_less-held ∙ high_same _ _ _ named) c.if-there-low.false _ _
-    (ap (λ (n : ℕ). n - output) (there-same (goal.at.returns c).After-total_less-held ∙ there-ring _ _ _ (ring named))) (none_beside _ _ _ named)
+    ap₂ (λ (fits : Bool) (next : PathOperator). Ok (record { output = record { 0 = output }; fits = fits; next = next; at = at })) c.within.ensures next
+    ∙ ap (λ (at : ℕ). Ok (record { output = record { 0 = output }; fits = storable (there - output) 0; next = path_advanced a.state a.input output (there - output) 0; at = at })) (place-ring a.state (ring named) a.delay.0 (used named))
+    ∙ advanced-sends _ _ _ _ (ready (goal.at.returns c).Else-not-delayer_fits) _ _ (low_same (goal.at.returns c).After-saturating_sub-low) (there-same (goal.at.returns c).After-from-held ∙ high_same _ _ _ named) c.if-there-low.false _ _
+    (ap (λ (n : ℕ). n - output) (there-same (goal.at.returns c).After-from-held ∙ there-ring _ _ _ (ring named))) (none_beside _ _ _ named)

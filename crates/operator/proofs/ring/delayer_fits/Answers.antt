@@ -5,19 +5,19 @@ use Rattle.operator.proofs.RingLaws.{all-used, behind-clear, fields-stand, ring-
 use Rattle.operator.proofs.ring.delayer_fits.Goals as goal
 
 pub returns-then-state-ne0 : goal.returns-then-state-ne0
-returns-then-state-ne0 c = fields-stand _ _ c.requires.0 c.requires.1 c.requires.2 c.if-state-ne0.true
+returns-then-state-ne0 c = fields-stand _ _ c.told-words c.requires.0 c.requires.1 c.if-state-ne0.true
 
-pub returns-then-total_less-gt-LARGEST : goal.returns-then-total_less-gt-LARGEST
+pub returns-then-from-gt-LARGEST : goal.returns-then-from-gt-LARGEST
 unfolding ring_held
-returns-then-total_less-gt-LARGEST c = ring-above _ _ c.requires.0 c.requires.1 c.requires.2 (omega (arith, c.if-total_less-gt-LARGEST.true, c.total_less.ensures))
+returns-then-from-gt-LARGEST c = ring-above _ _ c.told-words c.requires.0 c.requires.1 (omega (arith, c.if-from-gt-LARGEST.true, c.from.ensures, c.total_less.ensures))
 
 pub returns-then-used-ge-WORDS : goal.returns-then-used-ge-WORDS
 unfolding ring_held
 returns-then-used-ge-WORDS c =
-    ring-told _ _ c.requires.0 c.requires.1 c.requires.2 c.if-state-ne0.false (omega (arith, c.if-total_less-gt-LARGEST.false, c.total_less.ensures)) (all-used _ _ (omega (arith, c.if-used-ge-WORDS.true, c.requires.3)))
+    ring-told _ _ c.told-words c.requires.0 c.requires.1 c.if-state-ne0.false (omega (arith, c.if-from-gt-LARGEST.false, c.from.ensures, c.total_less.ensures)) (all-used _ _ (omega (arith, c.if-used-ge-WORDS.true, c.requires.2)))
 
 pub returns : goal.returns
 unfolding ring_held
 returns c =
-    ring-told _ _ c.requires.0 c.requires.1 c.requires.2 c.if-state-ne0.false (omega (arith, c.if-total_less-gt-LARGEST.false, c.total_less.ensures))
-    (c.row_clear.ensures ∙ behind-clear _ _ c.requires.0 _ c.requires.3 (omega (arith, c.if-used-ge-WORDS.false)))
+    ring-told _ _ c.told-words c.requires.0 c.requires.1 c.if-state-ne0.false (omega (arith, c.if-from-gt-LARGEST.false, c.from.ensures, c.total_less.ensures))
+    (c.row_clear.ensures ∙ (rw c.told-words at (behind-clear c.args.state.operator c.args.words.now c.told-words _ c.requires.2 (omega (arith, c.if-used-ge-WORDS.false)))))

@@ -1,7 +1,6 @@
 -- Units above 32 bits wrap into the total.
-use Rattle.std.proofs.Common.{◌∙◌}
 use Rattle.operator.proofs.RingLaws.{more-wrapped}
 use Rattle.operator.proofs.ring.total_more.Goals as goal
 
 pub returns : goal.returns
-returns c = c.wrapping_add_u32.ensures.value ∙ more-wrapped c.args.total c.args.units
+returns c = more-wrapped c.args.total c.args.units

@@ -1,31 +1,15 @@
-use mathlib.Core.Path.{◌≡◌, refl, ap, ◌∙◌}
+-- Sixty spaces as one run.
+use mathlib.Core.Path.{◌≡◌, ap, ◌∙◌}
+use Prim.Native.Nat.{ℕ, ◌+◌, ◌-◌}
 use native.Mathlib.Omega.{arith}
-use lib.ListN.{length}
-use lib.Seq.{length-sets}
+use lib.ListN.{length, take, drop, replicate, length-take, length-drop, length-replicate}
 use Rattle.text.specs.Rows.{space}
-use Rattle.page.proofs.Putting.{repeated-more}
+use Rattle.sheet.proofs.Runs.{run-put}
 use Rattle.page.proofs.column.put_spaces.Goals as goal
-use Rattle.page.proofs.column.put_spaces.Goals.{At-loop-k}
-
-pub loop-k-init : goal.loop-k-init
-loop-k-init c = (omega arith, refl)
-
-full : (c : At-loop-k) → length c.loop-k.lent ≡ length c.args.lent.now
-full c = ap length c.loop-k.invariant.1 ∙ simp length-sets
-
-pub bounds-lent-at : goal.bounds-lent-at
-bounds-lent-at c = rw (full (goal.at.bounds-lent-at c).At-loop-k) (omega arith)
-
-pub loop-k-preserved : goal.loop-k-preserved
-loop-k-preserved c =
-    let a = c.args in
-    let l = c.loop-k in
-    (omega arith, repeated-more a.lent.now l.lent a.at l.k space l.invariant.1)
-
-pub shape_of-lent : goal.shape_of-lent
-shape_of-lent c = full (goal.at.shape_of-lent c).At-loop-k
 
 pub returns : goal.returns
 returns c =
-    let done : c.loop-k.k ≡ 60 = omega arith in
-    rw done at c.loop-k.invariant.1
+    let a = c.args in
+    let sixty : length (take (a.at + 60 - a.at) (drop a.at a.lent.now)) ≡ 60 = omega (arith, length-take (a.at + 60 - a.at) (drop a.at a.lent.now), length-drop a.at a.lent.now) in
+    let all : c.fill.new.self ≡ replicate 60 space = c.fill.ensures.after (λ y e. e) ∙ ap (λ (n : ℕ). replicate n space) sixty in
+    rw all (run-put a.lent.now (replicate 60 space) a.at 60 (length-replicate 60 space) c.requires)

@@ -25,4 +25,4 @@ returns c =
     let delay = c.args.delay.0 in
     line-put c.args.lent.now c.args.at blank (text path_name) blank (number capacity) (number delay)
     (omega arith) (omega arith) (omega arith) (length-decimal capacity 19 (omega (arith, c.well_formed))) (length-decimal delay 19 (omega (arith, c.well_formed)))
-    c.put_spaces.ensures refl c.put_characters.ensures refl c.put_digits.ensures c.put_digits-2.ensures
+    c.put_spaces.ensures refl c.put_characters.ensures refl c.put_digits.ensures (rw c.from.ensures at c.put_digits-2.ensures)

@@ -1,17 +1,10 @@
-use mathlib.Core.Path.{◌≡◌}
-use native.Mathlib.Omega.{arith}
-use Rattle.quantity.specs.Limits.{most_operators}
-use Rattle.run.proofs.OpeningLaws.{staged-first, staged-next, staged-run}
+-- Each stage is of its place.
+use Rattle.std.proofs.Common.{rules}
+use Rattle.sheet.specs.Paths.{no_linked_operator}
+use Rattle.run.specs.Runs.{no_stage}
+use Rattle.run.proofs.OpeningLaws.{staged-run}
 use Rattle.run.proofs.opening.new_run.Goals as goal
-
-pub loop-k-init : goal.loop-k-init
-loop-k-init c = staged-first c.args.path.operators
-
-pub loop-k-preserved : goal.loop-k-preserved
-loop-k-preserved c =
-    staged-next c.args.path.operators c.loop-k.invariant c.loop-k-test.true
 
 pub returns : goal.returns
 returns c path few same =
-    let ends : c.loop-k.k ≡ most_operators = omega (arith, c.loop-k.invariant.few) in
-    staged-run path c.args.path same (rw ends at c.loop-k.invariant)
+    staged-run path c.args.path same (c.map.ensures.items.long, λ k less. let made = c.map.ensures.items.at k no_linked_operator no_stage less in search rules)

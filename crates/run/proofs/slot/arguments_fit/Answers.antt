@@ -1,12 +1,13 @@
--- There are as many choices as operators, the input is within the limit, and then so is each choice, or not.
-use Rattle.run.proofs.SlotLaws.{miscounted-unfit, input-unfit, choices-fit}
+-- The count, the input, and the choices joined.
+use mathlib.Core.Path.{ap, ◌∙◌}
+use Prim.Native.Nat.{ℕ}
+use lib.Dec.{leb}
+use Rattle.quantity.specs.Limits.{largest_amount}
+use Rattle.run.specs.Calls.{call_of}
+use Rattle.run.proofs.SlotLaws.{choices-within, arguments-tested}
 use Rattle.run.proofs.slot.arguments_fit.Goals as goal
 
-pub returns-then-choices-operators : goal.returns-then-choices-operators
-returns-then-choices-operators c = miscounted-unfit _ _ c.if-choices-operators.true
-
-pub returns-then-input-gt-LARGEST : goal.returns-then-input-gt-LARGEST
-returns-then-input-gt-LARGEST c = input-unfit _ _ c.if-choices-operators.false c.if-input-gt-LARGEST.true
-
 pub returns : goal.returns
-returns c = choices-fit _ _ c.if-choices-operators.false c.if-input-gt-LARGEST.false c.amounts_fit.ensures
+returns c =
+    let a = c.args in
+    arguments-tested a.operators (call_of a.input a.choices.now) (ap (λ (n : ℕ). leb n largest_amount) c.joined.ensures ∙ choices-within a.choices.now)

@@ -1,9 +1,10 @@
--- The arguments, then the meter.
+-- The arguments, then the run.
+use Rattle.run.proofs.MovingLaws.{begun-fits}
 use Rattle.run.proofs.SlotLaws.{begun-unfit, begun-fit}
 use Rattle.run.proofs.slot.begin.Goals as goal
 
-pub returns-then-not-arguments_fit : goal.returns-then-not-arguments_fit
-returns-then-not-arguments_fit c = begun-unfit _ _ _ c.arguments_fit.ensures (c.if-not-arguments_fit.true) c.not_begun.ensures
+pub returns-then-arguments_fit : goal.returns-then-arguments_fit
+returns-then-arguments_fit c = let same = begun-fit _ _ _ c.arguments_fit.ensures c.if-arguments_fit.true c.begin_run.ensures in record { begun = same; fits = begun-fits _ _ _ _ same }
 
-pub returns : goal.returns
-returns c = begun-fit _ _ _ c.arguments_fit.ensures (c.if-not-arguments_fit.false) c.begin_meter.ensures
+pub returns-else-arguments_fit : goal.returns-else-arguments_fit
+returns-else-arguments_fit c = record { begun = begun-unfit _ _ _ c.arguments_fit.ensures c.if-arguments_fit.false; fits = tt }

@@ -5,4 +5,5 @@ use Rattle.run.proofs.test.join.Goals as goal
 
 pub returns : goal.returns
 returns c =
-    join-empty c.args.stage c.kind_of.ensures c.number_of.ensures (omega arith) (omega arith)
+    let named = c.kind_and_number-kind.ensures in
+    rw (c.from.ensures, c.from-2.ensures, c.from-3.ensures, c.from-4.ensures) (join-empty c.args.stage named.0 named.1 (omega arith) (omega arith))

@@ -1,12 +1,8 @@
 -- By the test's answer.
 use mathlib.Core.Path.{sym, ◌∙◌}
 use borrow.Author.Tests.{not-true, not-false}
-use Rattle.run.proofs.UsableRun.{usable-run}
 use Rattle.run.proofs.WatchLaws.{watched-usable, watched-unusable}
 use Rattle.run.proofs.watch.held.Goals as goal
-
-pub units_held-requires : goal.units_held-requires
-units_held-requires c = (usable-run _ _ (not-true _ (sym c.run_usable.ensures ∙ c.if-run_usable.true))).few
 
 pub returns-then-run_usable : goal.returns-then-run_usable
 returns-then-run_usable c = watched-usable _ _ (not-true _ (sym c.run_usable.ensures ∙ c.if-run_usable.true)) (c.units_held.ensures _)

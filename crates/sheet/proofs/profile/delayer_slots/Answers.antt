@@ -1,40 +1,24 @@
 -- The products are small, and R-as-C is not 0.
-use Prim.Native.Nat.{◌≤◌}
-use native.Mathlib.Omega.{arith}
-use Rattle.quantity.specs.Rounding.{round_up}
-use Rattle.sheet.proofs.ProfileLaws.{product_le, product-some, slots-le}
+use Rattle.std.proofs.Common.{◌≡◌, ◌≤◌, ◌+◌, ◌*◌, arith}
+use Rattle.sheet.specs.House.{delayer_slots}
+use Rattle.quantity.proofs.Rounding.{div-ceil}
+use Rattle.sheet.proofs.ProfileLaws.{product-some}
 use Rattle.sheet.proofs.profile.delayer_slots.Goals as goal
-use Rattle.sheet.proofs.profile.delayer_slots.Goals.{After-product-2}
-
-pub overflow_add-units : goal.overflow_add-units
-overflow_add-units c =
-    let pre = c.requires in
-    omega (arith, product_le pre.0 pre.5, product_le pre.1 pre.3, c.product.ensures, c.product-2.ensures)
+use Rattle.sheet.proofs.profile.delayer_slots.Goals.{After-div_ceil, After-product-2}
 
 some : (c : After-product-2) → 1 ≤ c.product-whole.result
 some c =
     let pre = c.requires in
     omega (arith, product-some pre.2 pre.4, c.product-whole.ensures)
 
-pub overflow_sub-result : goal.overflow_sub-result
-overflow_sub-result c = some (goal.at.overflow_sub-result c).After-product-2
-
-pub overflow_add-result : goal.overflow_add-result
-overflow_add-result c =
+-- they are the definition's
+slots : (c : After-div_ceil) → c.div_ceil.result ≡ delayer_slots c.args.house
+unfolding delayer_slots
+slots c =
+    let h = c.args.house in
     let pre = c.requires in
-    omega (arith, product_le pre.0 pre.5, product_le pre.1 pre.3, product_le pre.3 pre.5, c.product-whole.ensures, c.product.ensures, c.product-2.ensures)
-
-pub nonzero_div-result : goal.nonzero_div-result
-nonzero_div-result c = some (goal.at.nonzero_div-result c).After-product-2
-
-pub overflow_cast-result : goal.overflow_cast-result
-unfolding round_up
-overflow_cast-result c =
-    let args = c.args in
-    let pre = c.requires in
-    rw (c.product-whole.ensures, c.product.ensures, c.product-2.ensures)
-    (omega (arith, slots-le args.own_packet.0 args.longest_packet.0 args.rate.0 args.link_rate.0 pre.2 pre.4))
+    rw (c.div_ceil.ensures, c.product-whole.ensures, c.product.ensures, c.product-2.ensures)
+    (div-ceil (h.own_packet.0 * h.link_rate.0 + h.longest_packet.0 * h.rate.0) (h.rate.0 * h.link_rate.0) (product-some pre.2 pre.4))
 
 pub returns : goal.returns
-unfolding round_up
-returns c = rw (c.product-whole.ensures, c.product.ensures, c.product-2.ensures)
+returns c = slots (goal.at.returns c).After-div_ceil

@@ -1,5 +1,4 @@
 -- The hop's operator, and the hop's number as the link.
-use native.Mathlib.Nat.{div-le_self}
 use native.Mathlib.Omega.{arith}
 use Rattle.sheet.specs.House.{house_operator}
 use Rattle.sheet.proofs.HouseLaws.{hop-length}
@@ -10,9 +9,6 @@ nonzero_rem-k c = omega (arith, (hop-length c.args.house).0, c.hop_length-length
 
 pub nonzero_div-link : goal.nonzero_div-link
 nonzero_div-link c = omega (arith, (hop-length c.args.house).0, c.hop_length-length.ensures)
-
-pub overflow_cast-link : goal.overflow_cast-link
-overflow_cast-link c = omega (arith, div-le_self c.args.k c.hop_length-length.result)
 
 pub returns : goal.returns
 unfolding house_operator

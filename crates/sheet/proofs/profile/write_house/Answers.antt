@@ -16,33 +16,15 @@ pub overflow_cast-sheet : goal.overflow_cast-sheet
 overflow_cast-sheet c =
     omega (arith, (house-within c.args.house c.requires.0).hops.1)
 
-pub bounds-sheet-4 : goal.bounds-sheet-4
-bounds-sheet-4 c = simp length-set (omega (arith, c.write_header.auto.sheet, c.requires.1))
-
-pub write_number-requires : goal.write_number-requires
-write_number-requires c = simp length-set (omega (arith, c.write_header.auto.sheet, c.requires.1))
-
 -- the sheet keeps its length from number to number
 kept-to-wanted : (c : After-write_number) → length c.write_number.new.sheet ≡ length c.args.sheet.now
 kept-to-wanted c = c.write_number.auto.sheet ∙ simp length-set c.write_header.auto.sheet
 
-pub write_number-requires-2 : goal.write_number-requires-2
-write_number-requires-2 c = omega (arith, kept-to-wanted (goal.at.write_number-requires-2 c).After-write_number, c.requires.1)
-
 kept-to-interval : (c : After-write_number-2) → length c.write_number-2.new.sheet ≡ length c.args.sheet.now
 kept-to-interval c = c.write_number-2.auto.sheet ∙ (c.write_number.auto.sheet ∙ simp length-set c.write_header.auto.sheet)
 
-pub write_number-requires-3 : goal.write_number-requires-3
-write_number-requires-3 c = omega (arith, kept-to-interval (goal.at.write_number-requires-3 c).After-write_number-2, c.requires.1)
-
 kept-to-quota : (c : After-write_number-3) → length c.write_number-3.new.sheet ≡ length c.args.sheet.now
 kept-to-quota c = c.write_number-3.auto.sheet ∙ (c.write_number-2.auto.sheet ∙ (c.write_number.auto.sheet ∙ simp length-set c.write_header.auto.sheet))
-
-pub write_rates_and_packets-requires : goal.write_rates_and_packets-requires
-write_rates_and_packets-requires c = omega (arith, kept-to-quota (goal.at.write_rates_and_packets-requires c).After-write_number-3, c.requires.1)
-
-pub shape_of-sheet : goal.shape_of-sheet
-shape_of-sheet c = c.write_rates_and_packets.auto.sheet ∙ kept-to-quota (goal.at.shape_of-sheet c).After-write_number-3
 
 pub returns : goal.returns
 unfolding bytes_of house_body field_of

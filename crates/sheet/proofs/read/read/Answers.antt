@@ -1,146 +1,102 @@
-use borrow.Author.Tests.{eq-eqb, ne_eqb}
-use Prim.Native.Nat.{◌+◌, ◌≤◌}
-use mathlib.Core.Path.{◌≡◌, sym, ◌∙◌}
-use mathlib.Core.Bool.{false}
-use native.Mathlib.Omega.{arith}
-use lib.ListN.{length, set}
-use Rattle.quantity.proofs.Laws.{Told, told}
+use Rattle.std.proofs.Common.{◌≡◌, ◌≤◌, ◌<◌, false, length, sym, ◌∙◌, arith}
+use Rattle.std.proofs.lemmas.Result.{err_from_is_err_and}
+use Rattle.quantity.specs.declared.refusal.Refusal.TheVariants.{OutOfRange}
 use Rattle.sheet.specs.Bodies.{operator_in, operator_fits}
 use Rattle.sheet.specs.Fields.{body_at}
 use Rattle.sheet.specs.Sheets.{in_house_form, read_sheet}
-use Rattle.sheet.specs.declared.read.ReadLinked.{ReadLinked}
-use Rattle.sheet.proofs.ReadLaws.{field-inside, handed-body, handed-length}
+use Rattle.sheet.proofs.AnswerLaws.{ToldOr, told-or}
 use Rattle.sheet.proofs.HouseRead.{read-in-house, read-in-fields}
 use Rattle.sheet.proofs.HeadRead.{head-refuses, head-inside, head_passed}
-use Rattle.sheet.proofs.OperatorsRead.{due_at, begun_from, Passed, reading-first, header-refuses, body-refuses, operator-passes, reading-next, end-refuses, end-accepts}
+use Rattle.sheet.proofs.OperatorsRead.{due_at, due_from, reading-first, header-refuses, body-refuses, operator-passes, end-refuses, end-accepts}
 use Rattle.sheet.proofs.read.read.Goals as goal
-use Rattle.sheet.proofs.read.read.Goals.{After-read_head-head, After-read_linked, In-Fits, In_default, In_default-field_at}
+use Rattle.sheet.proofs.read.read.Goals.{After-read_head, After-ok_or, In-loop-k, After-ended, In_ok-head}
 
-pub returns-then-first_tag-eq-HOUSE_TAG : goal.returns-then-first_tag-eq-HOUSE_TAG
+pub returns-then-begins_with : goal.returns-then-begins_with
 unfolding in_house_form
-returns-then-first_tag-eq-HOUSE_TAG c = c.read_profile.ensures ∙ read-in-house c.args.sheet.now (rw (← c.first_tag.ensures) (eq-eqb _ _ c.if-first_tag-eq-HOUSE_TAG.true))
+returns-then-begins_with c = c.read_profile.ensures ∙ read-in-house c.args.sheet.now (sym c.begins_with.ensures ∙ c.if-begins_with.true)
 
 -- what the fields answer is then what is read
-in-fields : (c : After-read_head-head) → in_house_form c.args.sheet.now ≡ false
+in-fields : (c : After-read_head) → in_house_form c.args.sheet.now ≡ false
 unfolding in_house_form
-in-fields c = rw (← c.first_tag.ensures) (ne_eqb _ _ c.if-first_tag-eq-HOUSE_TAG.false)
+in-fields c = sym c.begins_with.ensures ∙ c.if-begins_with.false
 
-pub without_path-requires : goal.without_path-requires
-without_path-requires c = rw c.no_linked_operator-none.ensures
-
-pub returns-in-Refused : goal.returns-in-Refused
-returns-in-Refused c =
+pub returns-in_err-head : goal.returns-in_err-head
+returns-in_err-head c =
     let sheet = c.args.sheet.now in
-    c.without_path.ensures ∙ sym (head-refuses sheet c.read_head-head.ensures c.in-Refused.is) ∙ read-in-fields sheet (in-fields (goal.at.returns-in-Refused c).After-read_head-head)
+    let p = err_from_is_err_and c.from_residual.result c.from_residual.ensures.1 in
+    rw (p.1, p.2) (sym (head-refuses sheet c.read_head.ensures c.in_err-head.was) ∙ read-in-fields sheet (in-fields (goal.at.returns-in_err-head c).After-read_head))
 
 -- the operators begin within the sheet, and near
-near : (c : In_default) → (c.read_head-head.result.end ≤ 34) × (c.read_head-head.result.end ≤ length c.args.sheet.now)
-near c = head-inside c.args.sheet.now c.read_head-head.ensures c.in_default.is
+near : (c : In_ok-head) → (c.in_ok-head.head.end ≤ 34) × (c.in_ok-head.head.end ≤ length c.args.sheet.now)
+near c = head-inside c.args.sheet.now c.read_head.ensures c.in_ok-head.was
 
 -- and decide what is read
-decided : (c : In_default)
-    → let sheet = c.args.sheet.now in let head = c.read_head-head.result in due_at sheet head.end head.declaration head.wanted 15 head.end ≡ read_sheet sheet
+decided : (c : In_ok-head) → let sheet = c.args.sheet.now in let head = c.in_ok-head.head in due_at sheet head.end head.declaration head.wanted 15 head.end ≡ read_sheet sheet
 unfolding in_house_form
 decided c =
     let sheet = c.args.sheet.now in
-    sym (head_passed sheet c.read_head-head.ensures c.in_default.is) ∙ read-in-fields sheet (rw (← c.first_tag.ensures) (ne_eqb _ _ c.if-first_tag-eq-HOUSE_TAG.false))
+    sym (head_passed sheet c.read_head.ensures c.in_ok-head.was) ∙ read-in-fields sheet (sym c.begins_with.ensures ∙ c.if-begins_with.false)
 
 pub overflow_sub-sheet : goal.overflow_sub-sheet
-overflow_sub-sheet c = (near (goal.at.overflow_sub-sheet c).In_default).1
+overflow_sub-sheet c = (near (goal.at.overflow_sub-sheet c).In_ok-head).1
 
-pub loop-why-init : goal.loop-why-init
-loop-why-init c =
-    let head = c.read_head-head.result in
-    rw c.no_linked_operator-none.ensures (reading-first c.args.sheet.now head.end head.declaration head.wanted)
+pub loop-k-init : goal.loop-k-init
+loop-k-init c =
+    let head = c.in_ok-head.head in
+    reading-first c.args.sheet.now head.end head.declaration head.wanted (near (goal.at.loop-k-init c).In_ok-head).1
 
-pub field_at-requires : goal.field_at-requires
-field_at-requires c = omega (arith, c.loop-why.invariant.few, c.loop-why.invariant.begins, (near (goal.at.field_at-requires c).In_default).0)
+-- one more operator is due
+more : (c : In-loop-k) → c.loop-k.k < due_from c.args.sheet.now c.in_ok-head.head.end
+more c = rw c.operators_due-count.ensures at c.loop-k-test.true
 
-pub without_path-requires-in-Refused-field_at : goal.without_path-requires-in-Refused-field_at
-without_path-requires-in-Refused-field_at c = rw c.no_linked_operator-none.ensures
+pub body-requires : goal.body-requires
+body-requires c = omega (arith, more (goal.at.body-requires c).In-loop-k, c.loop-k.invariant.begins, (near (goal.at.body-requires c).In_ok-head).0)
 
-pub returns-in-Refused-field_at : goal.returns-in-Refused-field_at
-returns-in-Refused-field_at c =
-    let head = c.read_head-head.result in
-    c.without_path-in-Refused-field_at.ensures
-    ∙ sym (header-refuses c.args.sheet.now head.end head.declaration head.wanted _ _ _ c.loop-why.invariant c.field_at.ensures c.in-Refused-field_at.is)
-    ∙ decided (goal.at.returns-in-Refused-field_at c).In_default
+pub end-at-requires : goal.end-at-requires
+end-at-requires c = omega (arith, more (goal.at.end-at-requires c).In-loop-k, c.loop-k.invariant.begins, (near (goal.at.end-at-requires c).In_ok-head).0)
 
--- the field that is judged whole lies in the sheet
-inside : (c : In_default-field_at) → c.loop-why.at + 3 + 6 ≤ length c.args.sheet.now
-inside c = field-inside _ _ 3 6 c.field_at.ensures c.in_default-field_at.is
-
-pub overflow_add-start : goal.overflow_add-start
-overflow_add-start c = omega (arith, inside (goal.at.overflow_add-start c).In_default-field_at, c.loop-why.invariant.few, c.loop-why.invariant.begins, (near (goal.at.overflow_add-start c).In_default).0)
-
-pub overflow_add-end : goal.overflow_add-end
-overflow_add-end c = omega (arith, c.loop-why.invariant.few, c.loop-why.invariant.begins, (near (goal.at.overflow_add-end c).In_default).0)
-
-pub slice_bounds-read_linked-end : goal.slice_bounds-read_linked-end
-slice_bounds-read_linked-end c = omega (arith, inside (goal.at.slice_bounds-read_linked-end c).In_default-field_at)
-
-pub read_linked-requires : goal.read_linked-requires
-read_linked-requires c = handed-length _ _ 6 (inside (goal.at.read_linked-requires c).In_default-field_at)
+pub returns-in_err-body : goal.returns-in_err-body
+returns-in_err-body c =
+    let head = c.in_ok-head.head in
+    let due = more (goal.at.returns-in_err-body c).In-loop-k in
+    let p = err_from_is_err_and c.from_residual-in_err-body.result c.from_residual-in_err-body.ensures.1 in
+    rw (p.1, p.2)
+    (sym (header-refuses c.args.sheet.now head.end head.declaration head.wanted _ _ _ c.loop-k.invariant due c.in_err-body.ensures)
+    ∙ decided (goal.at.returns-in_err-body c).In_ok-head)
 
 -- what the reader answers of the body
-answered : (c : After-read_linked)
-    → let body = body_at c.args.sheet.now c.loop-why.at 6 in Told (operator_fits body) (operator_in body) ReadLinked.Fits ReadLinked.OutOfRange c.read_linked.result
-answered c =
-    told _ _ _ _ (λ k e. cc) (λ j k e. cc) (rw (handed-body c.args.sheet.now c.loop-why.at 6) at c.read_linked.ensures)
+answered : (c : After-ok_or) → let body = body_at c.args.sheet.now c.loop-k.at 6 in ToldOr (operator_fits body) (operator_in body) (OutOfRange c.loop-k.at) c.ok_or.result
+answered c = told-or _ _ _ (rw c.in_ok-body.ensures.is at c.read_linked.ensures) c.ok_or.ensures.value
 
-pub without_path-requires-in_default-read_linked : goal.without_path-requires-in_default-read_linked
-without_path-requires-in_default-read_linked c = rw c.no_linked_operator-none.ensures
+pub returns-in_err-operators : goal.returns-in_err-operators
+returns-in_err-operators c =
+    let head = c.in_ok-head.head in
+    let due = more (goal.at.returns-in_err-operators c).In-loop-k in
+    let (out, why) = (answered (goal.at.returns-in_err-operators c).After-ok_or).outside c.in_err-operators.was in
+    let p = err_from_is_err_and c.from_residual-in_err-operators.result c.from_residual-in_err-operators.ensures.1 in
+    rw (p.1, p.2, why)
+    (sym (body-refuses c.args.sheet.now head.end head.declaration head.wanted _ _ _ c.loop-k.invariant due c.in_ok-body.ensures.judged out)
+    ∙ decided (goal.at.returns-in_err-operators c).In_ok-head)
 
-pub returns-in_default-read_linked : goal.returns-in_default-read_linked
-returns-in_default-read_linked c =
-    let head = c.read_head-head.result in
-    let outside = (answered (goal.at.returns-in_default-read_linked c).After-read_linked).outside c.in_default-read_linked.is in
-    c.without_path-in_default-read_linked.ensures
-    ∙ sym (body-refuses c.args.sheet.now head.end head.declaration head.wanted _ _ _ c.loop-why.invariant c.field_at.ensures c.in_default-field_at.is outside)
-    ∙ decided (goal.at.returns-in_default-read_linked c).In_default
+pub loop-k-preserved : goal.loop-k-preserved
+loop-k-preserved c =
+    let head = c.in_ok-head.head in
+    let due = more (goal.at.loop-k-preserved c).In-loop-k in
+    let (fits, same) = (answered (goal.at.loop-k-preserved c).After-ok_or).within c.in_ok-operators.was in
+    operator-passes c.args.sheet.now head.end head.declaration head.wanted _ _ _ c.loop-k.invariant due c.in_ok-body.ensures.judged fits _ same _ (omega (arith, c.end-at.ensures))
 
--- the operator that was read is the body's, and is stored
-stored : (c : In-Fits)
-    → let head = c.read_head-head.result in Passed c.args.sheet.now head.end head.declaration head.wanted (set c.loop-why.operators c.loop-why.count c.in-Fits.linked) (c.loop-why.count + 1) (c.loop-why.at + 3 + 6)
-stored c =
-    let head = c.read_head-head.result in
-    let body = body_at c.args.sheet.now c.loop-why.at 6 in
-    let answered : Told (operator_fits body) (operator_in body) ReadLinked.Fits ReadLinked.OutOfRange c.read_linked.result = told _ _ _ _ (λ k e. cc) (λ j k e. cc) (rw (handed-body c.args.sheet.now c.loop-why.at 6) at c.read_linked.ensures) in
-    let (fits, same) = answered.within c.in-Fits.is in
-    operator-passes c.args.sheet.now head.end head.declaration head.wanted _ _ _ c.loop-why.invariant c.field_at.ensures c.in_default-field_at.is fits _ same _ (omega arith)
+-- all that are due are read
+all_read : (c : After-ended) → c.loop-k.k ≡ due_from c.args.sheet.now c.in_ok-head.head.end
+all_read c = let done : c.loop-k.k ≡ c.operators_due-count.result = omega arith in done ∙ c.operators_due-count.ensures
 
--- how many operators begin
-all-begun : (c : In-Fits) → c.operators_begun-begun.result ≡ begun_from c.args.sheet.now c.read_head-head.result.end
-all-begun c = c.operators_begun-begun.ensures
-
-pub offset_bounds-operators-count : goal.offset_bounds-operators-count
-offset_bounds-operators-count c = omega (arith, c.loop-why.invariant.few)
-
-pub bounds-operators-count : goal.bounds-operators-count
-bounds-operators-count c = omega (arith, c.loop-why.invariant.few)
-
-pub overflow_add-count : goal.overflow_add-count
-overflow_add-count c = omega (arith, c.loop-why.invariant.few)
-
-pub loop-why-smaller : goal.loop-why-smaller
-loop-why-smaller c = omega (arith, c.loop-why.invariant.few)
-
-pub loop-why-preserved : goal.loop-why-preserved
-loop-why-preserved c = reading-next _ _ _ _ _ _ _ (stored (goal.at.loop-why-preserved c).In-Fits) (λ e. c.if-count-begun.false (e ∙ sym (all-begun (goal.at.loop-why-preserved c).In-Fits)))
-
-pub ended-requires : goal.ended-requires
-ended-requires c = (stored (goal.at.ended-requires c).In-Fits).inside
-
-pub without_path-requires-in-Refused-ended : goal.without_path-requires-in-Refused-ended
-without_path-requires-in-Refused-ended c = rw c.no_linked_operator-none.ensures
-
-pub returns-in-Refused-ended : goal.returns-in-Refused-ended
-returns-in-Refused-ended c =
-    c.without_path-in-Refused-ended.ensures
-    ∙ sym (end-refuses _ _ _ _ _ _ _ (stored (goal.at.returns-in-Refused-ended c).In-Fits) (c.if-count-begun.true ∙ all-begun (goal.at.returns-in-Refused-ended c).In-Fits) c.ended.ensures c.in-Refused-ended.is)
-    ∙ decided (goal.at.returns-in-Refused-ended c).In_default
+pub returns-in_err-ended : goal.returns-in_err-ended
+returns-in_err-ended c =
+    let p = err_from_is_err_and c.from_residual-in_err-ended.result c.from_residual-in_err-ended.ensures.1 in
+    rw (p.1, p.2)
+    (sym (end-refuses _ _ _ _ _ _ _ c.loop-k.invariant (all_read (goal.at.returns-in_err-ended c).After-ended) c.ended.ensures c.in_err-ended.was)
+    ∙ decided (goal.at.returns-in_err-ended c).In_ok-head)
 
 pub returns : goal.returns
 returns c =
-    rw (c.accepted.ensures, ← decided (goal.at.returns c).In_default)
-    (sym (end-accepts _ _ _ _ _ _ _ (stored (goal.at.returns c).In-Fits) (c.if-count-begun.true ∙ all-begun (goal.at.returns c).In-Fits) c.ended.ensures c.in_default-ended.is))
+    let done : c.operators_due-count.result ≡ c.loop-k.k = omega arith in
+    rw (done, ← decided (goal.at.returns c).In_ok-head) (sym (end-accepts _ _ _ _ _ _ _ c.loop-k.invariant (all_read (goal.at.returns c).After-ended) c.ended.ensures c.in_ok-ended.was))

@@ -1,72 +1,61 @@
 -- Behind the first field the second is judged by its header, then by its body.
-use mathlib.Core.Path.{◌≡◌, refl, sym, ◌∙◌}
-use mathlib.Core.Bool.{false}
+use mathlib.Core.Path.{◌≡◌, sym, ◌∙◌}
 use mathlib.Core.List.{[]}
-use Prim.Native.Nat.{◌+◌, ◌≤◌}
+use Prim.Native.Nat.{◌≤◌}
 use native.Mathlib.Omega.{arith}
-use lib.ListN.{length}
-use Rattle.quantity.specs.Ranges.{checked_wanted_delay}
-use Rattle.quantity.specs.Refusals.{first_of}
-use Rattle.quantity.proofs.Checked.{wanted-told}
+use Rattle.std.specs.Prelude.{Ok}
+use Rattle.std.proofs.lemmas.Result.{err_from_is_err_and}
+use Rattle.quantity.specs.Ranges.{checked_in}
+use Rattle.quantity.specs.declared.refusal.Refusal.TheVariants.{OutOfRange}
 use Rattle.sheet.specs.Bodies.{wanted_in, wanted_fits}
-use Rattle.sheet.specs.Fields.{wanted_format, body_at, field_cases}
-use Rattle.sheet.proofs.ReadLaws.{field-refused, field-outside, field-passed, field-inside, handed-body, handed-length}
-use Rattle.sheet.proofs.HeadRead.{head_refused, head_behind, head_answer, first-refuses, first-near, first-passed}
+use Rattle.sheet.specs.Fields.{wanted_format, body_at}
+use Rattle.sheet.specs.Sheets.{head_answer}
+use Rattle.sheet.proofs.AnswerLaws.{ToldOr, told-or}
+use Rattle.sheet.proofs.ReadLaws.{field-refused, field-outside, field-passed}
+use Rattle.sheet.proofs.HeadRead.{head_behind, head_from, first-refuses, first-near, first-passed}
 use Rattle.sheet.proofs.read.read_head.Goals as goal
-use Rattle.sheet.proofs.read.read_head.Goals.{After-read_wanted, In_default, In_default-field_at}
+use Rattle.sheet.proofs.read.read_head.Goals.{After-ok_or, In_ok-first}
 
-pub returns-in-Refused : goal.returns-in-Refused
-returns-in-Refused c =
-    c.head_refused.ensures ∙ sym (first-refuses c.args.sheet.now c.read_first-first.ensures c.in-Refused.is)
+pub returns-in_err-first : goal.returns-in_err-first
+returns-in_err-first c =
+    let p = err_from_is_err_and c.from_residual.result c.from_residual.ensures.1 in
+    rw (p.1, p.2) (sym (first-refuses c.args.sheet.now c.read_first.ensures c.in_err-first.was))
 
 -- behind a first field that passes
-near : (c : In_default) → c.read_first-first.result.end ≤ 27
-near c = first-near c.args.sheet.now c.read_first-first.ensures c.in_default.is
+near : (c : In_ok-first) → c.in_ok-first.first.end ≤ 27
+near c = first-near c.args.sheet.now c.read_first.ensures c.in_ok-first.was
 
-passed : (c : In_default)
-    → let sheet = c.args.sheet.now in head_answer sheet ≡ first_of (field_cases sheet c.read_first-first.result.end wanted_format) head_refused (head_behind sheet c.read_first-first.result)
-passed c = first-passed c.args.sheet.now c.read_first-first.ensures c.in_default.is
+passed : (c : In_ok-first)
+    → let sheet = c.args.sheet.now in head_answer sheet ≡ head_from sheet c.in_ok-first.first
+passed c = first-passed c.args.sheet.now c.read_first.ensures c.in_ok-first.was
 
-pub field_at-requires : goal.field_at-requires
-field_at-requires c = omega (arith, near (goal.at.field_at-requires c).In_default)
+pub body-requires : goal.body-requires
+body-requires c = omega (arith, near (goal.at.body-requires c).In_ok-first)
 
-pub returns-in-Refused-field_at : goal.returns-in-Refused-field_at
-returns-in-Refused-field_at c =
+pub end-requires : goal.end-requires
+end-requires c = omega (arith, near (goal.at.end-requires c).In_ok-first)
+
+pub returns-in_err-body : goal.returns-in_err-body
+returns-in_err-body c =
     let sheet = c.args.sheet.now in
-    c.head_refused-in-Refused-field_at.ensures ∙ sym (passed (goal.at.returns-in-Refused-field_at c).In_default ∙ field-refused head_refused (head_behind sheet c.read_first-first.result) sheet _ wanted_format [] c.field_at.ensures c.in-Refused-field_at.is)
-
-pub overflow_add-start : goal.overflow_add-start
-overflow_add-start c = omega (arith, near (goal.at.overflow_add-start c).In_default)
-
-pub overflow_add-end : goal.overflow_add-end
-overflow_add-end c = omega (arith, near (goal.at.overflow_add-end c).In_default)
-
--- the field that is judged whole lies in the sheet
-inside : (c : In_default-field_at) → c.read_first-first.result.end + 3 + 4 ≤ length c.args.sheet.now
-inside c = field-inside _ _ 2 4 c.field_at.ensures c.in_default-field_at.is
-
-pub slice_bounds-read_wanted-end : goal.slice_bounds-read_wanted-end
-slice_bounds-read_wanted-end c = inside (goal.at.slice_bounds-read_wanted-end c).In_default-field_at
-
-pub read_wanted-requires : goal.read_wanted-requires
-read_wanted-requires c = handed-length _ _ 4 (inside (goal.at.read_wanted-requires c).In_default-field_at)
+    let p = err_from_is_err_and c.from_residual-in_err-body.result c.from_residual-in_err-body.ensures.1 in
+    rw (p.1, p.2) (sym (passed (goal.at.returns-in_err-body c).In_ok-first ∙ field-refused (Ok (head_behind sheet c.in_ok-first.first)) sheet _ wanted_format [] c.in_err-body.ensures))
 
 -- what the reader answers of the body
-answered : (c : After-read_wanted)
-    → c.read_wanted.result ≡ checked_wanted_delay (wanted_in (body_at c.args.sheet.now c.read_first-first.result.end 4))
-answered c = rw (handed-body c.args.sheet.now c.read_first-first.result.end 4) at c.read_wanted.ensures
+answered : (c : After-ok_or) → let at = c.in_ok-first.first.end in let body = body_at c.args.sheet.now at 4 in ToldOr (wanted_fits body) (record { 0 = wanted_in body }) (OutOfRange at) c.ok_or.result
+unfolding wanted_fits checked_in
+answered c = told-or _ _ _ (rw c.in_ok-body.ensures.is at c.read_wanted.ensures) c.ok_or.ensures.value
 
-pub returns-in_default-read_wanted : goal.returns-in_default-read_wanted
-unfolding wanted_fits
-returns-in_default-read_wanted c =
+pub returns-in_err-wanted : goal.returns-in_err-wanted
+returns-in_err-wanted c =
     let sheet = c.args.sheet.now in
-    let outside : wanted_fits (body_at sheet c.read_first-first.result.end 4) ≡ false = (wanted-told refl (answered (goal.at.returns-in_default-read_wanted c).After-read_wanted)).outside c.in_default-read_wanted.is in
-    c.head_refused-in_default-read_wanted.ensures
-    ∙ sym (passed (goal.at.returns-in_default-read_wanted c).In_default ∙ field-outside head_refused (head_behind sheet c.read_first-first.result) sheet _ wanted_format [] c.field_at.ensures c.in_default-field_at.is outside)
+    let (out, why) = (answered (goal.at.returns-in_err-wanted c).After-ok_or).outside c.in_err-wanted.was in
+    let p = err_from_is_err_and c.from_residual-in_err-wanted.result c.from_residual-in_err-wanted.ensures.1 in
+    rw (p.1, p.2, why)
+    (sym (passed (goal.at.returns-in_err-wanted c).In_ok-first ∙ field-outside (Ok (head_behind sheet c.in_ok-first.first)) sheet _ wanted_format [] c.in_ok-body.ensures.judged out))
 
 pub returns : goal.returns
-unfolding wanted_fits
 returns c =
     let sheet = c.args.sheet.now in
-    let (fits, same) = (wanted-told refl (answered (goal.at.returns c).After-read_wanted)).within c.in-InRange.is in
-    rw same (sym (passed (goal.at.returns c).In_default ∙ field-passed head_refused (head_behind sheet c.read_first-first.result) sheet _ wanted_format [] c.field_at.ensures c.in_default-field_at.is fits))
+    let (fits, same) = (answered (goal.at.returns c).After-ok_or).within c.in_ok-wanted.was in
+    rw (c.end.ensures, same) (sym (passed (goal.at.returns c).In_ok-first ∙ field-passed (Ok (head_behind sheet c.in_ok-first.first)) sheet _ wanted_format [] c.in_ok-body.ensures.judged fits))

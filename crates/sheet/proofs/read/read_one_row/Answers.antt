@@ -1,47 +1,36 @@
 -- The field is judged by its header, then by its body; one row is in order.
-use mathlib.Core.Path.{◌≡◌, refl, sym, ap, ◌∙◌}
-use mathlib.Core.Bool.{true}
-use borrow.Author.Tests.{not-true, not-false}
-use Rattle.quantity.proofs.Laws.{pick_true}
-use Rattle.sheet.specs.Bodies.{part, declaration_in, declaration_fits}
+use Rattle.std.proofs.Common.{sym}
+use Rattle.std.proofs.lemmas.Result.{err_from_is_err_and}
+use Rattle.quantity.specs.declared.refusal.Refusal.TheVariants.{OutOfRange}
+use Rattle.sheet.specs.Bodies.{declaration_in, declaration_fits}
 use Rattle.sheet.specs.Fields.{declaration_format, body_at}
-use Rattle.sheet.specs.declared.read.ReadDeclaration.{ReadDeclaration}
-use Rattle.sheet.proofs.AnswerLaws.{tells}
-use Rattle.sheet.proofs.ReadLaws.{field-inside}
+use Rattle.sheet.proofs.AnswerLaws.{ToldOr, told-or}
 use Rattle.sheet.proofs.DeclarationField.{first-of-one, declared-of-one}
 use Rattle.sheet.proofs.RowsRead.{one-in-order}
 use Rattle.sheet.proofs.FirstRead.{first-header-refuses, first-body-refuses, first_passes}
 use Rattle.sheet.proofs.read.read_one_row.Goals as goal
-use Rattle.sheet.proofs.read.read_one_row.Goals.{After-read_declaration-read}
+use Rattle.sheet.proofs.read.read_one_row.Goals.{After-ok_or}
 
-pub returns-in-Refused : goal.returns-in-Refused
-returns-in-Refused c =
+pub returns-in_err-body : goal.returns-in_err-body
+returns-in_err-body c =
     let sheet = c.args.sheet.now in
-    c.first_refused.ensures
-    ∙ sym (first-header-refuses sheet declaration_format (first-of-one sheet c.requires) (declaration_in (body_at sheet 0 7)) (declared-of-one sheet c.requires) c.field_at.ensures c.in-Refused.is)
-
-pub slice_bounds-read_declaration-end : goal.slice_bounds-read_declaration-end
-slice_bounds-read_declaration-end c = field-inside c.args.sheet.now 0 1 7 c.field_at.ensures c.in_default.is
+    let p = err_from_is_err_and c.from_residual.result c.from_residual.ensures.1 in
+    rw (p.1, p.2) (sym (first-header-refuses sheet declaration_format (first-of-one sheet c.requires) (declaration_in (body_at sheet 0 7)) (declared-of-one sheet c.requires) c.in_err-body.ensures))
 
 -- what the reader answers of the body
-fits : (c : After-read_declaration-read) → declaration_fits (body_at c.args.sheet.now 0 7) ≡ c.read_declaration-read.result.fits
-unfolding body_at part
-fits c = tells (λ (answer : ReadDeclaration). answer.fits) _ _ _ refl refl c.read_declaration-read.ensures refl
+answered : (c : After-ok_or) → let body = body_at c.args.sheet.now 0 7 in ToldOr (declaration_fits body) (declaration_in body) (OutOfRange 0) c.ok_or.result
+answered c = told-or _ _ _ (rw c.in_ok-body.ensures.is at c.read_declaration.ensures) c.ok_or.ensures.value
 
-declared : (c : After-read_declaration-read) → let body = body_at c.args.sheet.now 0 7 in declaration_fits body ≡ true → c.read_declaration-read.result.declaration ≡ declaration_in body
-unfolding body_at part
-declared c inside = ap (λ (answer : ReadDeclaration). answer.declaration) (c.read_declaration-read.ensures ∙ pick_true _ _ _ inside)
-
-pub returns-then-not-read : goal.returns-then-not-read
-returns-then-not-read c =
+pub returns-in_err-declaration : goal.returns-in_err-declaration
+returns-in_err-declaration c =
     let sheet = c.args.sheet.now in
-    c.first_refused-then-not-read.ensures
-    ∙ sym (first-body-refuses sheet declaration_format (first-of-one sheet c.requires) (declaration_in (body_at sheet 0 7)) (declared-of-one sheet c.requires) c.field_at.ensures c.in_default.is (fits (goal.at.returns-then-not-read c).After-read_declaration-read ∙ not-true _ c.if-not-read.true))
+    let (out, why) = (answered (goal.at.returns-in_err-declaration c).After-ok_or).outside c.in_err-declaration.was in
+    let p = err_from_is_err_and c.from_residual-in_err-declaration.result c.from_residual-in_err-declaration.ensures.1 in
+    rw (p.1, p.2, why) (sym (first-body-refuses sheet declaration_format (first-of-one sheet c.requires) (declaration_in (body_at sheet 0 7)) (declared-of-one sheet c.requires) c.in_ok-body.ensures.judged out))
 
 pub returns : goal.returns
 returns c =
     let sheet = c.args.sheet.now in
     let body = body_at sheet 0 7 in
-    let inside : declaration_fits body ≡ true = fits (goal.at.returns c).After-read_declaration-read ∙ not-false _ c.if-not-read.false in
-    rw (declared (goal.at.returns c).After-read_declaration-read inside)
-    (sym (first_passes sheet declaration_format (first-of-one sheet c.requires) (declaration_in body) (declared-of-one sheet c.requires) c.field_at.ensures c.in_default.is inside (one-in-order body)))
+    let (inside, same) = (answered (goal.at.returns c).After-ok_or).within c.in_ok-declaration.was in
+    rw (c.end.ensures, same) (sym (first_passes sheet declaration_format (first-of-one sheet c.requires) (declaration_in body) (declared-of-one sheet c.requires) c.in_ok-body.ensures.judged inside (one-in-order body)))

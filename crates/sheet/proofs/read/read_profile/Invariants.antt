@@ -1,5 +1,5 @@
 -- The field is judged by its header, then by its body; then what lies behind it decides. The invariant: the first k operators are stored, and the operators behind them are empty.
-use Prim.Native.Nat.{◌-◌, ◌≤◌}
+use Prim.Native.Nat.{◌≤◌}
 use mathlib.Core.Path.{◌≡◌}
 use mathlib.Core.List.{◌++◌}
 use lib.ListN.{take, replicate}
@@ -9,7 +9,4 @@ use Rattle.sheet.specs.House.{house_operator}
 use Rattle.sheet.proofs.read.read_profile.Given as goal
 
 abbrev pub invariant-loop-k : goal.invariant-loop-k
-invariant-loop-k l = (l.count ≤ 15) × (l.k ≤ l.count) × (l.operators ≡ take 16 (list_of (house_operator l.house) l.k ++ replicate 16 no_linked_operator))
-
-abbrev pub decreases-loop-k : goal.decreases-loop-k
-decreases-loop-k l = l.count - l.k
+invariant-loop-k l = (l.count ≤ 15) × (l.operators ≡ take 16 (list_of (house_operator l.house) l.k ++ replicate 16 no_linked_operator))

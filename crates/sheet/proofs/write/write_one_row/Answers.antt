@@ -1,9 +1,7 @@
 -- The header and the three numbers, one behind the other.
 use Prim.Native.Nat.{ℕ}
-use mathlib.Core.Path.{refl, ◌∙◌}
+use mathlib.Core.Path.{refl}
 use mathlib.Core.List.{List, [], ◌∷◌, ◌++◌}
-use native.Mathlib.Omega.{arith}
-use lib.ListN.{length-set}
 use Rattle.sheet.specs.Numbers.{bytes_of}
 use Rattle.sheet.specs.Bodies.{pair_body}
 use Rattle.sheet.specs.Fields.{field_of}
@@ -11,15 +9,6 @@ use Rattle.sheet.proofs.Runs.{run-behind}
 use Rattle.sheet.proofs.write.write_one_row.Goals as goal
 
 -- The header and the three numbers, one behind the other.
-
-pub write_number-requires : goal.write_number-requires
-write_number-requires c = simp length-set (omega (arith, c.write_header.auto.sheet))
-
-pub write_number-requires-2 : goal.write_number-requires-2
-write_number-requires-2 c = omega (arith, simp length-set at c.write_number.auto.sheet, c.write_header.auto.sheet)
-
-pub shape_of-sheet : goal.shape_of-sheet
-shape_of-sheet c = c.write_number-2.auto.sheet ∙ c.write_number.auto.sheet ∙ simp length-set c.write_header.auto.sheet
 
 pub returns : goal.returns
 unfolding bytes_of pair_body field_of

@@ -1,71 +1,35 @@
-use Prim.Native.Nat.{ℕ, ◌*◌, ◌≤◌}
-use mathlib.Core.Path.{◌≡◌, refl, ap, ◌∙◌}
-use mathlib.Core.List.{List, ◌∷◌}
-use native.Mathlib.Numerals.{add-one}
-use native.Mathlib.Omega.{arith}
-use lib.ListN.{length}
-use lib.Seq.{length-sets}
+use Rattle.std.proofs.Common.{◌≡◌, ◌*◌, ◌<◌, ℕ, List, ◌∷◌, length, take, refl, add-one, arith}
+use lib.Seq.{get_or-take, length-take-le}
 use Rattle.flow.specs.Declarations.{several_at}
 use Rattle.sheet.specs.Numbers.{bytes_of}
 use Rattle.sheet.specs.Bodies.{row_bodies}
 use Rattle.sheet.specs.Fields.{field_of}
 use Rattle.sheet.proofs.Bodies.{row_body, rows_next, length-row_bodies}
 use Rattle.sheet.proofs.Runs.{run-behind}
-use Rattle.sheet.proofs.WriteLaws.{rows-written-alike}
 use Rattle.sheet.proofs.write.write_rows.Goals as goal
-use Rattle.sheet.proofs.write.write_rows.Invariants.{of_rows}
-use Rattle.sheet.proofs.write.write_rows.Goals.{At-loop-k}
+use Rattle.sheet.proofs.write.write_rows.Goals.{At-loop-row, Start}
 
-pub overflow_mul-count : goal.overflow_mul-count
-overflow_mul-count c = omega (arith, c.requires.0)
-
-pub overflow_cast-count : goal.overflow_cast-count
-overflow_cast-count c = omega (arith, c.requires.0)
-
-pub write_header-requires : goal.write_header-requires
-write_header-requires c = omega (arith, c.requires.1)
-
-pub loop-k-init : goal.loop-k-init
+pub loop-row-init : goal.loop-row-init
 unfolding row_bodies
-loop-k-init c = (omega arith, omega arith, refl)
+loop-row-init c = (omega arith, refl)
 
-pub offset_bounds-rows-k : goal.offset_bounds-rows-k
-offset_bounds-rows-k c = omega (arith, c.requires.0)
+-- so many rows are written
+counted : (c : Start) → length (take c.args.declaration.count c.args.declaration.rows) ≡ c.args.declaration.count
+counted c = length-take-le c.args.declaration.count c.args.declaration.rows (omega arith)
 
-pub bounds-rows-k : goal.bounds-rows-k
-bounds-rows-k c = omega (arith, c.requires.0)
-
--- the sheet keeps its length
-full : (c : At-loop-k) → 27 ≤ length c.loop-k.sheet
-full c =
-    let same : length c.loop-k.sheet ≡ length c.args.sheet.now = ap length c.loop-k.invariant.2 ∙ simp length-sets c.write_header.auto.sheet in
-    omega (arith, c.requires.1)
-
-pub write_row-requires : goal.write_row-requires
-write_row-requires c = omega (arith, full (goal.at.write_row-requires c).At-loop-k, c.loop-k.invariant.1, c.requires.0)
-
-pub overflow_add-at-in-loop-k : goal.overflow_add-at-in-loop-k
-overflow_add-at-in-loop-k c = omega (arith, c.requires.0)
-
-pub overflow_add-k : goal.overflow_add-k
-overflow_add-k c = omega (arith, c.requires.0)
-
-pub loop-k-preserved : goal.loop-k-preserved
-loop-k-preserved c =
-    let rows = of_rows c.args.declaration.rows in
-    let k = c.loop-k.k in
-    (omega arith, omega arith, rw (add-one, rows_next rows k) (run-behind _ 3 c.loop-k.at (row_bodies rows k) (row_body (several_at rows k)) c.loop-k.invariant.2 c.write_row.ensures (omega (arith, length-row_bodies rows k))))
-
-pub shape_of-sheet : goal.shape_of-sheet
-shape_of-sheet c = ap length c.loop-k.invariant.2 ∙ simp length-sets c.write_header.auto.sheet
+pub loop-row-preserved : goal.loop-row-preserved
+loop-row-preserved c =
+    let declared = c.args.declaration in
+    let k = c.loop-row.row-index in
+    let used : k < declared.count = omega (arith, counted (goal.at.loop-row-preserved c).Start) in
+    let row = rw get_or-take at c.write_row.ensures in
+    (omega arith, rw (add-one, rows_next declared k) (run-behind _ 3 c.loop-row.at (row_bodies declared k) (row_body (several_at declared k)) c.loop-row.invariant.1 row (omega (arith, length-row_bodies declared k))))
 
 pub returns : goal.returns
 unfolding field_of bytes_of
 returns c =
     let declared = c.args.declaration in
-    let rows = of_rows declared.rows in
-    let all : c.loop-k.k ≡ declared.count = omega arith in
-    let alike = rows-written-alike rows declared refl declared.count in
+    let all : c.loop-row.row-index ≡ declared.count = omega (arith, counted (goal.at.returns c).Start) in
     let body = row_bodies declared declared.count in
     let header : List ℕ = 0x05 ∷ bytes_of 2 (declared.count * 6) in
-    rw (length-row_bodies declared declared.count) (run-behind c.args.sheet.now 0 3 header body c.write_header.ensures (rw (all, alike) at c.loop-k.invariant.2) refl)
+    rw (length-row_bodies declared declared.count) (run-behind c.args.sheet.now 0 3 header body (rw c.of_rows.ensures at c.write_header.ensures) (rw all at c.loop-row.invariant.1) refl)

@@ -1,48 +1,47 @@
+use mathlib.Core.Path.{sym, ◌∙◌}
 use Prim.Native.Nat.{◌+◌, ◌-◌}
-use native.Mathlib.Nat.{sub-zero}
-use native.Mathlib.Omega.{arith}
-use Rattle.text.specs.declared.decimal.Decimals.{Decimals}
+use borrow.Author.Tests.{ltb-false}
+use Rattle.std.proofs.lemmas.Result.{err_from_is_err_and}
 use Rattle.text.specs.DecimalRows.{behind_number, row_from, decimals_from}
-use Rattle.text.proofs.RowLaws.{Reached, reached-first, reached-next, answer-fault, answer-count}
-use Rattle.text.proofs.DecimalRowLaws.{due-none, due-large, due-many, due-number, behind-end, behind-other, behind-space}
+use Rattle.text.proofs.RowLaws.{Reached, reached-next, answer-fault, answer-count}
+use Rattle.text.proofs.DecimalRowLaws.{due-fault, due-many, due-number, behind-end, behind-other, behind-space}
 use Rattle.text.proofs.decimal.judge.Goals as goal
-use Rattle.text.proofs.decimal.judge.Goals.{Else-places-count}
+use Rattle.text.proofs.decimal.judge.Goals.{In_ok-number}
 
-pub loop-next-init : goal.loop-next-init
-loop-next-init c = (omega arith, rw sub-zero (reached-first _))
-
-pub returns-in-NoDigit : goal.returns-in-NoDigit
+pub returns-in_err-number : goal.returns-in_err-number
 unfolding decimals_from
-returns-in-NoDigit c =
-    answer-fault _ _ Decimals.Count Decimals.NotANumber (rw (due-none _ _ c.decimal_at.ensures _ c.in-NoDigit.is) at c.loop-next.invariant.1)
-
-pub returns-in-TooLarge : goal.returns-in-TooLarge
-unfolding decimals_from
-returns-in-TooLarge c =
-    answer-fault _ _ Decimals.Count Decimals.TooLarge (rw (due-large _ _ c.decimal_at.ensures _ c.in-TooLarge.is) at c.loop-next.invariant.1)
-
-pub returns-then-places-count : goal.returns-then-places-count
-unfolding decimals_from
-returns-then-places-count c =
-    answer-fault _ _ Decimals.Count Decimals.TooMany (rw (due-many _ _ c.decimal_at.ensures _ _ c.in-Number.is _ _ c.if-places-count.true) at c.loop-next.invariant.1)
+returns-in_err-number c =
+    let (why, is-why, from) = err_from_is_err_and c.from_residual.result c.from_residual.ensures.1 in
+    rw (is-why, from) (answer-fault _ _ _ (rw (due-fault _ _ _ _ c.in_err-number.ensures) at c.loop-count.invariant))
 
 -- one number more is read; what stands behind it decides
-passed : (c : Else-places-count)
+passed : (c : In_ok-number)
     → let a = c.args in
-    let next = c.in-Number.next in
-    Reached (row_from a.places a.text.now a.from) (c.loop-next.count + 1) (behind_number a.text.now next (row_from (a.places - (c.loop-next.count + 1)) a.text.now (next + 1)))
-passed c =
-    reached-next _ _ _ _ (rw (due-number _ _ c.decimal_at.ensures _ _ c.in-Number.is _ _ c.if-places-count.false) at c.loop-next.invariant.1)
+    let next = c.in_ok-number.number.next in
+    Reached (row_from a.places a.text.now a.from) (c.loop-count.count + 1) (behind_number a.text.now next (row_from (a.places - (c.loop-count.count + 1)) a.text.now (next + 1)))
+passed c = reached-next _ _ _ _ (rw (due-number _ _ _ c.in_ok-number.ensures _ _ c.loop-count-test.true) at c.loop-count.invariant)
 
-pub returns-then-text-next : goal.returns-then-text-next
+pub returns-in-None : goal.returns-in-None
 unfolding decimals_from
-returns-then-text-next c = answer-count _ _ Decimals.Count (rw (behind-end _ _ _ c.if-text-next.true) at (passed (goal.at.returns-then-text-next c).Else-places-count))
+returns-in-None c = answer-count _ _ (rw (behind-end _ _ _ (ltb-false _ _ (sym c.in-None.ensures.lookup.0))) at (passed (goal.at.returns-in-None c).In_ok-number))
 
-pub returns-then-text-next-ne-SPACE : goal.returns-then-text-next-ne-SPACE
+pub returns-in-Some : goal.returns-in-Some
 unfolding decimals_from
-returns-then-text-next-ne-SPACE c =
-    answer-fault _ _ Decimals.Count Decimals.NotANumber (rw (behind-other _ _ _ c.if-text-next.false c.if-text-next-ne-SPACE.true) at (passed (goal.at.returns-then-text-next-ne-SPACE c).Else-places-count))
+returns-in-Some c =
+    let (inside, byte) = c.in-Some.ensures.lookup.3 in
+    answer-fault _ _ _ (rw (behind-other _ _ _ inside (λ e. c.in-Some.field-0-test.1 (byte 0 ∙ e))) at (passed (goal.at.returns-in-Some c).In_ok-number))
 
-pub loop-next-preserved : goal.loop-next-preserved
-loop-next-preserved c =
-    (omega arith, rw (behind-space _ _ _ c.if-text-next.false c.if-text-next-ne-SPACE.false) at (passed (goal.at.loop-next-preserved c).Else-places-count))
+pub loop-count-preserved : goal.loop-count-preserved
+loop-count-preserved c =
+    let (inside, byte) = c.in-Some-eq32.ensures.lookup.3 in
+    rw (behind-space _ _ _ inside (sym (byte 0) ∙ c.in-Some-eq32.field-0-test)) at (passed (goal.at.loop-count-preserved c).In_ok-number)
+
+pub returns-in_err-decimal_at : goal.returns-in_err-decimal_at
+unfolding decimals_from
+returns-in_err-decimal_at c =
+    let (why, is-why, from) = err_from_is_err_and c.from_residual-in_err-decimal_at.result c.from_residual-in_err-decimal_at.ensures.1 in
+    rw (is-why, from) (answer-fault _ _ _ (rw (due-fault _ _ _ _ c.in_err-decimal_at.ensures) at c.loop-count.invariant))
+
+pub returns : goal.returns
+unfolding decimals_from
+returns c = answer-fault _ _ _ (rw (due-many _ _ _ c.in_ok-decimal_at.ensures _ _ c.loop-count-test.false) at c.loop-count.invariant)

@@ -1,10 +1,8 @@
 -- Past the end the element is 0, which is no digit.
-use mathlib.Core.Path.{sym}
-use Rattle.quantity.proofs.Laws.{pick-false}
+use Rattle.std.proofs.Common.{sym}
+use borrow.Author.Tests.{ltb-false}
 use Rattle.text.proofs.HexadecimalLaws.{no-digit-past}
 use Rattle.text.proofs.hexadecimal.digit_at.Goals as goal
 
-pub returns-else-at-text : goal.returns-else-at-text
-returns-else-at-text c =
-    let a = c.args in
-    sym (pick-false _ _ _ (no-digit-past a.text.now a.at c.if-at-text.false))
+pub returns-in_err-get : goal.returns-in_err-get
+returns-in_err-get c = rw (no-digit-past c.args.text.now c.args.at (ltb-false _ _ (sym c.in_err-get.ensures.lookup.0))) c.from_residual.ensures

@@ -1,9 +1,0 @@
--- A loop of at most ten turns.
-use Rattle.std.proofs.Common.{◌-◌, ◌≤◌}
-use Rattle.compose.proofs.line.said_of.Given as goal
-
-abbrev pub invariant-loop-k : goal.invariant-loop-k
-invariant-loop-k l = l.k ≤ 10
-
-abbrev pub decreases-loop-k : goal.decreases-loop-k
-decreases-loop-k l = 10 - l.k

@@ -1,9 +1,0 @@
--- The index stays within the sixteen places.
-use Rattle.std.proofs.Common.{◌-◌, ◌≤◌}
-use Rattle.console.proofs.listing.sum.Given as goal
-
-abbrev pub invariant-loop-k : goal.invariant-loop-k
-invariant-loop-k l = l.k ≤ 16
-
-abbrev pub decreases-loop-k : goal.decreases-loop-k
-decreases-loop-k l = 16 - l.k

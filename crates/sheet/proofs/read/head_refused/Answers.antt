@@ -1,5 +1,0 @@
--- Beside a refusal the declaration is the empty one.
-use Rattle.sheet.proofs.read.head_refused.Goals as goal
-
-pub returns : goal.returns
-returns c = rw c.no_declaration.ensures

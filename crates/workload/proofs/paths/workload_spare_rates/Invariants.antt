@@ -1,9 +1,0 @@
--- The loop counts down, and each turn has a link within those that are lent.
-use Rattle.std.proofs.Common.{◌+◌, ◌≤◌, length}
-use Rattle.workload.proofs.paths.workload_spare_rates.Given as goal
-
-abbrev pub invariant-loop-turns : goal.invariant-loop-turns
-invariant-loop-turns l = l.j + 1 ≤ length l.asked
-
-abbrev pub decreases-loop-turns : goal.decreases-loop-turns
-decreases-loop-turns l = l.turns
