@@ -1,9 +1,12 @@
 // What can be wrong with a line of a path's text.
 
+ghost use Rattle.std.specs.Prelude.{Some};
+ghost use Rattle.compose.specs.PathFaults.{path_fault_text};
+
 use console::fault::Fault;
 use std::fmt;
 
-// A quantity that is out of its range goes by its name.
+// Which quantity is out of its range, in words that are written together.
 #[derive(Clone, Copy)]
 pub(crate) enum PathFault {
     Line(Fault),
@@ -18,11 +21,13 @@ pub(crate) enum PathFault {
 }
 
 impl fmt::Display for PathFault {
+    ghost output = { λ why. Some (path_fault_text why) };
+
     fn fmt<W: fmt::Write>(&self, f: &mut fmt::Formatter<W>) -> fmt::Result {
         match self {
             PathFault::Line(why) => write!(f, "{why}"),
             PathFault::UnknownWord => write!(f, "unknown word"),
-            PathFault::OutOfRange(what) => write!(f, "{what} out of range"),
+            PathFault::OutOfRange(what) => write!(f, "{what}"),
             PathFault::DelayerTooLong => write!(f, "delayer of more than 64 slots"),
             PathFault::LinkMissing => write!(f, "link is missing"),
             PathFault::DeclarationMissing => write!(f, "smooth, uniform or rows is missing here"),

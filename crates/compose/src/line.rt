@@ -51,11 +51,11 @@ const WORDS: [(&[u8], Word); 10] = [
 pub(crate) fn part_of(line: &[u8]) -> Result<Part, PathFault> {
     let Found { what, behind } = find(&WORDS, line).ok_or(PathFault::UnknownWord)?;
     match what {
-        Word::Limiter => linked(behind, Operator::Limiter, "rate"),
-        Word::Compactor => linked(behind, Operator::Compactor, "interval"),
-        Word::Expander => linked(behind, Operator::Expander, "interval"),
-        Word::Filter => linked(behind, Operator::Filter, "rate"),
-        Word::Delayer => linked(behind, Operator::Delayer, "delay"),
+        Word::Limiter => linked(behind, Operator::Limiter, "rate out of range"),
+        Word::Compactor => linked(behind, Operator::Compactor, "interval out of range"),
+        Word::Expander => linked(behind, Operator::Expander, "interval out of range"),
+        Word::Filter => linked(behind, Operator::Filter, "rate out of range"),
+        Word::Delayer => linked(behind, Operator::Delayer, "delay out of range"),
         Word::Wanted => wanted(behind),
         Word::Profile => Ok(Part::House(house_of(behind)?)),
         Word::Smooth => one_row(behind, Kind::Smooth),
@@ -81,14 +81,14 @@ fn linked<Q: Quantity, F: Fn(Q) -> Operator>(
     )?;
     let [link] = all_numbers::<1>(behind)?;
     let operator = operator(quantity_of(number, name)?);
-    let link = quantity_of(link, "link")?;
+    let link = quantity_of(link, "link out of range")?;
     Ok(Part::Operator(LinkedOperator { operator, link }))
 }
 
 // `wanted N`
 fn wanted(text: Option<&[u8]>) -> Result<Part, PathFault> {
     let [wanted] = all_numbers::<1>(text)?;
-    Ok(Part::Wanted(quantity_of(wanted, "delay wanted")?))
+    Ok(Part::Wanted(quantity_of(wanted, "delay wanted out of range")?))
 }
 
 // `smooth m Q` or `uniform m Q`
@@ -112,7 +112,7 @@ fn rows(text: Option<&[u8]>) -> Result<Part, PathFault> {
 
 fn row_of([interval, quota]: [u64; 2]) -> Result<DeclaredRow, PathFault> {
     Ok(DeclaredRow {
-        interval: quantity_of(interval, "interval")?,
-        quota: quantity_of(quota, "quota")?,
+        interval: quantity_of(interval, "interval out of range")?,
+        quota: quantity_of(quota, "quota out of range")?,
     })
 }

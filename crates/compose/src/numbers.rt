@@ -37,7 +37,10 @@ pub(crate) fn behind_label<'a>(
     }
 }
 
-// A number as a quantity, which is named where the number is out of its range.
-pub(crate) fn quantity_of<Q: Quantity>(number: u64, name: &'static str) -> Result<Q, PathFault> {
-    Q::checked(narrow(number)).ok_or(PathFault::OutOfRange(name))
+// A number as a quantity, or what is said where it is out of its range.
+pub(crate) fn quantity_of<Q: Quantity>(
+    number: u64,
+    otherwise: &'static str,
+) -> Result<Q, PathFault> {
+    Q::checked(narrow(number)).ok_or(PathFault::OutOfRange(otherwise))
 }

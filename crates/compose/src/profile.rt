@@ -17,7 +17,7 @@ pub(crate) fn house_of(text: Option<&[u8]>) -> Result<House, PathFault> {
         0 => (0, 4),
         1 => (1, 5),
         2 => (2, 8),
-        _ => return Err(PathFault::OutOfRange("profile")),
+        _ => return Err(PathFault::OutOfRange("profile out of range")),
     };
     labelled(rest, &mut numbers[..count])?;
     checked(profile, numbers)
@@ -43,22 +43,22 @@ fn checked(profile: u8, numbers: [u64; 8]) -> Result<House, PathFault> {
     let [hops, wanted, interval, quota, rate, own, longest, link_rate] = numbers;
     let mut house = House {
         profile,
-        hops: quantity_of(hops, "hops")?,
-        wanted: quantity_of(wanted, "delay wanted")?,
-        interval: quantity_of(interval, "interval")?,
-        quota: quantity_of(quota, "quota")?,
+        hops: quantity_of(hops, "hops out of range")?,
+        wanted: quantity_of(wanted, "delay wanted out of range")?,
+        interval: quantity_of(interval, "interval out of range")?,
+        quota: quantity_of(quota, "quota out of range")?,
         rate: Rate(0),
         own_packet: Packet(0),
         longest_packet: Packet(0),
         link_rate: Rate(0),
     };
     if 1 <= profile {
-        house.rate = quantity_of(rate, "rate")?;
+        house.rate = quantity_of(rate, "rate out of range")?;
     }
     if profile == 2 {
-        house.own_packet = quantity_of(own, "packet")?;
-        house.longest_packet = quantity_of(longest, "packet")?;
-        house.link_rate = quantity_of(link_rate, "link rate")?;
+        house.own_packet = quantity_of(own, "packet out of range")?;
+        house.longest_packet = quantity_of(longest, "packet out of range")?;
+        house.link_rate = quantity_of(link_rate, "link rate out of range")?;
     }
     if house.in_range() {
         Ok(house)

@@ -1,7 +1,9 @@
 // What is said of a line in place of an answer: what is wrong with it, or the refusal of what it asks.
 
-ghost use Rattle.std.specs.Prelude.{Some};
+ghost use Rattle.std.specs.Prelude.{Some, OnOk};
+ghost use Rattle.std.specs.Io.KnownBytes.{Appends};
 ghost use Rattle.console.specs.Faults.{fault_text};
+ghost use Rattle.console.specs.Printed.{said};
 
 use crate::print::{error, refused};
 use quantity::refusal::Refusal;
@@ -107,7 +109,9 @@ impl From<io::Error> for Failure {
 }
 
 // A line that is not answered is an error or refused.
-pub fn say<W: Write>(out: &mut W, line: u64, answered: Result<(), Failure>) -> io::Result<()> {
+pub fn say<W: Write>(out: &mut W, line: u64, answered: Result<(), Failure>) -> io::Result<()>
+    ensures { OnOk result (Appends (W.contents out.old) (W.contents out.new) (said line answered)) }
+{
     match answered {
         Ok(()) => Ok(()),
         Err(Failure::Wrong(why)) => error(out, line, why),

@@ -1,6 +1,7 @@
 // The lines of standard input, one after the other.
 
-ghost use Rattle.std.specs.Prelude.{◌≡◌, ℕ, ◌+◌, ◌<◌, ◌≤◌, IfOk, OnErr, length, take, unwrap_or};
+ghost use Rattle.std.specs.Prelude.{◌≡◌, ℕ, ◌+◌, ◌<◌, ◌≤◌, false, None, Some, IfOk, OnErr, length, take, unwrap_or};
+ghost use Rattle.std.specs.Option.{MatchOption};
 ghost use Rattle.std.specs.Io.{ReadsAtMost};
 ghost use Rattle.std.specs.Io.KnownBytes.{Consumes, IsAtEnd, Keeps};
 
@@ -20,7 +21,9 @@ pub struct Line {
 }
 
 impl Line {
-    pub fn new() -> Line {
+    pub fn new() -> Line
+        ensures { (result.number ≡ 0) × (result.whole ≡ false) }
+    {
         Line {
             number: 0,
             whole: false,
@@ -30,7 +33,9 @@ impl Line {
     }
 
     // Its bytes; none, if it has more than 1,023.
-    pub fn text(&self) -> Option<&[u8]> {
+    pub fn text(&self) -> Option<&[u8]>
+        ensures { MatchOption result (self.now.length ≡ None) (λ text. (self.now.length ≡ Some (length text.now)) × (text.now ≡ take (length text.now) self.now.bytes)) }
+    {
         Some(&self.bytes[..self.length?])
     }
 
@@ -78,7 +83,7 @@ fn gather_bytes(line: &mut [u8; 1023], length: Option<usize>, bytes: &[u8]) -> O
 }
 
 // The block that was read, the place in it and its end, and whether the input has ended.
-#[derive(Drop)]
+#[derive(Clone, Copy)]
 pub struct Input {
     pub ended: bool,
     at: usize,
@@ -89,7 +94,9 @@ pub struct Input {
 }
 
 impl Input {
-    pub fn new() -> Input {
+    pub fn new() -> Input
+        ensures { result.ended ≡ false }
+    {
         Input {
             ended: false,
             at: 0,

@@ -1,7 +1,8 @@
 // The listing of a sheet (document 01, section 8): a line for each operator and one for the path, or the refusal.
 
-use crate::print::refused;
+use crate::print::{refused, text};
 use figures::{Figure, PathFigures, figures};
+use operator::Operator;
 use quantity::Units;
 use std::io;
 use std::io::Write;
@@ -27,8 +28,19 @@ fn lines<W: Write>(out: &mut W, answer: &PathFigures) -> io::Result<()> {
     let path = &answer.path;
     let placed = path.operators.iter().zip(&answer.figures);
     for (k, (linked, figure)) in placed.take(path.count).enumerate() {
-        let kind = linked.operator.name();
-        writeln!(out, "{k} {kind} {} {}", figure.capacity.0, figure.delay.0)?;
+        write!(out, "{k}")?;
+        kind(out, linked.operator)?;
+        writeln!(out, "{} {}", figure.capacity.0, figure.delay.0)?;
     }
     Ok(())
+}
+
+// The kind with a space on each side, written together: each write to an output without a buffer is a call of the system.
+fn kind<W: Write>(out: &mut W, operator: Operator) -> io::Result<()> {
+    let mut spaced = [b' '; 11];
+    let name = operator.name().as_bytes();
+    for (place, byte) in spaced[1..].iter_mut().zip(name) {
+        *place = *byte;
+    }
+    text(out, &spaced[..spaced.len().min(name.len() + 2)])
 }

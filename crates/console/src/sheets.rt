@@ -1,6 +1,7 @@
 // A sheet as text, which is in hexadecimal.
 
-ghost use Rattle.std.specs.Prelude.{◌≤◌};
+ghost use Rattle.std.specs.Prelude.{◌≡◌, ◌≤◌, IfOk, Ok, replicate, take};
+ghost use Rattle.text.specs.Hexadecimals.{hexadecimal_from, bytes_stored};
 
 use crate::fault::Fault;
 use text::hexadecimal::hexadecimal_from;
@@ -14,13 +15,17 @@ pub struct Sheet {
 }
 
 impl Sheet {
-    pub fn from_text(text: &[u8]) -> Result<Sheet, Fault> {
+    pub fn from_text(text: &[u8]) -> Result<Sheet, Fault>
+        ensures { IfOk result (λ sheet. (hexadecimal_from text.now 0 512 ≡ Ok sheet.length) × (sheet.bytes ≡ bytes_stored text.now 0 (replicate 512 0))) }
+    {
         let mut bytes = [0; 512];
         let length = hexadecimal_from(text, 0, &mut bytes)?;
         Ok(Sheet { bytes, length })
     }
 
-    pub fn bytes(&self) -> &[u8] {
+    pub fn bytes(&self) -> &[u8]
+        ensures { result.now ≡ take self.now.length self.now.bytes }
+    {
         &self.bytes[..self.length]
     }
 }

@@ -120,19 +120,20 @@ fn admit<W: Write>(out: &mut W, book: &mut Book, text: &[u8]) -> Result<(), Fail
     let (path, sheet) = path_in(text)?;
     let holding = book.hold(path, sheet.bytes())?;
     book.confirm(path)?;
-    Ok(say_held(out, "admitted", path, holding)?)
+    Ok(say_held(out, "admitted ", path, holding)?)
 }
 
 // `hold NUMBER SHEET`
 fn hold<W: Write>(out: &mut W, book: &mut Book, text: &[u8]) -> Result<(), Failure> {
     let (path, sheet) = path_in(text)?;
     let holding = book.hold(path, sheet.bytes())?;
-    Ok(say_held(out, "held", path, holding)?)
+    Ok(say_held(out, "held ", path, holding)?)
 }
 
+// The word comes with the space behind it: each piece of a line is written by itself.
 fn say_held<W: Write>(out: &mut W, word: &str, path: u64, holding: Holding) -> io::Result<()> {
     let Holding { rate, delay, .. } = holding;
-    writeln!(out, "{word} {path} rate {} delay {}", rate.0, delay.0)
+    writeln!(out, "{word}{path} rate {} delay {}", rate.0, delay.0)
 }
 
 // A path's number and, behind a space, its sheet.

@@ -2,9 +2,9 @@
 
 #![tactic(auto)]
 
-ghost use Rattle.std.specs.Prelude.{◌≡◌, ℕ};
+ghost use Rattle.std.specs.Prelude.{◌≡◌, ℕ, Option, refl};
 ghost use Rattle.quantity.specs.Quantities.{slots_sum, units_sum, rates_sum, units_over};
-ghost use Rattle.quantity.specs.Ranges.{in_range, checked_in, interval_range, quota_range, rate_range, delay_range, wanted_delay_range, link_range, path_number_range, link_capacity_range, hops_range, packet_range};
+ghost use Rattle.quantity.specs.Ranges.{in_range, checked_in, checked_interval, checked_quota, checked_rate, checked_delay, checked_wanted_delay, checked_link, checked_path_number, checked_link_capacity, checked_hops, checked_packet, interval_range, quota_range, rate_range, delay_range, wanted_delay_range, link_range, path_number_range, link_capacity_range, hops_range, packet_range};
 
 pub mod divisor;
 pub mod refusal;
@@ -59,12 +59,18 @@ pub trait Quantity: Copy {
 
     ghost number: { Self → ℕ };
 
+    // The kind's checking constructor, by the name that it has among the ranges.
+    ghost check: { ℕ → Option Self };
+
     // The number as one of its kind, whatever it is. No From, which would hide that it is not tested.
     fn new(value: u32) -> Self
         ensures { result ≡ of value };
 
     fn value(self) -> u32
         ensures { result ≡ number self };
+
+    // It takes just what lies in the kind's range, and so does `checked`.
+    ghost check_in_range: { (value : ℕ) → check value ≡ checked_in (record { least = LEAST; largest = LARGEST }) of value };
 
     // The number as one of its kind, if it is in the kind's range. Document 01 names a checking constructor; TryFrom's error would say no more than None.
     #[tactic(auto, unfolding(crate::specs::Ranges::checked_in, crate::specs::Ranges::in_range))]
@@ -103,6 +109,10 @@ impl Quantity for Interval {
 
     ghost number = { λ interval. interval.0 };
 
+    ghost check = { checked_interval };
+
+    ghost check_in_range = { λ value. refl };
+
     fn new(value: u32) -> Interval {
         Interval(value)
     }
@@ -129,6 +139,10 @@ impl Quantity for Quota {
 
     ghost number = { λ quota. quota.0 };
 
+    ghost check = { checked_quota };
+
+    ghost check_in_range = { λ value. refl };
+
     fn new(value: u32) -> Quota {
         Quota(value)
     }
@@ -154,6 +168,10 @@ impl Quantity for Rate {
     ghost of = { λ value. record { 0 = value } };
 
     ghost number = { λ rate. rate.0 };
+
+    ghost check = { checked_rate };
+
+    ghost check_in_range = { λ value. refl };
 
     fn new(value: u32) -> Rate {
         Rate(value)
@@ -199,6 +217,10 @@ impl Quantity for Delay {
 
     ghost number = { λ delay. delay.0 };
 
+    ghost check = { checked_delay };
+
+    ghost check_in_range = { λ value. refl };
+
     fn new(value: u32) -> Delay {
         Delay(value)
     }
@@ -224,6 +246,10 @@ impl Quantity for WantedDelay {
     ghost of = { λ value. record { 0 = value } };
 
     ghost number = { λ wanted_delay. wanted_delay.0 };
+
+    ghost check = { checked_wanted_delay };
+
+    ghost check_in_range = { λ value. refl };
 
     fn new(value: u32) -> WantedDelay {
         WantedDelay(value)
@@ -251,6 +277,10 @@ impl Quantity for Link {
 
     ghost number = { λ link. link.0 };
 
+    ghost check = { checked_link };
+
+    ghost check_in_range = { λ value. refl };
+
     fn new(value: u32) -> Link {
         Link(value)
     }
@@ -276,6 +306,10 @@ impl Quantity for PathNumber {
     ghost of = { λ value. record { 0 = value } };
 
     ghost number = { λ path_number. path_number.0 };
+
+    ghost check = { checked_path_number };
+
+    ghost check_in_range = { λ value. refl };
 
     fn new(value: u32) -> PathNumber {
         PathNumber(value)
@@ -303,6 +337,10 @@ impl Quantity for LinkCapacity {
 
     ghost number = { λ link_capacity. link_capacity.0 };
 
+    ghost check = { checked_link_capacity };
+
+    ghost check_in_range = { λ value. refl };
+
     fn new(value: u32) -> LinkCapacity {
         LinkCapacity(value)
     }
@@ -329,6 +367,10 @@ impl Quantity for Hops {
 
     ghost number = { λ hops. hops.0 };
 
+    ghost check = { checked_hops };
+
+    ghost check_in_range = { λ value. refl };
+
     fn new(value: u32) -> Hops {
         Hops(value)
     }
@@ -354,6 +396,10 @@ impl Quantity for Packet {
     ghost of = { λ value. record { 0 = value } };
 
     ghost number = { λ packet. packet.0 };
+
+    ghost check = { checked_packet };
+
+    ghost check_in_range = { λ value. refl };
 
     fn new(value: u32) -> Packet {
         Packet(value)

@@ -7,6 +7,7 @@ ghost use Rattle.std.specs.Prelude.{◌≤◌, IfOk};
 use console::fault::{Failure, Fault, say};
 use console::input::{Line, each_line};
 use console::sheets::Sheet;
+use console::tables::{Found, find};
 use quantity::Units;
 use run::Run;
 use run::opening::open;
@@ -38,7 +39,13 @@ fn answer<W: Write>(
     words: &mut [u32; 2048],
 ) -> Result<(), Failure> {
     let text = line.text().ok_or(Fault::LineTooLong)?;
-    if let Some(sheet) = text.strip_prefix(b"sheet ") {
+    if let Some(
+        Found {
+            behind: Some(sheet),
+            ..
+        },
+    ) = find(&[(b"sheet", ())], text)
+    {
         return open_sheet(run, sheet, words);
     }
     if line.number == 1 {

@@ -1,6 +1,6 @@
 // Opening a run (document 01, sections 6 and 7).
 
-ghost use Rattle.std.specs.Prelude.{◌≡◌, ◌≤◌, length};
+ghost use Rattle.std.specs.Prelude.{◌≡◌, ℕ, ◌<◌, ◌≤◌, length, slice_index};
 ghost use Rattle.quantity.specs.Limits.{most_operators};
 ghost use Rattle.sheet.specs.Paths.{Path};
 ghost use Rattle.sheet.specs.Forms.{value_of_path};
@@ -22,8 +22,16 @@ pub fn open(sheet: &[u8], words: &mut [u32]) -> Result<Run, Refusal>
         return Err(Refusal::Unusable);
     }
     let planned = figures(sheet)?;
-    words.fill(0);
+    clear(words);
     Ok(new_run(planned.path))
+}
+
+// Every word, whatever it held.
+fn clear(words: &mut [u32])
+    ensures len { length words.new ≡ length words.old }
+    ensures zero { (j : ℕ) → j < length words.old → slice_index words.new j ≡ 0 }
+{
+    words.fill(0);
 }
 
 // The run of a path before its first slot. The places behind a path's operators are empty, and so are the stages.

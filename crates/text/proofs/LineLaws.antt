@@ -2,7 +2,7 @@
 use mathlib.Core.Path.{◌≡◌, refl, sym, ap, ◌∙◌}
 use mathlib.Core.Bool.{Bool, true, false}
 use mathlib.Core.List.{List}
-use Prim.Native.Nat.{ℕ, ◌≤◌}
+use Prim.Native.Nat.{ℕ, ◌≤◌, ◌<◌}
 use native.Mathlib.Omega.{arith}
 use lib.ListN.{length, get_or, take, length-take}
 use Rattle.std.proofs.lemmas.List.{get_or-take, length-take-le}
@@ -19,12 +19,14 @@ module _ (text word : List ℕ) where
   agree : ℕ → Bool
   agree k = eqb (get_or text k 0) (get_or word k 0)
 
-  begins : word ≡ take (length word) text → begins_with text word ≡ true
+  pub begins : length word ≤ length text → ((k : ℕ) → k < length word → get_or text k 0 ≡ get_or word k 0) → begins_with text word ≡ true
   unfolding begins_with agree
-  begins same =
-      let enough : length word ≤ length text = omega (arith, ap length same, length-take (length word) text) in
-      rw (le-leb (length word) (length text) enough)
-      (every_holds agree (length word) (λ k inside. eq-eqb _ _ (sym (get_or-take (length word) text k 0 inside) ∙ ap (λ (l : List ℕ). get_or l k 0) (sym same))))
+  begins enough same = rw (le-leb (length word) (length text) enough) (every_holds agree (length word) (λ k inside. eq-eqb _ _ (same k inside)))
+
+  first-begins : word ≡ take (length word) text → begins_with text word ≡ true
+  first-begins same =
+      begins (omega (arith, ap length same, length-take (length word) text))
+      (λ k inside. sym (get_or-take (length word) text k 0 inside) ∙ ap (λ (l : List ℕ). get_or l k 0) (sym same))
 
   first : begins_with text word ≡ true → word ≡ take (length word) text
   unfolding begins_with agree
@@ -39,6 +41,6 @@ module _ (text word : List ℕ) where
   starts-begins r answered = of r (begins_with text word) refl answered
     where
       of : (r b : Bool) → begins_with text word ≡ b → r ≡ bytes_eq word (take (length word) text) → r ≡ b
-      of true b e answered = sym (begins ((bytes_eq-Decides word (take (length word) text)).0 (sym answered))) ∙ e
+      of true b e answered = sym (first-begins ((bytes_eq-Decides word (take (length word) text)).0 (sym answered))) ∙ e
       of false true e answered = answered ∙ (bytes_eq-Decides word (take (length word) text)).1 (first e)
       of false false e answered = refl

@@ -20,7 +20,7 @@ pub(crate) fn answer<W: Write>(
     let Found { what, behind } = command.ok_or(Fault::UnknownCommand)?;
     match (what, behind) {
         (Word::SetSlot, Some(text)) => state.slot = set_slot(out, text)?,
-        (Word::SetBlock, Some(text)) => state.block = set_units(out, "block", text)?,
+        (Word::SetBlock, Some(text)) => state.block = set_units(out, "block ", text)?,
         (Word::SetWord, Some(text)) => set_word(out, text, words)?,
         (Word::Take, Some(text)) => take(out, state, text, words)?,
         (Word::Room, None) => ask_room(out, state, words)?,

@@ -22,8 +22,8 @@ pub(crate) fn answer<W: Write>(
     let Found { what, behind } = command.ok_or(Fault::UnknownCommand)?;
     match (what, behind) {
         (Word::SetSlot, Some(text)) => state.slot = set_slot(out, text)?,
-        (Word::SetHeld, Some(text)) => state.held = set_units(out, "held", text)?,
-        (Word::SetBeside, Some(text)) => state.beside = set_units(out, "beside", text)?,
+        (Word::SetHeld, Some(text)) => state.held = set_units(out, "held ", text)?,
+        (Word::SetBeside, Some(text)) => state.beside = set_units(out, "beside ", text)?,
         (Word::SetWord, Some(text)) => set_word(out, text, words)?,
         (Word::Step, Some(text)) => step(out, state, text, words)?,
         (Word::Bounds, Some(text)) => ask_bounds(out, state, text, words)?,

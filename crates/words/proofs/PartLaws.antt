@@ -21,16 +21,16 @@ pub record PartGathered (words : List ℕ) (from end : ℕ) (part : Gathered) : 
   pub small : part.join ≤ most_exact → (j : ℕ) → from ≤ j → j < end → word_at words j ≤ most_exact
 
 module _ (words : List ℕ) (from end : ℕ) (behind : from ≤ end) (inside : end ≤ length words) where
-  part_length : length (part_of words from end) ≡ end - from
+  pub part_length : length (part_of words from end) ≡ end - from
   part_length = length-take-le (end - from) (drop from words) (omega (arith, length-drop from words))
 
-  part-word : (j : ℕ) → j < end - from → word_at (part_of words from end) j ≡ word_at words (from + j)
+  pub part-word : (j : ℕ) → j < end - from → word_at (part_of words from end) j ≡ word_at words (from + j)
   part-word j less = get_or-take (end - from) (drop from words) j 0 less ∙ get_or-drop from words j 0
 
   whole : from + (end - from) ≡ end
   whole = omega arith
 
-  part-total : total (word_at words) from + total (word_at (part_of words from end)) (length (part_of words from end)) ≡ total (word_at words) end
+  pub part-total : total (word_at words) from + total (word_at (part_of words from end)) (length (part_of words from end)) ≡ total (word_at words) end
   part-total =
       ap (λ (n : ℕ). total (word_at words) from + n) (ap (total (word_at (part_of words from end))) part_length ∙ total-same _ _ (end - from) part-word)
       ∙ sym (total-parts (word_at words) from (end - from))

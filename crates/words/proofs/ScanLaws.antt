@@ -92,10 +92,10 @@ module _ (words first behind : List ℕ) (used end : ℕ) (cut : end ≡ min use
       (λ j less. ap (λ (w : ℕ). eqb w 0) (behind-word j)
       ∙ ap (λ (t : Bool). pick t (leb (word_at words (end + j)) largest_amount) (eqb (word_at words (end + j)) 0)) (sym (le-ltb (end + j) used (none-used j less))))
 
-  scanned-fits : both small clear ≡ every (word_fits used words) (length words)
+  pub scanned-fits : both small clear ≡ every (word_fits used words) (length words)
   scanned-fits = ap₂ both first_fits behind-fits ∙ sym (every-parts (word_fits used words) end rest) ∙ ap (every (word_fits used words)) whole
 
-  scanned-units : every (word_fits used words) (length words) ≡ true → total (word_at first) (length first) ≡ total (word_at words) (length words)
+  pub scanned-units : every (word_fits used words) (length words) ≡ true → total (word_at first) (length first) ≡ total (word_at words) (length words)
   scanned-units fits = ap (total (word_at first)) first-length ∙ total-same (word_at first) (word_at words) end first_word ∙ used-units
     where
       used-units : total (word_at words) end ≡ total (word_at words) (length words)

@@ -81,7 +81,7 @@ module _ (lent count slot first second : ℕ) where
   pub amounts-tested : lent ≡ count → slot ≤ last_slot → any_of (unfit_tests lent count slot first second) ≡ either (ltb largest_amount first) (ltb largest_amount second)
   amounts-tested sized slot-left = rw (eq-eqb lent count sized, le-ltb last_slot slot slot-left) (ap (either (ltb largest_amount first)) (either-last (ltb largest_amount second)))
 
-  unfit-second : lent ≡ count → slot ≤ last_slot → first ≤ largest_amount → ltb largest_amount second ≡ any_of (unfit_tests lent count slot first second)
+  pub unfit-second : lent ≡ count → slot ≤ last_slot → first ≤ largest_amount → ltb largest_amount second ≡ any_of (unfit_tests lent count slot first second)
   unfit-second sized slot-left first-le =
       sym (amounts-tested sized slot-left ∙ ap (λ (t : Bool). either t (ltb largest_amount second)) (le-ltb largest_amount first first-le))
 

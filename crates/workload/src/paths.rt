@@ -54,6 +54,9 @@ pub extern "C" fn workload_holdings(
     confirmed: bool,
     turns: u64,
 ) -> u64 {
+    if further.is_empty() {
+        return 0;
+    }
     let book = filled(capacity, standing, sheets, width);
     let mut sum = 0;
     let asked = further.iter().cycle().zip(Parts::new(sheets, width));
@@ -74,6 +77,9 @@ pub extern "C" fn workload_releases(
     width: usize,
     turns: u64,
 ) -> u64 {
+    if released.is_empty() {
+        return 0;
+    }
     let book = filled(capacity, standing, sheets, width);
     let mut sum = 0;
     for (left, number) in (1..=turns).rev().zip(released.iter().cycle()) {
@@ -97,6 +103,9 @@ pub extern "C" fn workload_spare_rates(
     width: usize,
     turns: u64,
 ) -> u64 {
+    if asked.is_empty() {
+        return 0;
+    }
     let book = filled(capacity, standing, sheets, width);
     let mut ledger = book.ledger;
     let mut sum = 0;

@@ -44,15 +44,12 @@ pub extern "C" fn workload_pages(sheets: &[u8], width: usize, lent: &mut [u8], t
     sum
 }
 
-// The paths of sixty-four sheets.
-fn paths_of(sheets: &[u8], width: usize) -> [PathValue; 64] {
+// Sheets are read into their places. These are lent: an array that was answered would be copied, and takes as much of the stack again.
+fn read_into(paths: &mut [PathValue], sheets: &[u8], width: usize) {
     let mut sheets = Parts::new(sheets, width);
-    let none = no_path();
-    let mut paths = [none; 64];
-    for path in paths.iter_mut() {
-        *path = read(sheets.part()).unwrap_or(none);
+    for path in paths {
+        *path = read(sheets.part()).unwrap_or(no_path());
     }
-    paths
 }
 
 // Sheets are read, and then in each turn a path of one is written, of which one byte goes into the checksum.
@@ -63,7 +60,8 @@ pub extern "C" fn workload_writing(
     written: &mut [u8],
     turns: u64,
 ) -> u64 {
-    let paths = paths_of(sheets, width);
+    let mut paths = [no_path(); 64];
+    read_into(&mut paths, sheets, width);
     let mut sum = 0;
     for (left, path) in (1..=turns).rev().zip(paths.iter().cycle()) {
         sum = mix_answer(sum, &write(*path, written), mix_length);

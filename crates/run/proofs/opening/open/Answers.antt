@@ -1,7 +1,7 @@
 -- Each way out by the words' length and by the figures.
 use mathlib.Core.Path.{ap, ◌∙◌}
 use Rattle.std.specs.Prelude.{Ok}
-use Rattle.std.proofs.Common.{rules, length}
+use Rattle.std.proofs.Common.{length}
 use Rattle.quantity.proofs.Sums.{list_of-ext}
 use Rattle.std.proofs.lemmas.Result.{err_from_is_err_and}
 use Rattle.sheet.specs.Sheets.{path_in}
@@ -20,7 +20,7 @@ pub returns : goal.returns
 returns c =
     let sheet = c.args.sheet.now in
     let accepted = c.in_ok-planned.ensures in
-    let cleared = list_of-ext 0 (λ j. 0) (length c.args.words.now) c.fill.new.self c.fill.ensures.len (λ k less. search rules) in
+    let cleared = list_of-ext 0 (λ j. 0) (length c.args.words.now) c.clear.new.words c.clear.ensures.len c.clear.ensures.zero in
     let new = c.new_run.ensures (path_in sheet) (accepted-few sheet accepted) (accepted-path sheet accepted) in
     let (answer, after) = opening-accepted sheet c.args.words.now c.if-words-ne-WORDS.false accepted cleared in
     (ap Ok new ∙ answer, after)
