@@ -8,7 +8,7 @@ use Rattle.quantity.specs.Sums.{every, list_of}
 use Rattle.quantity.specs.declared.LinkCapacity.{LinkCapacity}
 use Rattle.quantity.specs.declared.PathNumber.{PathNumber}
 use Rattle.quantity.specs.declared.refusal.Refusal.{Refusal}
-use Rattle.quantity.specs.declared.refusal.Refusal.TheVariants.{Unusable, PathNumberWrong}
+use Rattle.quantity.specs.declared.refusal.Refusal.TheVariants.{Unusable}
 use Rattle.quantity.proofs.Laws.{pick_true, pick-false, checked-told, le-largest}
 use Rattle.quantity.proofs.Refusals.{NoneStands, FirstIs}
 use Rattle.quantity.proofs.Sums.{term-le-total, every-next, every-at, list_of-ext, every-fails}
@@ -19,7 +19,7 @@ use Rattle.ledger.specs.Records.{record_at, number_at, share, reserved, place_am
 use Rattle.ledger.specs.Ledgers.{link_count, record_count, capacity_of, total_of, capacities_fit, link_fits, total_kept, ledger_unusable}
 use Rattle.ledger.specs.Opening.{asked_for, new_ledger, no_ledger}
 use Rattle.ledger.specs.Release.{release_cases, record_of_number}
-use Rattle.ledger.specs.Steps.{checked_of, found_at, standing_of}
+use Rattle.ledger.specs.Steps.{checked_of, found_at, standing_tests, standing_of}
 use Rattle.ledger.proofs.Answering.{first-of-err, none-of-ok}
 use Rattle.ledger.proofs.Numbers.{place-among}
 use Rattle.ledger.proofs.UsableLedger.{usable-ledger}
@@ -133,20 +133,20 @@ module _ (ledger : Ledger) (records : List Record) (number : ℕ) (none : NoneSt
 
 -- The path of a number, from the tests on the way.
 
-module _ (ledger : Ledger) (records : List Record) (number : ℕ) where
+module _ (unknown : Refusal) (ledger : Ledger) (records : List Record) (number : ℕ) where
   abbrev found : Option Standing
   found = found_at records ledger.count (place_among (number_at records) ledger.count number)
 
-  pub standing-outside : in_range path_number_range number ≡ false → Err Unusable ≡ standing_of ledger records number
+  pub standing-outside : in_range path_number_range number ≡ false → Err Unusable ≡ standing_of unknown ledger records number
   unfolding standing_of
   standing-outside outside = sym (pick_true _ _ _ (ap not outside))
 
   module _ (inside : in_range path_number_range number ≡ true) where
-    pub standing-unusable : ledger_unusable ledger records ≡ true → Err Unusable ≡ standing_of ledger records number
+    pub standing-unusable : ledger_unusable ledger records ≡ true → Err Unusable ≡ standing_of unknown ledger records number
     unfolding standing_of
     standing-unusable unusable = sym (pick-false _ _ _ (ap not inside) ∙ pick_true _ _ _ unusable)
 
-    pub standing-found : ledger_unusable ledger records ≡ false → ok_or found PathNumberWrong ≡ standing_of ledger records number
+    pub standing-found : ledger_unusable ledger records ≡ false → ok_or found unknown ≡ standing_of unknown ledger records number
     unfolding standing_of stands
     standing-found usable =
         by-test (ltb (place_among (number_at records) ledger.count number) ledger.count) (place-among (number_at records) number ledger.count)
@@ -156,17 +156,17 @@ module _ (ledger : Ledger) (records : List Record) (number : ℕ) where
         at = record { at = place_among (number_at records) ledger.count number; found = record_of_number ledger records number }
 
         by-test : (t : Bool) → t ≡ stands records ledger.count number
-            → ok_or (pick {A = Option Standing} t (Some at) None) PathNumberWrong ≡ pick {A = Result Standing Refusal} (not (stands records ledger.count number)) (Err PathNumberWrong) (Ok at)
+            → ok_or (pick {A = Option Standing} t (Some at) None) unknown ≡ pick {A = Result Standing Refusal} (not (stands records ledger.count number)) (Err unknown) (Ok at)
         by-test true e = sym (pick-false _ _ _ (ap not (sym e)))
         by-test false e = sym (pick_true _ _ _ (ap not (sym e)))
 
   -- and what was found tells
-  module _ {answer : Result Standing Refusal} (is : answer ≡ standing_of ledger records number) where
-    pub standing-err : {why : Refusal} → answer ≡ Err why → FirstIs (release_cases ledger records number) why
+  module _ {answer : Result Standing Refusal} (is : answer ≡ standing_of unknown ledger records number) where
+    pub standing-err : {why : Refusal} → answer ≡ Err why → FirstIs (standing_tests unknown ledger records number) why
     unfolding standing_of
-    standing-err e = first-of-err (release_cases ledger records number) (record { at = place_among (number_at records) ledger.count number; found = record_of_number ledger records number }) is e
+    standing-err e = first-of-err (standing_tests unknown ledger records number) (record { at = place_among (number_at records) ledger.count number; found = record_of_number ledger records number }) is e
 
     pub standing-ok : {standing : Standing} → answer ≡ Ok standing
-        → NoneStands (release_cases ledger records number) × (standing ≡ record { at = place_among (number_at records) ledger.count number; found = record_of_number ledger records number })
+        → NoneStands (standing_tests unknown ledger records number) × (standing ≡ record { at = place_among (number_at records) ledger.count number; found = record_of_number ledger records number })
     unfolding standing_of
-    standing-ok e = none-of-ok (release_cases ledger records number) (record { at = place_among (number_at records) ledger.count number; found = record_of_number ledger records number }) is e
+    standing-ok e = none-of-ok (standing_tests unknown ledger records number) (record { at = place_among (number_at records) ledger.count number; found = record_of_number ledger records number }) is e

@@ -1,11 +1,11 @@
 -- Serves the private contracts of the ledger, and need not be believed: no public call cites it.
 -- The steps of the calls, as the code takes them: what the test finds, what is decided, and what asking finds of the links.
-use Rattle.std.specs.Prelude.{◌≡◌, ℕ, ◌+◌, ◌-◌, ◌%◌, ◌^◌, ◌<◌, ◌≤◌, Bool, true, not, List, get_or, ◌==◌, nat_le, nat_lt, slice_index, slice_index_or, Option, Some, None, Result, Ok, Err}
+use Rattle.std.specs.Prelude.{◌≡◌, ℕ, ◌+◌, ◌-◌, ◌%◌, ◌^◌, ◌<◌, ◌≤◌, Bool, true, not, List, [], ◌∷◌, get_or, ◌==◌, nat_le, nat_lt, slice_index, slice_index_or, Option, Some, None, Result, Ok, Err}
 use Rattle.quantity.specs.Choice.{pick, both}
 use Rattle.quantity.specs.Sums.{total, every, list_of}
-use Rattle.quantity.specs.Ranges.{in_range, link_capacity_range}
+use Rattle.quantity.specs.Ranges.{in_range, link_capacity_range, path_number_range}
 use Rattle.quantity.specs.Quantities.{rates_sum}
-use Rattle.quantity.specs.Refusals.{first_of}
+use Rattle.quantity.specs.Refusals.{Case, ◌⇒◌, first_of}
 use Rattle.quantity.specs.declared.refusal.Refusal.{Refusal}
 use Rattle.quantity.specs.declared.refusal.Refusal.TheVariants.{Unusable}
 use Rattle.quantity.specs.declared.Rate.{Rate}
@@ -19,11 +19,11 @@ use Rattle.ledger.specs.declared.Ledger.{Ledger}
 use Rattle.ledger.specs.declared.test.Fields.{Fields}
 use Rattle.ledger.specs.declared.test.Standing.{Standing}
 use Rattle.ledger.specs.declared.holding.Appending.{Appending}
-use Rattle.ledger.specs.Records.{mark_held, record_at, number_at, mark_at, has_link, share, among, place_among}
+use Rattle.ledger.specs.Records.{mark_held, record_at, number_at, mark_at, has_link, share, among, place_among, stands}
 use Rattle.ledger.specs.Ledgers.{record_count, link_count, capacity_of, total_of, capacities_fit, ledger_unusable}
 use Rattle.ledger.specs.Opening.{asked_for, new_ledger}
 use Rattle.ledger.specs.Holding.{record_of, holding_cases, accepted_holding}
-use Rattle.ledger.specs.Release.{release_cases, record_of_number}
+use Rattle.ledger.specs.Release.{record_of_number}
 use Rattle.ledger.specs.Spare.{links_unusable}
 
 -- Test.
@@ -107,10 +107,15 @@ unfoldable pub tested_of : Ledger → List Record → ℕ → Result (Option Sta
 tested_of ledger records number =
     pick (ledger_unusable ledger records) (Err Unusable) (Ok (found_at records ledger.count (place_among (number_at records) ledger.count number)))
 
--- the path of a number that stands, or 1 or 10
-unfoldable pub standing_of : Ledger → List Record → ℕ → Result Standing Refusal
-standing_of ledger records number =
-    first_of (release_cases ledger records number) Err (Ok (record { at = place_among (number_at records) ledger.count number; found = record_of_number ledger records number }))
+-- what finding the path of a number is refused for, and by what where the number does not stand
+abbrev pub standing_tests : Refusal → Ledger → List Record → ℕ → List Case
+standing_tests unknown ledger records number =
+    (not (in_range path_number_range number) ⇒ Unusable) ∷ (ledger_unusable ledger records ⇒ Unusable) ∷ (not (stands records ledger.count number) ⇒ unknown) ∷ []
+
+-- the path of a number that stands, or what it is refused for
+unfoldable pub standing_of : Refusal → Ledger → List Record → ℕ → Result Standing Refusal
+standing_of unknown ledger records number =
+    first_of (standing_tests unknown ledger records number) Err (Ok (record { at = place_among (number_at records) ledger.count number; found = record_of_number ledger records number }))
 
 -- Decide.
 

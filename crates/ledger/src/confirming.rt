@@ -11,7 +11,7 @@ use quantity::refusal::Refusal;
 pub fn confirm(ledger: Ledger, records: &mut [Record], number: u32) -> Result<(), Refusal>
     ensures { (result ≡ confirmed_of ledger records.old number) × (records.new ≡ records_confirmed ledger records.old number) }
 {
-    let standing = find(ledger, records, number)?;
+    let standing = find(ledger, records, number, Refusal::PathNumberWrong)?;
     if standing.found.mark == crate::CONFIRMED {
         return Err(Refusal::ConfirmedAlready);
     }

@@ -15,7 +15,7 @@ use quantity::refusal::Refusal;
 pub fn release(ledger: Ledger, records: &mut [Record], number: u32) -> Result<Ledger, Refusal>
     ensures { (result ≡ released_of ledger records.old number) × (records.new ≡ records_released ledger records.old number) }
 {
-    let standing = find(ledger, records, number)?;
+    let standing = find(ledger, records, number, Refusal::PathNumberWrong)?;
     let capacities = ledger.capacities;
     let totals = ledger.totals;
     let left = discharge(totals, standing.found);

@@ -21,14 +21,19 @@ pub struct Standing {
     pub found: Record,
 }
 
-// The path of a number that stands, or refusal 1 or 10.
-pub(crate) fn find(ledger: Ledger, records: &[Record], number: u32) -> Result<Standing, Refusal>
-    ensures { result ≡ standing_of ledger records.now number }
+// The path of a number that stands, or refusal 1, or what is answered for a number that does not stand: each call says its own.
+pub(crate) fn find(
+    ledger: Ledger,
+    records: &[Record],
+    number: u32,
+    unknown: Refusal,
+) -> Result<Standing, Refusal>
+    ensures { result ≡ standing_of unknown ledger records.now number }
 {
     let Some(number) = PathNumber::checked(number) else {
         return Err(Refusal::Unusable);
     };
-    test(ledger, records, number.0)?.ok_or(Refusal::PathNumberWrong)
+    test(ledger, records, number.0)?.ok_or(unknown)
 }
 
 // The path of a number if it stands; or refusal 1, where what is lent and stored cannot be used. The lent records are read once, each field into a list of its own.

@@ -1,4 +1,4 @@
-use Rattle.std.proofs.Common.{◌≡◌, ℕ, ◌≤◌, true, sym, ap, ◌∙◌, arith}
+use Rattle.std.proofs.Common.{sym, ap, ◌∙◌, arith}
 use Rattle.quantity.specs.Choice.{both}
 use Rattle.quantity.specs.Ranges.{link_range}
 use Rattle.quantity.proofs.Laws.{le-largest}
