@@ -21,6 +21,8 @@ pub struct Line {
 }
 
 impl Line {
+    ghost use Rattle.console.specs.Held.{line_text};
+
     pub fn new() -> Line
         ensures { (result.number ≡ 0) × (result.whole ≡ false) }
     {
@@ -34,7 +36,7 @@ impl Line {
 
     // Its bytes; none, if it has more than 1,023.
     pub fn text(&self) -> Option<&[u8]>
-        ensures { MatchOption result (self.now.length ≡ None) (λ text. (self.now.length ≡ Some (length text.now)) × (text.now ≡ take (length text.now) self.now.bytes)) }
+        ensures { MatchOption result (line_text self.now ≡ None) (λ text. line_text self.now ≡ Some text.now) }
     {
         Some(&self.bytes[..self.length?])
     }

@@ -15,8 +15,10 @@ pub struct Sheet {
 }
 
 impl Sheet {
+    ghost use Rattle.console.specs.Held.{sheet_length, sheet_bytes};
+
     pub fn from_text(text: &[u8]) -> Result<Sheet, Fault>
-        ensures { IfOk result (λ sheet. (hexadecimal_from text.now 0 512 ≡ Ok sheet.length) × (sheet.bytes ≡ bytes_stored text.now 0 (replicate 512 0))) }
+        ensures { IfOk result (λ sheet. (hexadecimal_from text.now 0 512 ≡ Ok (sheet_length sheet)) × (sheet_bytes sheet ≡ take (sheet_length sheet) (bytes_stored text.now 0 (replicate 512 0)))) }
     {
         let mut bytes = [0; 512];
         let length = hexadecimal_from(text, 0, &mut bytes)?;
@@ -24,7 +26,7 @@ impl Sheet {
     }
 
     pub fn bytes(&self) -> &[u8]
-        ensures { result.now ≡ take self.now.length self.now.bytes }
+        ensures { result.now ≡ sheet_bytes self.now }
     {
         &self.bytes[..self.length]
     }

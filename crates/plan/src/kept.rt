@@ -1,6 +1,6 @@
 // The ledger with its records.
 
-ghost use Rattle.std.specs.Prelude.{◌≡◌, min, Ok, OnOk, OnErr};
+ghost use Rattle.std.specs.Prelude.{◌≡◌, min, true, Ok, OnOk, OnErr};
 ghost use Rattle.std.specs.Result.{result_err};
 ghost use Rattle.ledger.specs.Lists.{ledger_by};
 ghost use Rattle.ledger.specs.Opening.{opened_of, records_opened};
@@ -68,6 +68,7 @@ impl Book {
         ensures answer { result ≡ holding_of self.old.ledger self.old.records (min path 4_294_967_295) sheet.now }
         ensures ledger { self.new.ledger ≡ ledger_by (λ holding. holding.ledger) self.old.ledger (holding_of self.old.ledger self.old.records (min path 4_294_967_295) sheet.now) }
         ensures records { self.new.records ≡ records_held self.old.ledger self.old.records (min path 4_294_967_295) sheet.now }
+        ensures opening { (self.new.begun ≡ true) × (self.new.capacities ≡ self.old.capacities) }
     {
         self.begun = true;
         let holding = hold(self.ledger, &mut self.records, narrow(path), sheet)?;
@@ -79,6 +80,7 @@ impl Book {
         ensures answer { result ≡ confirmed_of self.old.ledger self.old.records (min path 4_294_967_295) }
         ensures ledger { self.new.ledger ≡ self.old.ledger }
         ensures records { self.new.records ≡ records_confirmed self.old.ledger self.old.records (min path 4_294_967_295) }
+        ensures opening { (self.new.begun ≡ self.old.begun) × (self.new.capacities ≡ self.old.capacities) }
     {
         confirm(self.ledger, &mut self.records, narrow(path))
     }
@@ -87,6 +89,7 @@ impl Book {
         ensures answer { result_err result ≡ result_err (released_of self.old.ledger self.old.records (min path 4_294_967_295)) }
         ensures ledger { self.new.ledger ≡ ledger_by (λ ledger. ledger) self.old.ledger (released_of self.old.ledger self.old.records (min path 4_294_967_295)) }
         ensures records { self.new.records ≡ records_released self.old.ledger self.old.records (min path 4_294_967_295) }
+        ensures opening { (self.new.begun ≡ self.old.begun) × (self.new.capacities ≡ self.old.capacities) }
     {
         self.ledger = release(self.ledger, &mut self.records, narrow(path))?;
         Ok(())
